@@ -1,0 +1,38 @@
+-- The codes of document 01's table; 0 is no refusal.
+use Prim.Native.Nat.{ℕ}
+
+abbrev pub DONE : ℕ
+DONE = 0
+
+abbrev pub KIND : ℕ
+KIND = 1
+
+abbrev pub INDEX : ℕ
+INDEX = 2
+
+abbrev pub LIMIT : ℕ
+LIMIT = 3
+
+abbrev pub SHORT : ℕ
+SHORT = 4
+
+abbrev pub OVER : ℕ
+OVER = 5
+
+abbrev pub TALL : ℕ
+TALL = 6
+
+abbrev pub STEP : ℕ
+STEP = 7
+
+abbrev pub CUT : ℕ
+CUT = 8
+
+abbrev pub MARK : ℕ
+MARK = 9
+
+abbrev pub FIELD : ℕ
+FIELD = 10
+
+abbrev pub WIDTH : ℕ
+WIDTH = 11

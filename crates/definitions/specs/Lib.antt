@@ -1,0 +1,9 @@
+-- What a reader has to believe: document 01's definitions, in its words and its order. Nothing is proved here.
+pub mod Integers
+pub mod Series
+pub mod Numbers
+pub mod Polynomials
+pub mod Codes
+pub mod Steps
+pub mod KeptHalf
+pub mod Answer
