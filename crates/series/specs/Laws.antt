@@ -77,6 +77,14 @@ unfolding _·_ constant
 constant-mul a f zero = refl
 constant-mul a f (suc n) = ap (λ b. a ⊗ f (suc n) ⊕ b) (none-mul-at f n) ∙ ⊕-zero (a ⊗ f (suc n))
 
+pub constants-mul : (a b : ℤ) → constant (a ⊗ b) ≡ constant a · constant b
+unfolding constant
+constants-mul a b = fun-ext (λ n. at n ∙ sym (constant-mul a (constant b) n))
+  where
+    at : (n : ℕ) → constant (a ⊗ b) n ≡ a ⊗ constant b n
+    at zero = refl
+    at (suc n) = sym (⊗-zero a)
+
 -- ---- the ring
 pub +ˢ-assoc : (f g h : Series) → f +ˢ g +ˢ h ≡ f +ˢ (g +ˢ h)
 unfolding _+ˢ_
