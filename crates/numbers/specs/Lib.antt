@@ -3,3 +3,5 @@
 pub mod Tests
 pub mod Euclid
 pub mod Primes
+pub mod Folds
+pub mod Divisors
