@@ -6,14 +6,10 @@ use mathlib.Core.Bool.{cond, not, and-true, _&&_}
 use native.Mathlib.Nat.{dvd-trans, dvd-mul-right, dvd-mul-right-of-dvd, dvd-of-mul-dvd-mul-left, mul-dvd-mul-left, mul-comm, le-mul-of-pos-right, le-of-dvd, not-le-of-lt}
 use Rattle.definitions.specs.Numbers.{divides}
 use Rattle.numbers.specs.Tests.{same, denies, test-and, test-not, test-divides, divides-no}
-use Rattle.numbers.specs.Primes.{Prime, prime-pos, prime-coprime, coprime-swap, coprime-divides}
+use Rattle.numbers.specs.Primes.{Prime, prime-pos, divides-without}
 use Rattle.numbers.specs.Folds.{Monoid, foldTo, only, only-off, fold-by, fold-same, fold-further, fold-multiples}
 
--- a divisor of n p that is no multiple of p divides n; p e divides n p where e divides n
-pub divides-without : {p : ℕ} (n d : ℕ) → Prime p → ¬ (p ∣ d) → d ∣ n * p → d ∣ n
-divides-without {p} n d P no-p h =
-    coprime-divides d p n (coprime-swap (prime-coprime d P no-p)) (rw (mul-comm n p) at h)
-
+-- p e divides n p where e divides n
 pub divides-times : (p e n : ℕ) → 0 < p → divides (p * e) (n * p) ≡ divides e n
 divides-times p e n l =
     rw (mul-comm n p)

@@ -5,3 +5,5 @@ pub mod Euclid
 pub mod Primes
 pub mod Folds
 pub mod Divisors
+pub mod Counts
+pub mod Phi

@@ -118,6 +118,11 @@ euclid {p} a b P d = go (decDvd p a)
     go (yes h) = inl h
     go (no n) = inr (coprime-divides p a b (prime-coprime a P n) d)
 
+-- a divisor of n p that is no multiple of p divides n
+pub divides-without : {p : ℕ} (n d : ℕ) → Prime p → ¬ (p ∣ d) → d ∣ n * p → d ∣ n
+divides-without {p} n d P no-p h =
+    coprime-divides d p n (coprime-swap (prime-coprime d P no-p)) (rw (mul-comm n p) at h)
+
 -- a prime that divides a prime is that prime
 pub prime-same : {p q : ℕ} → Prime p → Prime q → p ∣ q → p ≡ q
 prime-same {p} P Q d = ⊎-elim (λ e. omega (arith, P .above)) (λ e. e) (Q .only p d)
