@@ -7,3 +7,5 @@ pub mod Folds
 pub mod Divisors
 pub mod Counts
 pub mod Phi
+pub mod Products
+pub mod Apart
