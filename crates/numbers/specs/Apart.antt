@@ -7,19 +7,15 @@ use mathlib.Core.Logic.{_≢_, ⊎-elim}
 use native.Mathlib.Nat.{dvd-trans, dvd-refl, dvd-mul-left, dvd-mul-right, dvd-mul-left-of-dvd, dvd-mul-right-of-dvd, mul-dvd-mul, mul-div-cancel', mul-comm, mul-one, mul-pos, mul-assoc, le-of-dvd, pos-of-dvd-of-pos, eq-or-lt-of-le, eq-one-of-dvd-one}
 use native.Mathlib.Decide.{ℕ-discrete, decDvd}
 use native.Mathlib.Omega.{arith}
-use Rattle.definitions.specs.Numbers.{oddPrimeOf, rOf, mOf, tOf, divides, isPrime, someTo}
+use Rattle.definitions.specs.Numbers.{oddPrimeOf, rOf, mOf, tOf}
 use Rattle.numbers.specs.Tests.{Tests, test-and, test-not, test-eq, test-divides, divides-yes, divides-no}
-use Rattle.numbers.specs.Primes.{Prime, prime-pos, prime-same, prime-divisor, test-prime, euclid, by-primes, quotient-divides, quotient-pos}
+use Rattle.numbers.specs.Primes.{prime-two, Prime, prime-pos, prime-same, prime-divisor, test-prime, euclid, by-primes, quotient-divides, quotient-pos}
 use Rattle.numbers.specs.Products.{squarefree-times, times-divides, prime-in-product, picked-in-product, product-pos, product-squarefree, product-divides}
 
 pub record OddSquarefree (r : ℕ) : Type 0 where
   pub pos : 0 < r
   pub odd : ¬ (2 ∣ r)
   pub squarefree : (p : ℕ) → Prime p → ¬ (p * p ∣ r)
-
-pub prime-two : Prime 2
-unfolding isPrime someTo divides
-prime-two = test-prime 2 .shows refl
 
 pub test-odd-prime : (n p : ℕ) → Tests (oddPrimeOf n p) ((Prime p × (p ∣ n)) × (p ≢ 2))
 unfolding oddPrimeOf

@@ -1,13 +1,13 @@
 -- `countTo` and `productOfTo` are folds, in the sums and in the products of numbers; what a count is at least and at most; and
 -- the sum over k periods.
 use Prim.Native.Nat.{ℕ, zero, suc, _+_, _*_, _≤_, _<_}
-use mathlib.Core.Path.{_≡_, refl, sym, ap, _∙_}
-use mathlib.Core.Bool.{Bool, true, false, cond}
-use mathlib.Core.Logic.{⊎-elim}
-use native.Mathlib.Nat.{add-assoc, add-comm, zero-add, mul-assoc, mul-comm, one-mul, mul-zero, zero-mul, le-suc-iff}
+use mathlib.Core.Path.{_≡_, refl, sym, ap, ap₂, _∙_}
+use mathlib.Core.Bool.{Bool, true, false, cond, not, _&&_}
+use mathlib.Core.Logic.{⊎-elim, _≢_}
+use native.Mathlib.Nat.{add-assoc, add-comm, add-zero, zero-add, mul-assoc, mul-comm, one-mul, mul-zero, zero-mul, le-suc-iff}
 use native.Mathlib.Omega.{arith}
 use Rattle.definitions.specs.Numbers.{countTo, productOfTo}
-use Rattle.numbers.specs.Folds.{Monoid, foldTo, only, fold-zero, fold-same, fold-add}
+use Rattle.numbers.specs.Folds.{fold-further, fold-one, fold-by, only-off, Monoid, foldTo, only, fold-zero, fold-same, fold-add}
 
 abbrev pub sums : Monoid ℕ
 sums = record { op = _+_; unit = 0; assoc = add-assoc; comm = add-comm; unit-left = zero-add }
@@ -31,9 +31,38 @@ count-same {q} {s} k e =
     count-fold k q ∙ (fold-same sums k (λ d l u. ap (λ b. cond b 1 0) (e d l u)) ∙ sym (count-fold k s))
 
 module _ (q : ℕ → Bool) where
+  pub count-zero : countTo 0 q ≡ 0
+  unfolding countTo
+  count-zero = refl
+
   pub count-suc : (k : ℕ) → countTo (suc k) q ≡ countTo k q + cond (q (suc k)) 1 0
   unfolding countTo
   count-suc k = refl
+
+  pub count-yes : (k : ℕ) → q (suc k) ≡ true → countTo (suc k) q ≡ countTo k q + 1
+  count-yes k e = count-suc k ∙ ap (λ b. countTo k q + cond b 1 0) e
+
+  pub count-no : (k : ℕ) → q (suc k) ≡ false → countTo (suc k) q ≡ countTo k q
+  count-no k e = count-suc k ∙ (ap (λ b. countTo k q + cond b 1 0) e ∙ add-zero (countTo k q))
+
+  -- a count goes no further where no number more has the property
+  pub count-further :
+      (m k : ℕ) → m ≤ k → ((d : ℕ) → m < d → d ≤ k → q d ≡ false) → countTo k q ≡ countTo m q
+  count-further m k l e =
+      count-fold k q
+      ∙ (fold-further sums _ m k l (λ d a b. only-off sums _ _ (e d a b)) ∙ sym (count-fold m q))
+
+  -- just one number has it
+  pub count-one :
+      (p k : ℕ) → 0 < p → p ≤ k → q p ≡ true → ((d : ℕ) → 0 < d → d ≤ k → d ≢ p → q d ≡ false) → countTo k q ≡ 1
+  count-one p k l u e others =
+      count-fold k q
+      ∙ (fold-one sums _ p k l u (λ d a b c. only-off sums _ _ (others d a b c)) ∙ ap (λ b. cond b 1 0) e)
+
+  -- those that pass a further test, and those that do not
+  pub count-by : (c : ℕ → Bool) (k : ℕ) → countTo k q ≡ countTo k (λ d. q d && c d) + countTo k (λ d. q d && not (c d))
+  count-by c k =
+      count-fold k q ∙ (fold-by sums q c (λ d. 1) k ∙ sym (ap₂ _+_ (count-fold k _) (count-fold k _)))
 
   one-at-most : (b : Bool) → cond b 1 0 ≤ 1
   one-at-most true = omega arith

@@ -1,12 +1,12 @@
 -- The divisors of n p, for a prime p: those of n, and the p e with e a divisor of n where p e is none. Said of a fold over the divisors,
 -- in any commutative monoid: it carries the number theory of F, I and phi.
-use Prim.Native.Nat.{ℕ, _*_, _<_, _∣_}
+use Prim.Native.Nat.{ℕ, _*_, _/_, _<_, _∣_}
 use mathlib.Core.Path.{_≡_, ap, ap₂, _∙_}
 use mathlib.Core.Bool.{cond, not, and-true, _&&_}
-use native.Mathlib.Nat.{dvd-trans, dvd-mul-right, dvd-mul-right-of-dvd, dvd-of-mul-dvd-mul-left, mul-dvd-mul-left, mul-comm, le-mul-of-pos-right, le-of-dvd, not-le-of-lt}
+use native.Mathlib.Nat.{dvd-trans, mul-div-assoc, mul-div-mul-left, dvd-mul-right, dvd-mul-right-of-dvd, dvd-of-mul-dvd-mul-left, mul-dvd-mul-left, mul-comm, le-mul-of-pos-right, le-of-dvd, not-le-of-lt}
 use Rattle.definitions.specs.Numbers.{divides}
 use Rattle.numbers.specs.Tests.{same, denies, test-and, test-not, test-divides, divides-no}
-use Rattle.numbers.specs.Primes.{Prime, prime-pos, divides-without}
+use Rattle.numbers.specs.Primes.{quotient-divides, Prime, prime-pos, divides-without}
 use Rattle.numbers.specs.Folds.{Monoid, foldTo, only, only-off, fold-by, fold-same, fold-further, fold-multiples}
 
 -- p e divides n p where e divides n
@@ -52,3 +52,13 @@ module _ {A : Type 0} (M : Monoid A) (g : ℕ → A) {p : ℕ} (P : Prime p) (n 
       no-more e =
           ap (λ b. divides e n && not b) (divides-no (p * e) n (λ h. no-p (dvd-trans p (dvd-mul-right p e) h)))
           ∙ and-true (divides e n)
+
+-- n p by a divisor of n, and by p times one
+pub quotient-old : (n p d : ℕ) → d ∣ n → n * p / d ≡ n / d * p
+quotient-old n p d h = rw (mul-comm n p) (mul-div-assoc d p h ∙ mul-comm p (n / d))
+
+pub quotient-new : (n p d : ℕ) → 0 < p → n * p / (p * d) ≡ n / d
+quotient-new n p d l = rw (mul-comm n p) (mul-div-mul-left n d l)
+
+pub quotient-free : (n p d : ℕ) → ¬ (p ∣ n) → d ∣ n → ¬ (p ∣ n / d)
+quotient-free n p d no-p h k = no-p (dvd-trans p k (quotient-divides d n h))

@@ -9,3 +9,5 @@ pub mod Counts
 pub mod Phi
 pub mod Products
 pub mod Apart
+pub mod HowMany
+pub mod AtMostFive

@@ -3,13 +3,13 @@
 use Prim.Native.Nat.{ℕ, zero, suc, _+_, _*_, _/_, _%_, _≤_, _<_, _∣_}
 use mathlib.Core.Path.{_≡_, refl, sym, ap, ap₂, _∙_}
 use mathlib.Core.Bool.{Bool, false, cond, not, and-false, _&&_}
-use mathlib.Core.Logic.{_≢_, _⊎_, inl, inr, ⊎-elim}
-use native.Mathlib.Nat.{dvd-trans, dvd-refl, dvd-mul-left, dvd-mul-right, dvd-mul-left-of-dvd, dvd-mul-right-of-dvd, dvd-add, dvd-add-iff-right, eq-one-of-dvd-one, mul-comm, mul-pos, dvd-of-mod-eq-zero, le-of-dvd}
-use native.Mathlib.Decide.{ℕ-discrete, decDvd, decLt}
+use mathlib.Core.Logic.{_≢_, _⊎_, inl, inr}
+use native.Mathlib.Nat.{dvd-trans, dvd-refl, dvd-mul-left, dvd-mul-right, dvd-mul-left-of-dvd, dvd-mul-right-of-dvd, dvd-add, dvd-add-iff-right, eq-one-of-dvd-one, mul-comm, mul-pos, le-of-dvd}
+use native.Mathlib.Decide.{decDvd, decLt}
 use native.Mathlib.Omega.{arith}
 use Rattle.definitions.specs.Numbers.{phi, shareFactor, divides, countTo, someTo}
 use Rattle.numbers.specs.Tests.{same, denies, test-and, test-not, test-divides, divides-no}
-use Rattle.numbers.specs.Primes.{Prime, prime-pos, test-coprime, by-primes, divides-without}
+use Rattle.numbers.specs.Primes.{Prime, prime-pos, test-coprime, by-primes, divides-without, two-or-odd}
 use Rattle.numbers.specs.Folds.{foldTo, only, only-off, fold-same, fold-by, fold-multiples}
 use Rattle.numbers.specs.Counts.{sums, count-fold, count-le, count-pos, count-suc, sum-periods}
 
@@ -105,13 +105,6 @@ times-even a b e = rw (halved b e) (omega arith)
   where
     halved : (x : ℕ) → x % 2 ≡ 0 → x ≡ 2 * (x / 2)
     halved x h = omega arith
-
-pub two-or-odd : {p : ℕ} → Prime p → (p ≡ 2) ⊎ (p ≡ 2 * (p / 2) + 1)
-two-or-odd {p} P = go (ℕ-discrete (p % 2) 0)
-  where
-    go : Dec (p % 2 ≡ 0) → (p ≡ 2) ⊎ (p ≡ 2 * (p / 2) + 1)
-    go (yes e) = ⊎-elim (λ x. absurd (omega arith)) (λ x. inl (sym x)) (P .only 2 (dvd-of-mod-eq-zero 2 e))
-    go (no n) = inr (omega arith)
 
 even-step : (n p : ℕ) → 0 < n → Prime p → (2 < n → phi n % 2 ≡ 0) → 2 < n * p → phi (n * p) % 2 ≡ 0
 even-step n p l P ih u = go (decDvd p n) (decLt 2 n) (two-or-odd P)

@@ -1,11 +1,11 @@
 -- Primes and coprime numbers: what `isPrime` and `shareFactor` test, Euclid's lemma, a prime divisor of every number above 1,
 -- and induction that goes from n to n p.
-use Prim.Native.Nat.{ℕ, _*_, _-_, _/_, _≤_, _<_, _∣_}
-use mathlib.Core.Path.{_≡_}
+use Prim.Native.Nat.{ℕ, _+_, _*_, _-_, _/_, _%_, _≤_, _<_, _∣_}
+use mathlib.Core.Path.{_≡_, refl, sym}
 use mathlib.Core.Bool.{not, _&&_}
 use lib.Dec.{ltb}
 use mathlib.Core.Logic.{_⊎_, inl, inr, ⊎-elim}
-use native.Mathlib.Nat.{dvd-refl, dvd-trans, dvd-mul-left, dvd-mul-right, mul-comm, mul-one, le-of-dvd, pos-of-dvd-of-pos, div-mul-cancel, div-lt-self, eq-or-lt-of-le}
+use native.Mathlib.Nat.{dvd-refl, dvd-trans, dvd-mul-left, dvd-mul-right, mul-comm, mul-one, le-of-dvd, pos-of-dvd-of-pos, div-mul-cancel, div-lt-self, dvd-of-mod-eq-zero, eq-or-lt-of-le}
 use native.Mathlib.Decide.{ℕ-discrete, decDvd}
 use native.Mathlib.Omega.{arith}
 use Rattle.definitions.specs.Numbers.{isPrime, shareFactor, divides, someTo}
@@ -126,6 +126,18 @@ divides-without {p} n d P no-p h =
 -- a prime that divides a prime is that prime
 pub prime-same : {p q : ℕ} → Prime p → Prime q → p ∣ q → p ≡ q
 prime-same {p} P Q d = ⊎-elim (λ e. omega (arith, P .above)) (λ e. e) (Q .only p d)
+
+-- 2 is a prime, and the others are odd
+pub prime-two : Prime 2
+unfolding isPrime someTo divides
+prime-two = test-prime 2 .shows refl
+
+pub two-or-odd : {p : ℕ} → Prime p → (p ≡ 2) ⊎ (p ≡ 2 * (p / 2) + 1)
+two-or-odd {p} P = go (ℕ-discrete (p % 2) 0)
+  where
+    go : Dec (p % 2 ≡ 0) → (p ≡ 2) ⊎ (p ≡ 2 * (p / 2) + 1)
+    go (yes e) = ⊎-elim (λ x. absurd (omega arith)) (λ x. inl (sym x)) (P .only 2 (dvd-of-mod-eq-zero 2 e))
+    go (no n) = inr (omega arith)
 
 -- a quotient divides, and is above 0
 pub quotient-divides : (d n : ℕ) → d ∣ n → n / d ∣ n
