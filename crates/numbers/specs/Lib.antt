@@ -1,0 +1,13 @@
+-- The laws of the numbers that document 01 speaks of: divisors, primes, phi, and how n is taken apart. All is proved from the
+-- definitions of crate `definitions`; there is no code here.
+pub mod Tests
+pub mod Euclid
+pub mod Primes
+pub mod Folds
+pub mod Divisors
+pub mod Counts
+pub mod Phi
+pub mod Products
+pub mod Apart
+pub mod HowMany
+pub mod AtMostFive
