@@ -3,6 +3,7 @@
 pub mod Tests
 pub mod Euclid
 pub mod Primes
+pub mod Bezout
 pub mod Folds
 pub mod Divisors
 pub mod Counts
