@@ -4,7 +4,7 @@ use Prim.Native.Nat.{ℕ, zero, suc, _+_, _*_, _≤_, _<_}
 use mathlib.Core.Path.{_≡_, refl, sym, ap, ap₂, _∙_}
 use mathlib.Core.Bool.{Bool, true, false, cond, not, _&&_}
 use mathlib.Core.Logic.{⊎-elim, _≢_}
-use native.Mathlib.Nat.{add-assoc, add-comm, add-zero, zero-add, mul-assoc, mul-comm, one-mul, mul-zero, zero-mul, le-suc-iff}
+use native.Mathlib.Nat.{add-assoc, add-comm, add-zero, add-suc, le-refl, zero-add, mul-assoc, mul-comm, one-mul, mul-zero, zero-mul, le-suc-iff}
 use native.Mathlib.Omega.{arith}
 use Rattle.definitions.specs.Numbers.{countTo, productOfTo}
 use Rattle.numbers.specs.Folds.{fold-further, fold-one, fold-by, only-off, Monoid, foldTo, only, fold-zero, fold-same, fold-add}
@@ -72,6 +72,10 @@ module _ (q : ℕ → Bool) where
   unfolding countTo
   count-le zero = omega arith
   count-le (suc k) = omega (arith, count-le k, one-at-most (q (suc k)))
+
+  pub count-up : (m j : ℕ) → countTo m q ≤ countTo (m + j) q
+  count-up m zero = rw (add-zero m) (le-refl (countTo m q))
+  count-up m (suc j) = rw (add-suc m j) (omega (arith, count-up m j, count-suc (m + j)))
 
   -- one number with the property makes the count 1 or more
   pub count-pos : (k c : ℕ) → 0 < c → c ≤ k → q c ≡ true → 0 < countTo k q

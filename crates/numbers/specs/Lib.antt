@@ -12,3 +12,5 @@ pub mod Products
 pub mod Apart
 pub mod HowMany
 pub mod AtMostFive
+pub mod Lists
+pub mod Below
