@@ -247,3 +247,9 @@ good = strong (λ n. 0 < n → Good n) step
 -- each F(n) is a polynomial
 pub finite-F : (n : ℕ) → 0 < n → Poly (F n)
 finite-F n l = good n l .finite
+
+-- and so is each I(n), the product of F(d) over the divisors d below n
+pub finite-I : (n : ℕ) → 0 < n → Poly (I n)
+finite-I zero l = absurd (NatL.not-suc-le-zero l)
+finite-I (suc k) l =
+    rw (inverse-product k) (over Poly (poly-constant 1ℤ) (λ f g. poly-mul f g) (suc k) k (λ d h b e. finite-F d h))

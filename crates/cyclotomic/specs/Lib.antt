@@ -2,3 +2,4 @@
 pub mod Family
 pub mod OnePrime
 pub mod Finite
+pub mod Degrees

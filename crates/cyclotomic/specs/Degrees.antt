@@ -1,0 +1,72 @@
+-- F(n) is monic of degree phi(n) (`monic-F`), and I(n) of degree n - phi(n) (`monic-I`): from one prime to the next, degrees multiply by p where z^p is put for z, and
+-- phi does the same.
+use Prim.Native.Nat.{ℕ, zero, suc, _+_, _*_, _-_, _≤_, _<_, _∣_}
+use mathlib.Core.Path.{_≡_, refl, sym, _∙_, ap, ap₂}
+use mathlib.Core.Bool.{cond, true, false}
+use native.Mathlib.Omega.{arith}
+use native.Mathlib.Nat as NatL
+use native.Mathlib.Decide.{decDvd}
+use lib.IntN.{ℤ}
+use lib.Dec.{eqb}
+use Rattle.definitions.specs.Integers.{_⊕_, ⊖, 0ℤ, 1ℤ}
+use Rattle.definitions.specs.Series.{Series, constant, 𝟙, _+ˢ_, -ˢ, _·_, z^, spread}
+use Rattle.definitions.specs.Numbers.{phi}
+use Rattle.definitions.specs.Polynomials.{z^-1, F, I, polynomial, degree}
+use Rattle.integers.specs.Whole.{⊕-zero, ⊖-zero, zero-⊕}
+use Rattle.series.specs.Laws.{at-+ˢ, at--ˢ, ·-comm}
+use Rattle.series.specs.Maps.{at-z^, off-z^}
+use Rattle.series.specs.Degree.{ZeroFrom, Poly, Monic, monic-spread, monic-div, monic-mul}
+use Rattle.numbers.specs.Tests.{either}
+use Rattle.numbers.specs.Primes.{Prime, prime-pos, by-primes}
+use Rattle.numbers.specs.Phi.{phi-old, phi-new, phi-one, phi-le}
+use Rattle.cyclotomic.specs.Family.{F-one, pair-law, inverse-product}
+use Rattle.cyclotomic.specs.OnePrime.{prime-old, prime-new}
+use Rattle.cyclotomic.specs.Finite.{finite-F, finite-I}
+
+one-at : (i : ℕ) → 0 < i → 𝟙 i ≡ 0ℤ
+unfolding constant
+one-at zero l = absurd (NatL.not-suc-le-zero l)
+one-at (suc i) l = refl
+
+-- z^n - 1 above degree 0
+z^-1-at : (n i : ℕ) → 0 < i → z^-1 n i ≡ z^ n i
+unfolding z^-1
+z^-1-at n i l = at-+ˢ (z^ n) (-ˢ 𝟙) i ∙ ap (λ a. z^ n i ⊕ a) (at--ˢ 𝟙 i ∙ ap ⊖ (one-at i l) ∙ ⊖-zero) ∙ ⊕-zero (z^ n i)
+
+pub monic-z^-1 : (n : ℕ) → 0 < n → Monic n (z^-1 n)
+monic-z^-1 n l =
+    record { top = z^-1-at n n l ∙ at-z^ n; above = λ i h. z^-1-at n i (omega arith) ∙ off-z^ n i (λ e. not-same i h e) }
+  where
+    not-same : (i : ℕ) → suc n ≤ i → i ≡ n → ⊥
+    not-same i h e = omega arith
+
+pub monic-F : (n : ℕ) → 0 < n → Monic (phi n) (F n)
+monic-F = by-primes (λ n. Monic (phi n) (F n)) (rw (phi-one, F-one) (monic-z^-1 1 (omega arith))) next
+  where
+    next : (n p : ℕ) → 0 < n → Prime p → Monic (phi n) (F n) → Monic (phi (n * p)) (F (n * p))
+    next n p l P a = go (decDvd p n)
+      where
+        spreads : Monic (phi n * p) (spread p (F n))
+        spreads = monic-spread p (phi n) (F n) (prime-pos P) a
+
+        go : Dec (p ∣ n) → Monic (phi (n * p)) (F (n * p))
+        go (yes d) = rw (prime-old p P n l d, phi-old n p P d, NatL.mul-comm p (phi n)) spreads
+        go (no d) =
+            monic-div (F (n * p)) (F n) (phi (n * p)) (phi n) a
+            (rw (prime-new p P n l d, phi-new n p P d, NatL.mul-comm p (phi n)) spreads)
+            (finite-F (n * p) (NatL.mul-pos l (prime-pos P)))
+
+pub monic-I : (n : ℕ) → 0 < n → Monic (n - phi n) (I n)
+monic-I n l =
+    monic-div (I n) (F n) (n - phi n) (phi n) (monic-F n l)
+    (rw (·-comm (I n) (F n), pair-law n, NatL.sub-add-cancel (phi-le n)) (monic-z^-1 n l))
+    (finite-I n l)
+
+-- both kinds at once
+pub monic : (kind n : ℕ) → 0 < n → Monic (degree kind n) (polynomial kind n)
+unfolding degree polynomial
+monic kind n l = go (eqb kind 1)
+  where
+    go : (b : mathlib.Core.Bool.Bool) → Monic (cond b (phi n) (n - phi n)) (cond b (F n) (I n))
+    go true = monic-F n l
+    go false = monic-I n l
