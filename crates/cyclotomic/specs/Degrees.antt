@@ -29,7 +29,7 @@ one-at zero l = absurd (NatL.not-suc-le-zero l)
 one-at (suc i) l = refl
 
 -- z^n - 1 above degree 0
-z^-1-at : (n i : ℕ) → 0 < i → z^-1 n i ≡ z^ n i
+pub z^-1-at : (n i : ℕ) → 0 < i → z^-1 n i ≡ z^ n i
 unfolding z^-1
 z^-1-at n i l = at-+ˢ (z^ n) (-ˢ 𝟙) i ∙ ap (λ a. z^ n i ⊕ a) (at--ˢ 𝟙 i ∙ ap ⊖ (one-at i l) ∙ ⊖-zero) ∙ ⊕-zero (z^ n i)
 

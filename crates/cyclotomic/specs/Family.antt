@@ -60,14 +60,13 @@ last-divisor k g =
     ap (λ b. productTo k (atDivisors (suc k) g) · cond b (g (suc k)) 𝟙) (divides-yes (suc k) (suc k) (NatL.dvd-refl (suc k)))
 
 -- ---- z^n - 1 is a unit
-pub unit-z^-1 : (n : ℕ) → 0 < n → Unitˢ (z^-1 n)
+pub z^-1-zero : (n : ℕ) → 0 < n → z^-1 n zero ≡ ⊖ 1ℤ
 unfolding z^-1 constant
-unit-z^-1 n h = ap (λ a. a ⊗ a) at ∙ ringℤ [] (:- :1 :* :- :1) :1 refl
-  where
-    at : (z^ n +ˢ -ˢ 𝟙) zero ≡ ⊖ 1ℤ
-    at =
-        at-+ˢ (z^ n) (-ˢ 𝟙) zero
-        ∙ ap₂ _⊕_ (off-z^ n zero (λ e. omega arith)) (at--ˢ 𝟙 zero) ∙ zero-⊕ (⊖ 1ℤ)
+z^-1-zero n h =
+    at-+ˢ (z^ n) (-ˢ 𝟙) zero ∙ ap₂ _⊕_ (off-z^ n zero (λ e. omega arith)) (at--ˢ 𝟙 zero) ∙ zero-⊕ (⊖ 1ℤ)
+
+pub unit-z^-1 : (n : ℕ) → 0 < n → Unitˢ (z^-1 n)
+unit-z^-1 n h = ap (λ a. a ⊗ a) (z^-1-zero n h) ∙ ringℤ [] (:- :1 :* :- :1) :1 refl
 
 -- ---- the family, one after the other
 stays : (k d : ℕ) → d ≢ suc k → familyTo (suc k) d ≡ familyTo k d

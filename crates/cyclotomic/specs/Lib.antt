@@ -3,3 +3,6 @@ pub mod Family
 pub mod OnePrime
 pub mod Finite
 pub mod Degrees
+pub mod Signs
+pub mod Mirrors
+pub mod Apart

@@ -305,16 +305,19 @@ pub alternate-odd : (i : ℕ) (f : Series) → i % 2 ≡ 1 → alternate f i ≡
 unfolding alternate
 alternate-odd i f e = rw (ne-eqb (i % 2) 0 (λ q. omega arith))
 
+pub alternate-none : (i : ℕ) (f : Series) → f i ≡ 0ℤ → alternate f i ≡ 0ℤ
+alternate-none i f e = go (parity i)
+  where
+    go : (i % 2 ≡ 0) ⊎ (i % 2 ≡ 1) → alternate f i ≡ 0ℤ
+    go (inl p) = alternate-even i f p ∙ e
+    go (inr p) = alternate-odd i f p ∙ ap ⊖ e ∙ ⊖-zero
+
 pub alternate-z^-odd : (n : ℕ) → n % 2 ≡ 1 → alternate (z^ n) ≡ -ˢ (z^ n)
 alternate-z^-odd n o = fun-ext (λ i. go i (ℕ-discrete i n) ∙ sym (at--ˢ (z^ n) i))
   where
-    zero′ : (i : ℕ) → z^ n i ≡ 0ℤ → (i % 2 ≡ 0) ⊎ (i % 2 ≡ 1) → alternate (z^ n) i ≡ ⊖ (z^ n i)
-    zero′ i e (inl p) = alternate-even i (z^ n) p ∙ e ∙ sym (ap ⊖ e ∙ ⊖-zero)
-    zero′ i e (inr p) = alternate-odd i (z^ n) p
-
     go : (i : ℕ) → Dec (i ≡ n) → alternate (z^ n) i ≡ ⊖ (z^ n i)
     go i (yes e) = alternate-odd i (z^ n) (ap (λ k. k % 2) e ∙ o)
-    go i (no e) = zero′ i (z^-no n i e) (parity i)
+    go i (no e) = alternate-none i (z^ n) (z^-no n i e) ∙ sym (ap ⊖ (z^-no n i e) ∙ ⊖-zero)
 
 -- the two maps commute where t is odd
 pub alternate-spread : (t : ℕ) → t % 2 ≡ 1 → (f : Series) → spread t (alternate f) ≡ alternate (spread t f)
