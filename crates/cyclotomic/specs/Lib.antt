@@ -6,3 +6,4 @@ pub mod Degrees
 pub mod Signs
 pub mod Mirrors
 pub mod Apart
+pub mod Terms
