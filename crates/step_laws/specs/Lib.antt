@@ -1,4 +1,7 @@
 -- Laws of document 01's steps (crate `definitions`), for whoever proves code that takes them.
+pub mod Tests
 pub mod Firsts
 pub mod Outside
 pub mod Step
+pub mod Signed
+pub mod Machine

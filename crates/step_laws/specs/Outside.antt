@@ -9,6 +9,7 @@ use borrow.Author.Tests.{le-leb, leb-true}
 use lib.Dec.{leb}
 use Rattle.definitions.specs.Series.{Series}
 use Rattle.definitions.specs.Steps.{inRange, someOutside}
+use Rattle.step_laws.specs.Tests.{not-false-is, not-true-is}
 
 -- an entry from d on and below n that is outside the range
 pub record OutsideAt (w d n : ℕ) (a : Series) : Type 0 where
@@ -16,15 +17,6 @@ pub record OutsideAt (w d n : ℕ) (a : Series) : Type 0 where
   pub from : d ≤ at
   pub below : at < n
   pub outside : inRange w (a at) ≡ false
-
--- a Bool that is not false is true, and the other way round
-pub not-false-is : (b : Bool) → (b ≡ false → ⊥) → b ≡ true
-not-false-is true h = refl
-not-false-is false h = absurd (h refl)
-
-pub not-true-is : (b : Bool) → (b ≡ true → ⊥) → b ≡ false
-not-true-is false h = refl
-not-true-is true h = absurd (h refl)
 
 module _ (w d : ℕ) (a : Series) where
   -- what the last entry adds: an earlier one is outside, or this one

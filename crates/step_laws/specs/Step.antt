@@ -13,13 +13,9 @@ use lib.Dec.{ltb}
 use Rattle.definitions.specs.Integers.{_⊕_, _⊝_, 0ℤ}
 use Rattle.definitions.specs.Series.{Series, firsts}
 use Rattle.definitions.specs.Steps.{Sort, comb, accumulate, combed, accumulatedIn, accumulated, stepped, inRange, someOutside, entries, stepOver, stepList}
+use Rattle.step_laws.specs.Tests.{by-test}
 use Rattle.step_laws.specs.Firsts.{length-firsts, getD-firsts, firsts-same, firsts-entries}
 use Rattle.step_laws.specs.Outside.{OutsideAt, outside-found, outside-is, inside-each, inside-all}
-
--- a proof by the two values of a test, each with its equation
-pick : {P : Type 0} {b : Bool} → (b ≡ true → P) → (b ≡ false → P) → (c : Bool) → b ≡ c → P
-pick f g true e = f e
-pick f g false e = g e
 
 module _ (d : ℕ) (a : Series) where
   pub combed-from : (i : ℕ) → d ≤ i → combed d a i ≡ a i ⊝ a (i - d)
@@ -33,7 +29,7 @@ module _ (d : ℕ) (a : Series) where
   in-enough one zero (suc u) i h k = rw (lt-ltb i d (omega arith))
   in-enough one (suc t) zero i h k = rw (lt-ltb i d (omega arith))
   in-enough one (suc t) (suc u) i h k =
-      pick (λ e. rw e) (λ e. rw e (ap (λ v. a i ⊕ v) (in-enough one t u (i - d) (omega arith) (omega arith)))) (ltb i d) refl
+      by-test (ltb i d) (λ e. rw e) (λ e. rw e (ap (λ v. a i ⊕ v) (in-enough one t u (i - d) (omega arith) (omega arith))))
 
   pub accumulated-from : (i : ℕ) → 1 ≤ d → d ≤ i → accumulated d a i ≡ a i ⊕ accumulated d a (i - d)
   unfolding accumulated accumulatedIn
