@@ -1,20 +1,34 @@
 -- A signed local is its bits, so a number that was read is `seen`: the number of its own bits. It is the number itself where
 -- that fits, and the tests of `Signed` are stated here of what the machine sees.
-use mathlib.Core.Path.{_≡_, sym, _∙_, ap}
+use mathlib.Core.Path.{_≡_, sym, _∙_, ap, ap₂}
 use mathlib.Core.Bool.{Bool, true, false}
-use Prim.Native.Nat.{ℕ, suc, _≤_}
+use Prim.Native.Nat.{ℕ, suc, _^_, _<_, _≤_}
 use native.Mathlib.Omega.{arith}
 use lib.IntN.{ℤ, pos, negsuc, natAbs, negℤ, _+ℤ_}
-use lib.Signed.{leZ, ltZ}
+use lib.Signed.{leZ, ltZ, mag}
 use mir.Syntax.{w64}
 use mir.Val.{SFits, toZ, ofZ}
 use mir.Facts.{toZ-ofZ}
-use Rattle.definitions.specs.Integers.{_⊝_}
+use Rattle.definitions.specs.Integers.{_⊕_, _⊝_}
 use Rattle.definitions.specs.Steps.{inRange, largest}
 use Rattle.step_laws.specs.Signed.{upper-test, lower-test, upper-fits, lower-fits, abs-mag, abs-negℤ, range-in}
 
 abbrev pub seen : ℤ → ℤ
 seen v = toZ w64 (ofZ w64 v)
+
+-- two numbers that were read, added or taken from one another, and what is stored of it
+module _ (x y : ℤ) (f : mag x < 2 ^ 63) (g : mag y < 2 ^ 63) where
+  pub seen-⊕ : seen x ⊕ seen y ≡ x ⊕ y
+  seen-⊕ = ap₂ _⊕_ (toZ-ofZ {w = w64} {z = x} (record { sfits = f })) (toZ-ofZ {w = w64} {z = y} (record { sfits = g }))
+
+  pub seen-⊝ : seen x ⊝ seen y ≡ x ⊝ y
+  seen-⊝ = ap₂ _⊝_ (toZ-ofZ {w = w64} {z = x} (record { sfits = f })) (toZ-ofZ {w = w64} {z = y} (record { sfits = g }))
+
+  pub stored-⊕ : SFits w64 (x ⊕ y) → seen (seen x ⊕ seen y) ≡ x ⊕ y
+  stored-⊕ h = ap seen seen-⊕ ∙ toZ-ofZ h
+
+  pub stored-⊝ : SFits w64 (x ⊝ y) → seen (seen x ⊝ seen y) ≡ x ⊝ y
+  stored-⊝ h = ap seen seen-⊝ ∙ toZ-ofZ h
 
 -- a number that a test says to be within w
 pub within : (w : ℕ) (a : ℤ) {r : Bool} → SFits w64 a → r ≡ inRange w (seen a) → r ≡ true → natAbs a ≤ w

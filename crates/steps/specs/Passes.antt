@@ -1,22 +1,70 @@
--- A pass that has got as far as i: the entries below i are those of one series, the others those of another. An upward pass
--- has the new ones below, a downward pass the old ones. And the two passes that the undoing makes.
+-- How far a pass has got. `Split l n i f g`: the list l has n entries, those below i are f's and the others g's. An upward pass
+-- has the new entries below, a downward pass the old ones.
 use Prim.Native.Nat.{ℕ, zero, suc, _-_, _<_, _≤_}
-use mathlib.Core.Bool.{Bool, true, false, cond}
+use mathlib.Core.Bool.{Bool, true, false, cond, not}
 use mathlib.Core.Path.{_≡_}
 use mathlib.Core.List.{List}
 use lib.ListN.{length, getD}
 use lib.IntN.{ℤ}
 use lib.Dec.{ltb}
+use mir.Syntax.{w64}
+use mir.Val.{SFits}
 use Rattle.definitions.specs.Integers.{_⊕_, _⊝_, 0ℤ}
 use Rattle.definitions.specs.Series.{Series}
+use Rattle.definitions.specs.Steps.{Sort, combed, accumulated, inRange, largest, entries, stepOver, stepList}
 
-unfoldable pub split : ℕ → Series → Series → Series
-split i f g k = cond (ltb k i) (f k) (g k)
+-- an entry with the one d before it added, or taken away
+abbrev pub plusAt : List ℤ → ℕ → ℕ → ℤ
+plusAt l i d = getD l i 0ℤ ⊕ getD l (i - d) 0ℤ
 
--- the entries from `from` on, each with the new one d before it added
+abbrev pub minusAt : List ℤ → ℕ → ℕ → ℤ
+minusAt l i d = getD l i 0ℤ ⊝ getD l (i - d) 0ℤ
+
+pub record Split (l : List ℤ) (n i : ℕ) (f g : Series) : Type 0 where
+  pub len : length l ≡ n
+  pub below : (k : ℕ) → k < i → k < n → getD l k 0ℤ ≡ f k
+  pub above : (k : ℕ) → i ≤ k → k < n → getD l k 0ℤ ≡ g k
+
+-- the entries of l are f's
+abbrev pub All : List ℤ → ℕ → Series → Type 0
+All l n f = Split l n 0 f f
+
+-- all the values of f from i on and below n fit a machine number; or are in range
+abbrev pub Fit : ℕ → ℕ → Series → Type 0
+Fit i n f = (k : ℕ) → i ≤ k → k < n → SFits w64 (f k)
+
+abbrev pub Inside : ℕ → ℕ → Series → Type 0
+Inside i n f = (k : ℕ) → i ≤ k → k < n → inRange largest (f k) ≡ true
+
+-- the entries from `from` on, each with the new one d before it added: an accumulate that starts late
 unfoldable pub summedIn : ℕ → ℕ → ℕ → Series → Series
 summedIn zero d from a i = a i
 summedIn (suc turns) d from a i = cond (ltb i from) (a i) (a i ⊕ summedIn turns d from a (i - d))
 
 unfoldable pub summed : ℕ → ℕ → Series → Series
 summed d from a i = summedIn i d from a i
+
+-- the entries from d on and below `end`, each with the old one d before it taken away: a comb that starts early
+unfoldable pub combedBelow : ℕ → ℕ → Series → Series
+combedBelow d end a k = cond (ltb k end) (combed d a k) (a k)
+
+-- a comb of l that came down to r and left m: what is done is in range, and what comes next is not
+pub record CombedTo (d : ℕ) (l m : List ℤ) (r : ℕ) : Type 0 where
+  pub from : d ≤ r
+  pub to : r ≤ length l
+  pub split : Split m (length l) r (entries l) (combed d (entries l))
+  pub inside : Inside r (length l) (combed d (entries l))
+  pub stop : d < r → inRange largest (combed d (entries l) (r - 1)) ≡ false
+
+-- an accumulate that came up to r
+pub record AccumulatedTo (d : ℕ) (l m : List ℤ) (r : ℕ) : Type 0 where
+  pub from : d ≤ r
+  pub to : r ≤ length l
+  pub split : Split m (length l) r (accumulated d (entries l)) (entries l)
+  pub inside : Inside d r (accumulated d (entries l))
+  pub stop : r < length l → inRange largest (accumulated d (entries l) r) ≡ false
+
+-- a step on l left m: all of it where `done`, and nothing where a value would be out of range
+pub record Taken (s : Sort) (d : ℕ) (l m : List ℤ) (done : Bool) : Type 0 where
+  pub over : stepOver largest s d l ≡ not done
+  pub leaves : m ≡ cond done (stepList s d l) l
