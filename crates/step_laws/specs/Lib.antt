@@ -2,6 +2,7 @@
 pub mod Tests
 pub mod Firsts
 pub mod Outside
+pub mod Summed
 pub mod Step
 pub mod Signed
 pub mod Machine

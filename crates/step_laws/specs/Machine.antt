@@ -11,7 +11,7 @@ use mir.Val.{SFits, toZ, ofZ}
 use mir.Facts.{toZ-ofZ}
 use Rattle.definitions.specs.Integers.{_⊕_, _⊝_}
 use Rattle.definitions.specs.Steps.{inRange, largest}
-use Rattle.step_laws.specs.Signed.{upper-test, lower-test, upper-fits, lower-fits, abs-mag, abs-negℤ, range-in}
+use Rattle.step_laws.specs.Signed.{upper-test, lower-test, upper-fits, lower-fits, mag-abs, abs-mag, abs-negℤ, range-in}
 
 abbrev pub seen : ℤ → ℤ
 seen v = toZ w64 (ofZ w64 v)
@@ -29,6 +29,10 @@ module _ (x y : ℤ) (f : mag x < 2 ^ 63) (g : mag y < 2 ^ 63) where
 
   pub stored-⊝ : SFits w64 (x ⊝ y) → seen (seen x ⊝ seen y) ≡ x ⊝ y
   stored-⊝ h = ap seen seen-⊝ ∙ toZ-ofZ h
+
+-- a value in range fits
+pub range-fits : (v : ℤ) → inRange largest v ≡ true → SFits w64 v
+range-fits v e = record { sfits = omega (arith, mag-abs v, range-in largest v e) }
 
 -- a number that a test says to be within w
 pub within : (w : ℕ) (a : ℤ) {r : Bool} → SFits w64 a → r ≡ inRange w (seen a) → r ≡ true → natAbs a ≤ w

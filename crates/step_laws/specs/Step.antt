@@ -1,19 +1,17 @@
 -- The steps, entry by entry: below d an entry stays; from d on a comb takes the older entry away and an accumulate adds the new
 -- one. Then the same of `stepList` and `stepOver`, and that a step whose size is at least the length does nothing.
 use mathlib.Core.Path.{_≡_, refl, sym, _∙_, ap}
-use mathlib.Core.Bool.{Bool, true, false, cond}
+use mathlib.Core.Bool.{true, false}
 use mathlib.Core.List.{List}
-use Prim.Native.Nat.{ℕ, zero, suc, _-_, _<_, _≤_}
-use native.Mathlib.Nat.{not-suc-le-zero, le-trans}
+use Prim.Native.Nat.{ℕ, _-_, _<_, _≤_}
 use native.Mathlib.Omega.{arith}
 use borrow.Author.Tests.{lt-ltb, le-ltb}
 use lib.ListN.{length, getD}
 use lib.IntN.{ℤ}
-use lib.Dec.{ltb}
 use Rattle.definitions.specs.Integers.{_⊕_, _⊝_, 0ℤ}
 use Rattle.definitions.specs.Series.{Series, firsts}
-use Rattle.definitions.specs.Steps.{Sort, comb, accumulate, combed, accumulatedIn, accumulated, stepped, inRange, someOutside, entries, stepOver, stepList}
-use Rattle.step_laws.specs.Tests.{by-test}
+use Rattle.definitions.specs.Steps.{Sort, comb, accumulate, combed, stepped, inRange, someOutside, entries, stepOver, stepList}
+use Rattle.step_laws.specs.Summed.{accumulated-from, accumulated-below}
 use Rattle.step_laws.specs.Firsts.{length-firsts, getD-firsts, firsts-same, firsts-entries}
 use Rattle.step_laws.specs.Outside.{OutsideAt, outside-found, outside-is, inside-each, inside-all}
 
@@ -22,31 +20,10 @@ module _ (d : ℕ) (a : Series) where
   unfolding combed
   combed-from i h = rw (le-ltb i d h)
 
-  -- more turns than i change nothing
-  in-enough : 1 ≤ d → (t u i : ℕ) → i ≤ t → i ≤ u → accumulatedIn t d a i ≡ accumulatedIn u d a i
-  unfolding accumulatedIn
-  in-enough one zero zero i h k = refl
-  in-enough one zero (suc u) i h k = rw (lt-ltb i d (omega arith))
-  in-enough one (suc t) zero i h k = rw (lt-ltb i d (omega arith))
-  in-enough one (suc t) (suc u) i h k =
-      by-test (ltb i d) (λ e. rw e) (λ e. rw e (ap (λ v. a i ⊕ v) (in-enough one t u (i - d) (omega arith) (omega arith))))
-
-  pub accumulated-from : (i : ℕ) → 1 ≤ d → d ≤ i → accumulated d a i ≡ a i ⊕ accumulated d a (i - d)
-  unfolding accumulated accumulatedIn
-  accumulated-from zero one h = absurd (not-suc-le-zero (le-trans one h))
-  accumulated-from (suc i) one h =
-      rw (le-ltb (suc i) d h)
-      (ap (λ v. a (suc i) ⊕ v) (in-enough one i (suc i - d) (suc i - d) (omega arith) (omega arith)))
-
-  accumulated-below : (i : ℕ) → i < d → accumulated d a i ≡ a i
-  unfolding accumulated accumulatedIn
-  accumulated-below zero h = refl
-  accumulated-below (suc i) h = rw (lt-ltb (suc i) d h)
-
   pub stepped-below : (s : Sort) (i : ℕ) → i < d → stepped s d a i ≡ a i
   unfolding stepped combed
   stepped-below comb i h = rw (lt-ltb i d h)
-  stepped-below accumulate i h = accumulated-below i h
+  stepped-below accumulate i h = accumulated-below d a i h
 
 module _ (s : Sort) (d : ℕ) (l : List ℤ) where
   pub length-stepList : length (stepList s d l) ≡ length l

@@ -1,7 +1,7 @@
 -- How far a pass has got. `Split l n i f g`: the list l has n entries, those below i are f's and the others g's. An upward pass
 -- has the new entries below, a downward pass the old ones.
-use Prim.Native.Nat.{ℕ, zero, suc, _-_, _<_, _≤_}
-use mathlib.Core.Bool.{Bool, true, false, cond, not}
+use Prim.Native.Nat.{ℕ, _-_, _<_, _≤_}
+use mathlib.Core.Bool.{Bool, true, cond, not}
 use mathlib.Core.Path.{_≡_}
 use mathlib.Core.List.{List}
 use lib.ListN.{length, getD}
@@ -36,33 +36,23 @@ Fit i n f = (k : ℕ) → i ≤ k → k < n → SFits w64 (f k)
 abbrev pub Inside : ℕ → ℕ → Series → Type 0
 Inside i n f = (k : ℕ) → i ≤ k → k < n → inRange largest (f k) ≡ true
 
--- the entries from `from` on, each with the new one d before it added: an accumulate that starts late
-unfoldable pub summedIn : ℕ → ℕ → ℕ → Series → Series
-summedIn zero d from a i = a i
-summedIn (suc turns) d from a i = cond (ltb i from) (a i) (a i ⊕ summedIn turns d from a (i - d))
-
-unfoldable pub summed : ℕ → ℕ → Series → Series
-summed d from a i = summedIn i d from a i
-
 -- the entries from d on and below `end`, each with the old one d before it taken away: a comb that starts early
 unfoldable pub combedBelow : ℕ → ℕ → Series → Series
 combedBelow d end a k = cond (ltb k end) (combed d a k) (a k)
 
--- a comb of l that came down to r and left m: what is done is in range, and what comes next is not
+-- a comb of l that came down to r and left m; what is done is in range
 pub record CombedTo (d : ℕ) (l m : List ℤ) (r : ℕ) : Type 0 where
   pub from : d ≤ r
   pub to : r ≤ length l
   pub split : Split m (length l) r (entries l) (combed d (entries l))
   pub inside : Inside r (length l) (combed d (entries l))
-  pub stop : d < r → inRange largest (combed d (entries l) (r - 1)) ≡ false
 
--- an accumulate that came up to r
+-- an accumulate of l that came up to r and left m
 pub record AccumulatedTo (d : ℕ) (l m : List ℤ) (r : ℕ) : Type 0 where
   pub from : d ≤ r
   pub to : r ≤ length l
   pub split : Split m (length l) r (accumulated d (entries l)) (entries l)
   pub inside : Inside d r (accumulated d (entries l))
-  pub stop : r < length l → inRange largest (accumulated d (entries l) r) ≡ false
 
 -- a step on l left m: all of it where `done`, and nothing where a value would be out of range
 pub record Taken (s : Sort) (d : ℕ) (l m : List ℤ) (done : Bool) : Type 0 where

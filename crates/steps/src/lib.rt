@@ -8,9 +8,10 @@ ghost use lib.ListN.{length, set};
 ghost use mir.Syntax.{w64};
 ghost use mir.Val.{SFits};
 ghost use Rattle.definitions.specs.Integers.{_⊕_, _⊝_};
-ghost use Rattle.definitions.specs.Steps.{comb, accumulate, combed, entries, inRange, largest, stepCode, stepCount, stepLeaves};
+ghost use Rattle.definitions.specs.Steps.{comb, accumulate, combed, accumulated, entries, inRange, largest, stepCode, stepCount, stepLeaves};
+ghost use Rattle.step_laws.specs.Summed.{summed};
 ghost use Rattle.steps.specs.Sorts.{sortMeans};
-ghost use Rattle.steps.specs.Passes.{plusAt, minusAt, All, Fit, summed, combedBelow, CombedTo, AccumulatedTo, Taken};
+ghost use Rattle.steps.specs.Passes.{plusAt, minusAt, All, Fit, combedBelow, CombedTo, AccumulatedTo, Taken};
 
 const MOST: i64 = 9223372036854775807;
 
@@ -96,4 +97,66 @@ fn subtract_at(a: &mut [i64], i: usize, d: usize)
     ensures { λ _. ⌜ now (a .exit) ≡ set (now (a .entry)) i (minusAt (now (a .entry)) i d) ⌝ }
 {
     a[i] = a[i] - a[i - d];
+}
+
+// The comb's pass, downward, so that the entry d before is still the old one. It stops where the next value is out of range
+// and answers how far down it came.
+fn comb_down(a: &mut [i64], d: usize) -> usize
+    requires { ⌜ (1 ≤ d) × (d ≤ length (now a)) ⌝ }
+    ensures { λ r. ⌜ CombedTo d (now (a .entry)) (now (a .exit)) r ⌝ }
+    ensures { λ r. ⌜ (d < r → inRange largest (combed d (entries (now (a .entry))) (r - 1)) ≡ false) ⌝ }
+{
+    let mut i = a.len();
+    while d < i {
+        let k = i - 1;
+        if !difference_fits_at(a, k, d) {
+            return i;
+        }
+        subtract_at(a, k, d);
+        i = k;
+    }
+    i
+}
+
+// The accumulate's pass, upward, so that the entry d before is already the new one.
+fn accumulate_up(a: &mut [i64], d: usize) -> usize
+    requires { ⌜ (1 ≤ d) × (d ≤ length (now a)) ⌝ }
+    ensures { λ r. ⌜ AccumulatedTo d (now (a .entry)) (now (a .exit)) r ⌝ }
+    ensures { λ r. ⌜ (r < length (now (a .entry)) → inRange largest (accumulated d (entries (now (a .entry))) r) ≡ false) ⌝ }
+{
+    let mut i = d;
+    while i < a.len() {
+        if !sum_fits_at(a, i, d) {
+            return i;
+        }
+        add_at(a, i, d);
+        i += 1;
+    }
+    i
+}
+
+// Adds upward from `from` on, untested: it undoes a comb that came down to there.
+fn add_from(a: &mut [i64], d: usize, from: usize)
+    requires { ⌜ (1 ≤ d) × (d ≤ from) × (from ≤ length (now a)) ⌝ }
+    requires { ⌜ Fit from (length (now a)) (summed d from (entries (now a))) ⌝ }
+    ensures { λ _. ⌜ All (now (a .exit)) (length (now (a .entry))) (summed d from (entries (now (a .entry)))) ⌝ }
+{
+    let mut i = from;
+    while i < a.len() {
+        add_at(a, i, d);
+        i += 1;
+    }
+}
+
+// Takes away downward from below `end`, untested: it undoes an accumulate that came up to there.
+fn subtract_below(a: &mut [i64], d: usize, end: usize)
+    requires { ⌜ (1 ≤ d) × (d ≤ end) × (end ≤ length (now a)) ⌝ }
+    requires { ⌜ Fit d end (combed d (entries (now a))) ⌝ }
+    ensures { λ _. ⌜ All (now (a .exit)) (length (now (a .entry))) (combedBelow d end (entries (now (a .entry)))) ⌝ }
+{
+    let mut i = end;
+    while d < i {
+        i -= 1;
+        subtract_at(a, i, d);
+    }
 }
