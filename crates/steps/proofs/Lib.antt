@@ -1,3 +1,4 @@
 -- Laws that the functions' proofs share.
 pub mod Split
+pub mod Below
 pub mod Turns

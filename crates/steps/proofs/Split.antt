@@ -11,6 +11,7 @@ use lib.IntN.{ℤ}
 use Rattle.definitions.specs.Integers.{0ℤ, _⊕_, _⊝_}
 use Rattle.definitions.specs.Series.{Series, firsts}
 use Rattle.definitions.specs.Steps.{entries}
+use Rattle.step_laws.specs.Tests.{by-order}
 use Rattle.step_laws.specs.Firsts.{is-firsts}
 use Rattle.steps.specs.Passes.{Split, All, plusAt, minusAt}
 
@@ -66,9 +67,21 @@ none-above l g = record { len = refl; below = λ k h m. refl; above = λ k h m. 
     never : {k : ℕ} → length l ≤ k → k < length l → ⊥
     never h m = omega arith
 
--- the two series may be others that agree where they count
-pub as-well : {l : List ℤ} {n i i′ : ℕ} {f g f′ g′ : Series} → Split l n i f g → ((k : ℕ) → k < i′ → k < n → getD l k 0ℤ ≡ f′ k) → ((k : ℕ) → i′ ≤ k → k < n → getD l k 0ℤ ≡ g′ k) → Split l n i′ f′ g′
-as-well s low high = record { len = s .len; below = low; above = high }
-
 pub all-firsts : {l : List ℤ} {n : ℕ} {f : Series} → All l n f → l ≡ firsts n f
 all-firsts {l} {n} {f} s = is-firsts n f l (s .len) (λ k b. s .above k (omega arith) b)
+
+-- a pass that has got to the end
+pub all-below : {l : List ℤ} {n i : ℕ} {f g : Series} → Split l n i f g → n ≤ i → All l n f
+all-below s h =
+    record { len = s .len; below = λ k b m. s .below k (omega arith) m; above = λ k b m. s .below k (omega arith) m }
+
+pub all-above : {l : List ℤ} {n i : ℕ} {f g : Series} → Split l n i f g → ((k : ℕ) → k < i → k < n → f k ≡ g k) → All l n g
+all-above {l} {n} {i} {g = g} s e =
+    record {
+      len = s .len;
+      below = λ k b m. go k m;
+      above = λ k b m. go k m;
+    }
+  where
+    go : (k : ℕ) → k < n → getD l k 0ℤ ≡ g k
+    go k m = by-order k i (λ b. s .below k b m ∙ e k b m) (λ b. s .above k b m)
