@@ -4,5 +4,6 @@ pub mod Firsts
 pub mod Outside
 pub mod Summed
 pub mod Step
+pub mod Told
 pub mod Signed
 pub mod Machine

@@ -2,3 +2,4 @@
 pub mod Split
 pub mod Below
 pub mod Turns
+pub mod Whole

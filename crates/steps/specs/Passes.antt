@@ -40,12 +40,13 @@ Inside i n f = (k : ℕ) → i ≤ k → k < n → inRange largest (f k) ≡ tru
 unfoldable pub combedBelow : ℕ → ℕ → Series → Series
 combedBelow d end a k = cond (ltb k end) (combed d a k) (a k)
 
--- a comb of l that came down to r and left m; what is done is in range
+-- a comb of l that came down to r and left m; what is done is in range, and what was read fits, so that it can be put back
 pub record CombedTo (d : ℕ) (l m : List ℤ) (r : ℕ) : Type 0 where
   pub from : d ≤ r
   pub to : r ≤ length l
   pub split : Split m (length l) r (entries l) (combed d (entries l))
   pub inside : Inside r (length l) (combed d (entries l))
+  pub fit : Fit r (length l) (entries l)
 
 -- an accumulate of l that came up to r and left m
 pub record AccumulatedTo (d : ℕ) (l m : List ℤ) (r : ℕ) : Type 0 where
@@ -53,6 +54,7 @@ pub record AccumulatedTo (d : ℕ) (l m : List ℤ) (r : ℕ) : Type 0 where
   pub to : r ≤ length l
   pub split : Split m (length l) r (accumulated d (entries l)) (entries l)
   pub inside : Inside d r (accumulated d (entries l))
+  pub fit : Fit d r (entries l)
 
 -- a step on l left m: all of it where `done`, and nothing where a value would be out of range
 pub record Taken (s : Sort) (d : ℕ) (l m : List ℤ) (done : Bool) : Type 0 where

@@ -17,6 +17,13 @@ const MOST: i64 = 9223372036854775807;
 
 const LEAST: i64 = -9223372036854775807;
 
+// Document 01's codes.
+const DONE: u64 = 0;
+
+const OVER: u64 = 5;
+
+const STEP: u64 = 7;
+
 pub enum Sort {
     Comb,
     Accumulate,
@@ -69,17 +76,17 @@ fn difference_fits(a: i64, b: i64) -> bool
     LEAST + b <= a
 }
 
-// The same of two entries, d apart.
+// The same of two entries, d apart. That an entry fits its type is known where it is read, and an undoing needs it.
 fn sum_fits_at(a: &[i64], i: usize, d: usize) -> bool
     requires { ⌜ (d ≤ i) × (i < length (now a)) ⌝ }
-    ensures { λ r. ⌜ r ≡ inRange largest (plusAt (now (a .entry)) i d) ⌝ }
+    ensures { λ r. ⌜ (r ≡ inRange largest (plusAt (now (a .entry)) i d)) × SFits w64 (entries (now (a .entry)) i) ⌝ }
 {
     sum_fits(a[i], a[i - d])
 }
 
 fn difference_fits_at(a: &[i64], i: usize, d: usize) -> bool
     requires { ⌜ (d ≤ i) × (i < length (now a)) ⌝ }
-    ensures { λ r. ⌜ r ≡ inRange largest (minusAt (now (a .entry)) i d) ⌝ }
+    ensures { λ r. ⌜ (r ≡ inRange largest (minusAt (now (a .entry)) i d)) × SFits w64 (entries (now (a .entry)) i) ⌝ }
 {
     difference_fits(a[i], a[i - d])
 }
@@ -158,5 +165,84 @@ fn subtract_below(a: &mut [i64], d: usize, end: usize)
     while d < i {
         i -= 1;
         subtract_at(a, i, d);
+    }
+}
+
+// A whole comb; or, where a value is out of range, nothing.
+fn comb_or_undo(a: &mut [i64], d: usize) -> bool
+    requires { ⌜ (1 ≤ d) × (d ≤ length (now a)) ⌝ }
+    ensures { λ r. ⌜ Taken comb d (now (a .entry)) (now (a .exit)) r ⌝ }
+{
+    let r = comb_down(a, d);
+    if r == d {
+        return true;
+    }
+    add_from(a, d, r);
+    false
+}
+
+// A whole accumulate; or nothing.
+fn accumulate_or_undo(a: &mut [i64], d: usize) -> bool
+    requires { ⌜ (1 ≤ d) × (d ≤ length (now a)) ⌝ }
+    ensures { λ r. ⌜ Taken accumulate d (now (a .entry)) (now (a .exit)) r ⌝ }
+{
+    let r = accumulate_up(a, d);
+    if r == a.len() {
+        return true;
+    }
+    subtract_below(a, d, r);
+    false
+}
+
+// The step of either sort, whole or not at all.
+fn taken(sort: Sort, a: &mut [i64], d: usize) -> bool
+    requires { ⌜ (1 ≤ d) × (d ≤ length (now a)) ⌝ }
+    ensures { λ r. ⌜ Taken (sortMeans sort) d (now (a .entry)) (now (a .exit)) r ⌝ }
+{
+    match sort {
+        Sort::Comb => comb_or_undo(a, d),
+        Sort::Accumulate => accumulate_or_undo(a, d),
+    }
+}
+
+impl Step {
+    // One step on any slice: STEP for a size of 0 or above 65,535, then OVER, each with every entry as it was and the count 0.
+    pub fn apply(self, a: &mut [i64]) -> Stepped
+        ensures { λ r. ⌜ r .code ≡ stepCode largest (sortMeans (self .sort)) (self .size) (now (a .entry)) ⌝ }
+        ensures { λ r. ⌜ r .count ≡ stepCount largest (sortMeans (self .sort)) (self .size) (now (a .entry)) ⌝ }
+        ensures { λ r. ⌜ now (a .exit) ≡ stepLeaves largest (sortMeans (self .sort)) (self .size) (now (a .entry)) ⌝ }
+    {
+        let sort = self.sort;
+        let size = self.size;
+        if size == 0 {
+            return Stepped {
+                code: STEP,
+                count: 0,
+            };
+        }
+        if 65535 < size {
+            return Stepped {
+                code: STEP,
+                count: 0,
+            };
+        }
+        let d = size as usize;
+        if a.len() <= d {
+            return Stepped {
+                code: DONE,
+                count: 0,
+            };
+        }
+        if taken(sort, a, d) {
+            let count = (a.len() - d) as u64;
+            return Stepped {
+                code: DONE,
+                count: count,
+            };
+        }
+        Stepped {
+            code: OVER,
+            count: 0,
+        }
     }
 }

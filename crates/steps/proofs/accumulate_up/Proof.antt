@@ -30,11 +30,11 @@ same-length c = c .before .before .before .before .loop .inv .split .len
 returns : tie.Need-returns Inv-loop μ-loop
 returns c =
     let t = c .before .before .before .before .loop .inv in
-    (t, λ b. ap (inRange largest) (sym (up-value t (c .before .before .before .before .before .pre .0) b)) ∙ sym (c .before .sum-fits-at .ensures) ∙ not-true _ (c .if1 .taken))
+    (t, λ b. ap (inRange largest) (sym (up-value t (c .before .before .before .before .before .pre .0) b)) ∙ sym (c .before .sum-fits-at .ensures .0) ∙ not-true _ (c .if1 .taken))
 
 -- the test passed: the value is in range
 passed : (c : tie.Else1 Inv-loop μ-loop) → inRange largest (plusAt (c .before .before .before .before .loop .a) (c .before .before .before .before .loop .i) (c .before .before .before .before .before .args .d)) ≡ true
-passed c = sym (c .before .sum-fits-at .ensures) ∙ not-false _ (c .if1 .left)
+passed c = sym (c .before .sum-fits-at .ensures .0) ∙ not-false _ (c .if1 .left)
 
 add-at-requires : tie.Need-add-at-requires Inv-loop μ-loop
 add-at-requires c κs = (
@@ -55,7 +55,8 @@ loop-again c =
     (up-turn (c .before .before .before .before .before .before .before .loop .inv)
     (c .before .before .before .before .before .before .before .before .pre .0)
     (omega arith)
-    (passed (c .before .before .before)))
+    (passed (c .before .before .before))
+    (c .before .before .before .before .sum-fits-at .ensures .1))
 
 same-length-2 : tie.Need-same-length-2 Inv-loop μ-loop
 same-length-2 c = c .before .loop .inv .split .len

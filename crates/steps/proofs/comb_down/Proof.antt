@@ -36,13 +36,13 @@ returns c =
       t,
       λ b.
           ap (inRange largest) (sym (down-value t (c .before .before .before .before .before .pre .0) b))
-          ∙ sym (c .before .difference-fits-at .ensures)
+          ∙ sym (c .before .difference-fits-at .ensures .0)
           ∙ not-true _ (c .if1 .taken),
     )
 
 -- the test passed: the value is in range
 passed : (c : tie.Else1 Inv-loop μ-loop) → inRange largest (minusAt (c .before .before .before .before .loop .a) (c .before .before .before .before .loop .i - 1) (c .before .before .before .before .before .args .d)) ≡ true
-passed c = sym (c .before .difference-fits-at .ensures) ∙ not-false _ (c .if1 .left)
+passed c = sym (c .before .difference-fits-at .ensures .0) ∙ not-false _ (c .if1 .left)
 
 subtract-at-requires : tie.Need-subtract-at-requires Inv-loop μ-loop
 subtract-at-requires c κs = (omega arith, omega arith, range-fits _ (passed (c .before)))
@@ -56,7 +56,8 @@ loop-again c =
     (down-turn (c .before .before .before .before .before .before .before .loop .inv)
     (c .before .before .before .before .before .before .before .before .pre .0)
     (c .before .before .before .before .before .before .loop-test .taken)
-    (passed (c .before .before .before)))
+    (passed (c .before .before .before))
+    (c .before .before .before .before .difference-fits-at .ensures .1))
 
 same-length-2 : tie.Need-same-length-2 Inv-loop μ-loop
 same-length-2 c = c .before .loop .inv .split .len

@@ -4,7 +4,7 @@ use mathlib.Core.Path.{_∙_, ap}
 use Prim.Native.Nat.{_-_}
 use lib.ListN.{getD}
 use Rattle.definitions.specs.Integers.{0ℤ}
-use Rattle.definitions.specs.Steps.{inRange, largest}
+use Rattle.definitions.specs.Steps.{inRange, largest, entries}
 use Rattle.step_laws.specs.Machine.{seen-⊝}
 use Rattle.steps.proofs.difference_fits_at.Statement.{statement}
 use Rattle.steps.proofs.difference_fits_at.Tie as tie
@@ -28,11 +28,14 @@ difference-fits-requires : tie.Need-difference-fits-requires
 difference-fits-requires c κs = search needs
 
 returns : tie.Need-returns
+unfolding entries
 returns c =
-    let p = c .before .before .before .args in
-    c .difference-fits .ensures
-    ∙ ap (inRange largest)
-    (seen-⊝ (getD (p .a .now) (p .i) 0ℤ) (getD (p .a .now) (p .i - p .d) 0ℤ) (c .before .before .difference-fits-arg .given) (c .before .difference-fits-arg2 .given))
+    let p = c .before .before .before .args in (
+      c .difference-fits .ensures
+          ∙ ap (inRange largest)
+          (seen-⊝ (getD (p .a .now) (p .i) 0ℤ) (getD (p .a .now) (p .i - p .d) 0ℤ) (c .before .before .difference-fits-arg .given) (c .before .difference-fits-arg2 .given)),
+      record { sfits = c .before .before .difference-fits-arg .given },
+    )
 
 pub difference-fits-at-spec : {M : Type 1} → statement M
 difference-fits-at-spec =
