@@ -3,3 +3,4 @@ pub mod Split
 pub mod Below
 pub mod Turns
 pub mod Whole
+pub mod OneOutcome
