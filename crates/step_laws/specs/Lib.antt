@@ -1,0 +1,9 @@
+-- Laws of document 01's steps (crate `definitions`), for whoever proves code that takes them.
+pub mod Tests
+pub mod Firsts
+pub mod Outside
+pub mod Summed
+pub mod Step
+pub mod Told
+pub mod Signed
+pub mod Machine

@@ -1,0 +1,73 @@
+-- `steps::Step::apply` meets its contract: each way out is one of the ways that a step can go (`Told`).
+use mathlib.Core.Path.{_≡_, _∙_, ap}
+use mathlib.Core.Bool.{Bool, true, false, not, cond}
+use mathlib.Core.List.{List}
+use Prim.Native.Nat.{ℕ, _≤_, _-_}
+use native.Mathlib.Omega.{arith}
+use borrow.Author.Needs.{needs}
+use lib.ListN.{length}
+use lib.IntN.{ℤ}
+use Rattle.definitions.specs.Codes.{DONE, OVER}
+use Rattle.definitions.specs.Steps.{Sort, largest, stepCode, stepCount, stepLeaves, stepList}
+use Rattle.step_laws.specs.Step.{length-stepList}
+use Rattle.step_laws.specs.Told.{Told, told-zero, told-large, told-over, told-done, told-long}
+use Rattle.steps.specs.Passes.{Taken}
+use Rattle.steps.proofs.Step.apply.Statement.{statement}
+use Rattle.steps.proofs.Step.apply.Tie as tie
+
+-- the contract's three clauses
+clauses : {s : Sort} {d : ℕ} {l : List ℤ} {code count : ℕ} {m : List ℤ} → Told largest s d l code count m → (code ≡ stepCode largest s d l) × ((count ≡ stepCount largest s d l) × (m ≡ stepLeaves largest s d l))
+clauses t = (t .code, (t .count, t .leaves))
+
+module _ {s : Sort} {d : ℕ} {l m : List ℤ} {r : Bool} (t : Taken s d l m r) (one : 1 ≤ d) (most : d ≤ 65535) where
+  -- a step that was taken, and one that was not
+  done : r ≡ true → Told largest s d l DONE (length m - d) m
+  done e =
+      let is : m ≡ stepList s d l = t .leaves ∙ ap (λ b. cond b (stepList s d l) l) e in
+      rw (is, length-stepList s d l) (told-done largest s d l one most (t .over ∙ ap not e))
+
+  refused : r ≡ false → Told largest s d l OVER 0 m
+  refused e =
+      let is : m ≡ l = t .leaves ∙ ap (λ b. cond b (stepList s d l) l) e in
+      rw is (told-over largest s d l one most (t .over ∙ ap not e))
+
+returns : tie.Need-returns
+returns c = clauses (told-zero largest _ (c .before .args .self .size) (c .before .args .a .now) (c .if1 .taken))
+
+returns-2 : tie.Need-returns-2
+returns-2 c = clauses (told-large largest _ (c .before .before .args .self .size) (c .before .before .args .a .now) (c .if2 .taken))
+
+returns-3 : tie.Need-returns-3
+returns-3 c = clauses (told-long largest _ (c .before .before .before .args .self .size) (c .before .before .before .args .a .now) (omega arith) (c .before .if2 .left) (c .if3 .taken))
+
+taken-requires : tie.Need-taken-requires
+taken-requires c κs = search needs
+
+sub-count : tie.Need-sub-count
+sub-count c = search needs
+
+same-length : tie.Need-same-length
+same-length c = search needs
+
+returns-4 : tie.Need-returns-4
+returns-4 c = clauses (done (c .before .before .taken .ensures) (omega arith) (c .before .before .before .before .before .if2 .left) (c .if4 .taken))
+
+same-length-2 : tie.Need-same-length-2
+same-length-2 c = search needs
+
+returns-5 : tie.Need-returns-5
+returns-5 c = clauses (refused (c .before .before .taken .ensures) (omega arith) (c .before .before .before .before .before .if2 .left) (c .if4 .left))
+
+pub apply-spec : {M : Type 1} → statement M
+apply-spec =
+    tie.close
+    (tie.spec
+    returns
+    returns-2
+    returns-3
+    taken-requires
+    sub-count
+    same-length
+    returns-4
+    same-length-2
+    returns-5)
