@@ -7,3 +7,5 @@ pub mod Signs
 pub mod Mirrors
 pub mod Apart
 pub mod Terms
+pub mod Kept
+pub mod Worked

@@ -79,12 +79,16 @@ cond-both : (b : Bool) (f g : Series) → cond b (f · g) 𝟙 ≡ cond b f 𝟙
 cond-both true f g = refl
 cond-both false f g = sym (·-one 𝟙)
 
+pub divisors-both : (n : ℕ) (g h : ℕ → Series) (k : ℕ) → productTo k (atDivisors n g) · productTo k (atDivisors n h) ≡ productTo k (atDivisors n (λ d. g d · h d))
+unfolding atDivisors
+divisors-both n g h k =
+    ap₂ _·_ (product-fold k (atDivisors n g)) (product-fold k (atDivisors n h))
+    ∙ sym (fold-both times (atDivisors n g) (atDivisors n h) k)
+    ∙ sym (product-same k (λ d l u. cond-both (divides d n) (g d) (h d)) ∙ product-fold k _)
+
 pub over-both : (n : ℕ) (g h : ℕ → Series) → overDivisors n (λ d. g d · h d) ≡ overDivisors n g · overDivisors n h
-unfolding overDivisors atDivisors
-over-both n g h =
-    product-same n (λ d l u. cond-both (divides d n) (g d) (h d))
-    ∙ product-fold n _ ∙ fold-both times (atDivisors n g) (atDivisors n h) n
-    ∙ sym (ap₂ _·_ (product-fold n (atDivisors n g)) (product-fold n (atDivisors n h)))
+unfolding overDivisors
+over-both n g h = sym (divisors-both n g h n)
 
 -- ---- F at n p
 pub prime-more : (p : ℕ) → Prime p → (n : ℕ) → 0 < n → F (n * p) · unlessDivides p F n ≡ spread p (F n)

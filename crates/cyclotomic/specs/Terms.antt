@@ -133,7 +133,7 @@ cond-same : (b : Bool) (f g : Series) → (b ≡ true → f ≡ g) → cond b f 
 cond-same true f g e = e refl
 cond-same false f g e = refl
 
-over-same : (n : ℕ) {g h : ℕ → Series} → ((d : ℕ) → 0 < d → d ∣ n → g d ≡ h d) → (k : ℕ) → productTo k (atDivisors n g) ≡ productTo k (atDivisors n h)
+pub over-same : (n : ℕ) {g h : ℕ → Series} → ((d : ℕ) → 0 < d → d ∣ n → g d ≡ h d) → (k : ℕ) → productTo k (atDivisors n g) ≡ productTo k (atDivisors n h)
 unfolding atDivisors
 over-same n {g} {h} e k = product-same k (λ d l u. cond-same (divides d n) (g d) (h d) (λ t. e d l (yes-divides d n t)))
 
@@ -141,7 +141,7 @@ cond-one : (b : Bool) → cond b 𝟙 𝟙 ≡ 𝟙
 cond-one true = refl
 cond-one false = refl
 
-over-ones : (n k : ℕ) → productTo k (atDivisors n (λ d. 𝟙)) ≡ 𝟙
+pub over-ones : (n k : ℕ) → productTo k (atDivisors n (λ d. 𝟙)) ≡ 𝟙
 unfolding atDivisors
 over-ones n k = product-fold k (λ d. cond (divides d n) 𝟙 𝟙) ∙ fold-units times k (λ d l u. cond-one (divides d n))
 
