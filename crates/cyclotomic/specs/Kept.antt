@@ -19,6 +19,7 @@ use Rattle.definitions.specs.Series.{Series, constant, 𝟙, _+ˢ_, -ˢ, _·_, 
 use Rattle.definitions.specs.Numbers.{divides, listTo, divisorsBelow, muIsPlus, phi}
 use Rattle.definitions.specs.Polynomials.{productTo, atDivisors, overDivisors, z^-1, F, I, polynomial, degree}
 use Rattle.definitions.specs.Steps.{Sort, comb, accumulate, stepped, combed, accumulated, entries, stepList}
+use Rattle.definitions.specs.Requests.{nextDivisor}
 use Rattle.definitions.specs.KeptHalf.{halfDegree, sortOf, termOf, term, start, productOf, keptSeries, keptHalf}
 use Rattle.integers.specs.Solver.{:1, _:+_, _:*_, :-, x, y, z}
 use Rattle.series.specs.Laws.{agree-mul, ·-assoc, ·-comm, ·-one, one-·, ringˢ}
@@ -159,10 +160,6 @@ step-firsts s d l n f =
     ∙ firsts-same n (stepped s d (λ i. getD (firsts n f) i 0ℤ)) (termOf s d · f)
     (λ i b. ap (λ q. q i) (step-term s d l (λ i. getD (firsts n f) i 0ℤ))
     ∙ agree-mul i (termOf s d) (λ i. getD (firsts n f) i 0ℤ) f (λ j c. getD-firsts n f j (omega arith)))
-
--- the divisor after the first j
-unfoldable pub nextDivisor : ℕ → ℕ → ℕ
-nextDivisor r j = getD (divisorsBelow r) j 0
 
 pub kept-next : (kind r j : ℕ) → j < length (divisorsBelow r) → keptSeries kind r (suc j) ≡ term kind r (nextDivisor r j) · keptSeries kind r j
 unfolding keptSeries nextDivisor productOf

@@ -7,3 +7,4 @@ pub mod Codes
 pub mod Steps
 pub mod KeptHalf
 pub mod Answer
+pub mod Requests

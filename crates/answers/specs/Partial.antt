@@ -1,0 +1,44 @@
+-- The partial request (document 01, 'The steps on the lower half'): kind, index n, a number j of divisors, and a buffer of so many entries.
+use Prim.Native.Nat.{ℕ, _+_, _-_}
+use mathlib.Core.Bool.{cond, not, _||_}
+use mathlib.Core.List.{List}
+use lib.ListN.{length}
+use lib.Dec.{eqb, ltb, leb}
+use lib.IntN.{ℤ}
+use Rattle.definitions.specs.Codes.{DONE, KIND, INDEX, SHORT, OVER, STEP}
+use Rattle.definitions.specs.Numbers.{rOf}
+use Rattle.definitions.specs.Steps.{largest}
+use Rattle.definitions.specs.KeptHalf.{halfDegree, keptHalf, additionsAfter}
+use Rattle.definitions.specs.Requests.{knownKind, goodIndex, divisorsDue, overAmong, written, zeros}
+use Rattle.answers.specs.declared.Stop.{Stop}
+
+-- the refusals in their order: KIND, INDEX (also where r is 1), STEP, SHORT, OVER
+unfoldable pub code : ℕ → ℕ → ℕ → ℕ → ℕ
+code kind n j room =
+    cond (not (knownKind kind)) KIND
+    (cond (not (goodIndex n) || eqb (rOf n) 1) INDEX
+    (cond (ltb (divisorsDue (rOf n)) j) STEP
+    (cond (leb room (halfDegree kind (rOf n))) SHORT
+    (cond (overAmong largest kind (rOf n) j) OVER DONE))))
+
+-- SHORT and OVER tell D; additions and divisors due are 0 on every refusal
+unfoldable pub answered : ℕ → ℕ → ℕ → ℕ → Stop
+answered kind n j code =
+    record {
+      code = code;
+      degree = cond (eqb code DONE || eqb code SHORT || eqb code OVER) (halfDegree kind (rOf n)) 0;
+      additions = cond (eqb code DONE) (additionsAfter kind (rOf n) j) 0;
+      due = cond (eqb code DONE) (divisorsDue (rOf n) - j) 0;
+    }
+
+unfoldable pub answer : ℕ → ℕ → ℕ → ℕ → Stop
+answer kind n j room = answered kind n j (code kind n j room)
+
+-- entries 0 to D: the kept half after j divisors on code 0, zeros on OVER; later entries are untouched
+unfoldable pub left : ℕ → ℕ → ℕ → ℕ → List ℤ → List ℤ
+left kind n j code l =
+    cond (eqb code DONE) (written (keptHalf kind (rOf n) j) l)
+    (cond (eqb code OVER) (written (zeros (halfDegree kind (rOf n) + 1)) l) l)
+
+unfoldable pub leaves : ℕ → ℕ → ℕ → List ℤ → List ℤ
+leaves kind n j l = left kind n j (code kind n j (length l)) l
