@@ -1,0 +1,2 @@
+// The requests: the partial one and the polynomial one.
+mod shape;
