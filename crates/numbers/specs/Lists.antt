@@ -59,6 +59,10 @@ module _ (q : ℕ → Bool) where
   unfolding listTo
   list-yes k e = ap (λ b. listTo k q ++ cond b (suc k ∷ []) []) e
 
+  pub list-no : (k : ℕ) → q (suc k) ≡ false → listTo (suc k) q ≡ listTo k q
+  unfolding listTo
+  list-no k e = ap (λ b. listTo k q ++ cond b (suc k ∷ []) []) e ∙ append-nil (listTo k q)
+
   pub list-length : (k : ℕ) → length (listTo k q) ≡ countTo k q
   list-length =
       by-listed q (λ k l. length l ≡ countTo k q) (sym (count-zero q))

@@ -1,0 +1,80 @@
+// n taken apart: its distinct odd primes by trial division, r, m, t and phi; and the walk over the divisors of r.
+ghost use Prim.Native.Nat.{ℕ, _+_, _*_, _-_, _%_, _<_, _≤_, _∣_};
+ghost use mathlib.Core.Path.{_≡_};
+ghost use mathlib.Core.Logic.{_≢_};
+ghost use Rattle.numbers.specs.Primes.{Prime};
+ghost use Rattle.index.specs.Held.{withPrime, apartOf, Without, Sifted};
+
+// The distinct odd primes found so far, ascending, with zeros after them; how many; their product, and how many
+// numbers up to it share no factor with it.
+pub struct Odd {
+    pub primes: [u64; 5],
+    pub count: usize,
+    pub product: u64,
+    pub free: u64,
+}
+
+// The primes found, and what is left of n.
+pub struct Sieve {
+    pub odd: Odd,
+    pub rest: u64,
+}
+
+// n taken apart. `free` is phi(r), and `phi` is phi(n).
+pub struct Apart {
+    pub primes: [u64; 5],
+    pub count: usize,
+    pub r: u64,
+    pub m: u64,
+    pub t: u64,
+    pub free: u64,
+    pub phi: u64,
+}
+
+impl Odd {
+    // one prime more
+    fn with(self, p: u64) -> Odd
+        requires { ⌜ (self .count < 5) × (self .product * p ≤ 65535) × (self .free * (p - 1) ≤ 65535) × (0 < p) ⌝ }
+        ensures { λ x. ⌜ x ≡ withPrime self p ⌝ }
+    {
+        let mut primes = self.primes;
+        let count = self.count;
+        primes[count] = p;
+        Odd {
+            primes,
+            count: count + 1,
+            product: self.product * p,
+            free: self.free * (p - 1),
+        }
+    }
+}
+
+// n with its factors p taken out
+fn without(n: u64, p: u64) -> u64
+    requires { ⌜ (0 < n) × Prime p ⌝ }
+    ensures { λ x. ⌜ Without n p x ⌝ }
+{
+    let mut rest = n;
+    while rest % p == 0 {
+        rest = rest / p;
+    }
+    rest
+}
+
+impl Sieve {
+    // p looked at, when the primes below it are found
+    fn sift(self, n: u64, p: u64) -> Sieve
+        requires { ⌜ (0 < n) × (n ≤ 65535) × (2 < p) × Sifted n (p - 1) self ⌝ }
+        ensures { λ s. ⌜ Sifted n p s ⌝ }
+    {
+        let rest = self.rest;
+        if rest % p == 0 {
+            let odd = self.odd;
+            return Sieve {
+                odd: odd.with(p),
+                rest: without(rest, p),
+            };
+        }
+        self
+    }
+}
