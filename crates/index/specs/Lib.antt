@@ -1,3 +1,4 @@
 -- What the code of this crate is held to: n taken apart, and the walk over the divisors of r.
 pub mod Held
+pub mod Odds
 pub mod Sifting

@@ -3,7 +3,7 @@ ghost use Prim.Native.Nat.{ℕ, _+_, _*_, _-_, _%_, _<_, _≤_, _∣_};
 ghost use mathlib.Core.Path.{_≡_};
 ghost use mathlib.Core.Logic.{_≢_};
 ghost use Rattle.numbers.specs.Primes.{Prime};
-ghost use Rattle.index.specs.Held.{withPrime, apartOf, Without, Sifted};
+ghost use Rattle.index.specs.Held.{withPrime, oddTo, apartOf, Without, Sifted};
 
 // The distinct odd primes found so far, ascending, with zeros after them; how many; their product, and how many
 // numbers up to it share no factor with it.
@@ -77,4 +77,32 @@ impl Sieve {
         }
         self
     }
+}
+
+// The odd primes of n: trial division by 3, 4, 5, .. (a number that is no prime divides nothing that is left) as long as its square
+// is at most what is left; what is left then is 1 or the last prime.
+fn odd_primes(n: u64) -> Odd
+    requires { ⌜ (0 < n) × (n ≤ 65535) ⌝ }
+    ensures { λ x. ⌜ x ≡ oddTo n n ⌝ }
+{
+    let mut s = Sieve {
+        odd: Odd {
+            primes: [0; 5],
+            count: 0,
+            product: 1,
+            free: 1,
+        },
+        rest: without(n, 2),
+    };
+    let mut p: u64 = 3;
+    while p * p <= s.rest {
+        s = s.sift(n, p);
+        p += 1;
+    }
+    let odd = s.odd;
+    let rest = s.rest;
+    if 1 < rest {
+        return odd.with(rest);
+    }
+    odd
 }
