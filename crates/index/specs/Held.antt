@@ -1,8 +1,8 @@
 -- n taken apart, as the code holds it: the odd primes of n in ascending order in five places, with zeros after the last.
-use Prim.Native.Nat.{ℕ, zero, suc, _+_, _*_, _-_, _≤_, _<_, _∣_}
+use Prim.Native.Nat.{ℕ, _+_, _*_, _-_, _<_, _∣_}
 use mathlib.Core.Path.{_≡_}
 use mathlib.Core.Logic.{_≢_}
-use mathlib.Core.List.{List, [], _∷_, _++_}
+use mathlib.Core.List.{List, _++_}
 use lib.ListN.{length, replicate, set}
 use Rattle.definitions.specs.Numbers.{oddPrimeOf, countTo, listTo, productOfTo, phi, rOf, kOf, mOf, tOf}
 use Rattle.numbers.specs.Primes.{Prime}

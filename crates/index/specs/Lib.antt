@@ -2,3 +2,4 @@
 pub mod Held
 pub mod Odds
 pub mod Sifting
+pub mod Whole

@@ -2,9 +2,9 @@
 -- where no more follow they are all of them.
 use Prim.Native.Nat.{ℕ, zero, suc, _+_, _*_, _-_, _≤_, _<_, _∣_}
 use mathlib.Core.Path.{_≡_, refl, sym, ap, _∙_}
-use mathlib.Core.Bool.{Bool, true, false}
+use mathlib.Core.Bool.{true, false}
 use mathlib.Core.List.{List, [], _∷_, _++_, append-assoc}
-use native.Mathlib.Nat.{add-zero, add-suc, add-comm, le-of-dvd, le-trans, not-le-of-lt, dvd-trans, add-sub-of-le}
+use native.Mathlib.Nat.{add-zero, add-suc, add-comm, le-of-dvd, le-trans, not-le-of-lt, add-sub-of-le}
 use native.Mathlib.Omega.{arith}
 use lib.ListN.{length, replicate, set, length-append}
 use lib.Seq.{set-append-seam}

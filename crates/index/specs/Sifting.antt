@@ -1,10 +1,10 @@
 -- The trial division, step by step: factors taken out of n; the primes found up to k and what is left, at k + 1; and what is left when
 -- p p is more: 1, or the last prime.
-use Prim.Native.Nat.{ℕ, zero, suc, _+_, _*_, _-_, _/_, _%_, _≤_, _<_, _∣_}
-use mathlib.Core.Path.{_≡_, refl, sym, subst, ap, _∙_}
+use Prim.Native.Nat.{ℕ, suc, _+_, _*_, _-_, _/_, _%_, _≤_, _<_, _∣_}
+use mathlib.Core.Path.{_≡_, sym, subst, ap, _∙_}
 use mathlib.Core.Logic.{_≢_, _⊎_, inl, inr, ⊎-elim}
 use mathlib.Core.Bool.{true, false}
-use mathlib.Core.List.{List, [], _∷_}
+use mathlib.Core.List.{[], _∷_}
 use native.Mathlib.Decide.{ℕ-discrete}
 use native.Mathlib.Nat.{eq-or-lt-of-le, one-mul, le-trans, not-le-of-lt, mul-le-mul, add-sub-of-le, dvd-antisymm, le-antisymm, le-of-dvd, pos-of-dvd-of-pos, dvd-refl, dvd-trans, dvd-of-mod-eq-zero, mod-eq-zero-of-dvd, div-mul-cancel}
 use native.Mathlib.Omega.{arith}

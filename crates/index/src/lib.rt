@@ -1,7 +1,10 @@
 // n taken apart: its distinct odd primes by trial division, r, m, t and phi; and the walk over the divisors of r.
 ghost use Prim.Native.Nat.{ℕ, _+_, _*_, _-_, _%_, _<_, _≤_, _∣_};
 ghost use mathlib.Core.Path.{_≡_};
+ghost use mathlib.Core.Bool.{cond};
+ghost use lib.Dec.{eqb};
 ghost use mathlib.Core.Logic.{_≢_};
+ghost use Rattle.definitions.specs.Numbers.{divides};
 ghost use Rattle.numbers.specs.Primes.{Prime};
 ghost use Rattle.index.specs.Held.{withPrime, oddTo, apartOf, Without, Sifted};
 
@@ -105,4 +108,40 @@ fn odd_primes(n: u64) -> Odd
         return odd.with(rest);
     }
     odd
+}
+
+// m: r where n is odd, 2 r where it is even
+fn base(n: u64, r: u64) -> u64
+    requires { ⌜ r ≤ 65535 ⌝ }
+    ensures { λ x. ⌜ x ≡ cond (divides 2 n) (2 * r) r ⌝ }
+{
+    if n % 2 == 0 { 2 * r } else { r }
+}
+
+pub fn take_apart(n: u64) -> Apart
+    requires { ⌜ (0 < n) × (n ≤ 65535) ⌝ }
+    ensures { λ x. ⌜ x ≡ apartOf n ⌝ }
+{
+    let odd = odd_primes(n);
+    let primes = odd.primes;
+    let r = odd.product;
+    let m = base(n, r);
+    let t = n / m;
+    Apart {
+        primes,
+        count: odd.count,
+        r,
+        m,
+        t,
+        free: odd.free,
+        phi: odd.free * t,
+    }
+}
+
+// The degree of the kind's polynomial, from phi.
+pub fn degree(kind: u64, n: u64, phi: u64) -> u64
+    requires { ⌜ phi ≤ n ⌝ }
+    ensures { λ x. ⌜ x ≡ cond (eqb kind 1) phi (n - phi) ⌝ }
+{
+    if kind == 1 { phi } else { n - phi }
 }

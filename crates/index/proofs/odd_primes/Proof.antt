@@ -1,6 +1,6 @@
 -- `odd_primes` meets its contract. The invariant: the odd primes of n below p are found, and those above are the primes of what is left.
 -- Where p p is more than that, it is 1 or the last prime (`Last`).
-use Prim.Native.Nat.{_+_, _-_, _*_, _≤_, _<_}
+use Prim.Native.Nat.{_-_, _≤_, _<_}
 use mathlib.Core.Path.{_∙_}
 use native.Mathlib.Nat.{le-of-dvd, le-trans, le-mul-of-pos-right, mul-le-mul, add-sub-cancel}
 use native.Mathlib.Omega.{arith}
@@ -9,8 +9,6 @@ use Rattle.index.specs.Held.{Sifted}
 use Rattle.index.specs.Sifting.{Last, last-of, sifted-start}
 use Rattle.index.proofs.odd_primes.Statement.{statement}
 use Rattle.index.proofs.odd_primes.Tie as tie
-use Rattle.index.proofs.odd_primes.Reads as reads
-use Rattle.index.proofs.odd_primes.Lts as lts
 
 abbrev Inv-loop : tie.InvT-loop
 Inv-loop n s₀ p₀ s p = (2 < p) × (p ≤ 65536) × Sifted n (p - 1) s

@@ -5,8 +5,6 @@ use Rattle.index.specs.Held.{Taking}
 use Rattle.index.specs.Sifting.{taking-start, taking-step}
 use Rattle.index.proofs.without.Statement.{statement}
 use Rattle.index.proofs.without.Tie as tie
-use Rattle.index.proofs.without.Reads as reads
-use Rattle.index.proofs.without.Lts as lts
 
 abbrev Inv-loop : tie.InvT-loop
 Inv-loop n p rest₀ rest = Taking n p rest

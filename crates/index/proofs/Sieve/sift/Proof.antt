@@ -5,8 +5,6 @@ use Rattle.index.specs.Sifting.{Look, look-at}
 use Prim.Native.Nat.{_-_}
 use Rattle.index.proofs.Sieve.sift.Statement.{statement}
 use Rattle.index.proofs.Sieve.sift.Tie as tie
-use Rattle.index.proofs.Sieve.sift.Reads as reads
-use Rattle.index.proofs.Sieve.sift.Lts as lts
 
 rem-if1 : tie.Need-rem-if1
 rem-if1 c = search needs
