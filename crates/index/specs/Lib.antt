@@ -3,3 +3,4 @@ pub mod Held
 pub mod Odds
 pub mod Sifting
 pub mod Whole
+pub mod Masks
