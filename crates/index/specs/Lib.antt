@@ -4,3 +4,4 @@ pub mod Odds
 pub mod Sifting
 pub mod Whole
 pub mod Masks
+pub mod Rows

@@ -1,7 +1,7 @@
 -- The list of those of 1, .., k that have a property: its length is their count, its members are they, it ascends, and its first
 -- entries are the list up to a smaller bound. Also the sum over such a list.
 use Prim.Native.Nat.{ℕ, zero, suc, _+_, _*_, _-_, _≤_, _<_}
-use mathlib.Core.Path.{_≡_, refl, sym, ap, _∙_}
+use mathlib.Core.Path.{_≡_, refl, sym, ap, ap₂, _∙_}
 use mathlib.Core.Bool.{Bool, true, false, cond}
 use mathlib.Core.Logic.{_⊎_, inl, inr, ⊎-elim}
 use mathlib.Core.List.{List, [], _∷_, _++_, map, append-nil, map-append, List·Memᴰ, List·Memᴰ·head, List·Memᴰ·append-cases, List·Memᴰ·eq-of-singleton, List·Memᴰ·not-nil, Memᴰ·append-left, Memᴰ·append-right}
@@ -54,6 +54,13 @@ unfolding sumOf
 sum-at-most f b h [] = omega arith
 sum-at-most f b h (x ∷ l) = omega (arith, h x, sum-at-most f b h l)
 
+pub list-same :
+    {q s : ℕ → Bool} (k : ℕ) → ((d : ℕ) → 0 < d → d ≤ k → q d ≡ s d) → listTo k q ≡ listTo k s
+unfolding listTo
+list-same zero e = refl
+list-same (suc k) e =
+    ap₂ (λ l b. l ++ cond b (suc k ∷ []) []) (list-same k (λ d a b. e d a (omega arith))) (e (suc k) (omega arith) (omega arith))
+
 module _ (q : ℕ → Bool) where
   pub list-yes : (k : ℕ) → q (suc k) ≡ true → listTo (suc k) q ≡ listTo k q ++ (suc k ∷ [])
   unfolding listTo
@@ -68,6 +75,18 @@ module _ (q : ℕ → Bool) where
       by-listed q (λ k l. length l ≡ countTo k q) (sym (count-zero q))
       (λ k e ih. rw (count-yes q k e) (length-append (listTo k q) (suc k ∷ []) ∙ ap (λ x. x + 1) ih))
       (λ k e ih. rw (count-no q k e) ih)
+
+  -- a list goes no further where no number more has the property
+  list-further-add :
+      (m j : ℕ) → ((d : ℕ) → m < d → d ≤ m + j → q d ≡ false) → listTo (m + j) q ≡ listTo m q
+  list-further-add m zero e = ap (λ x. listTo x q) (add-zero m)
+  list-further-add m (suc j) e =
+      ap (λ x. listTo x q) (add-suc m j)
+      ∙ (list-no (m + j) (e (suc (m + j)) (omega arith) (omega arith)) ∙ list-further-add m j (λ d a b. e d a (omega arith)))
+
+  pub list-further : (m k : ℕ) → m ≤ k → ((d : ℕ) → m < d → d ≤ k → q d ≡ false) → listTo k q ≡ listTo m q
+  list-further m k l e =
+      rw (add-sub-of-le l) at (list-further-add m (k - m) (λ d a b. e d a (rw (add-sub-of-le l) at b)))
 
   -- a number of 1, .., k that has the property
   abbrev Has : ℕ → ℕ → Type 0
