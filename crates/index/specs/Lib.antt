@@ -5,3 +5,5 @@ pub mod Sifting
 pub mod Whole
 pub mod Masks
 pub mod Rows
+pub mod Least
+pub mod Searching

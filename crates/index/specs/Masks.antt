@@ -50,12 +50,12 @@ rowTo l zero = 1
 rowTo l (suc i) = rowTo l i * getD l i 0
 
 module _ (l : List ℕ) where
-  mask-suc : (m i : ℕ) → maskTo l m (suc i) ≡ maskTo l m i * cond (eqb (bit m i) 1) (getD l i 0) 1
+  pub mask-suc : (m i : ℕ) → maskTo l m (suc i) ≡ maskTo l m i * cond (eqb (bit m i) 1) (getD l i 0) 1
   unfolding maskTo
   mask-suc m i = refl
 
   -- a mask below 2^i has no bit i
-  mask-off : (m i : ℕ) → m < 2 ^ i → maskTo l m (suc i) ≡ maskTo l m i
+  pub mask-off : (m i : ℕ) → m < 2 ^ i → maskTo l m (suc i) ≡ maskTo l m i
   mask-off m i u =
       mask-suc m i
       ∙ (ap (λ b. maskTo l m i * cond (eqb (b % 2) 1) (getD l i 0) 1) (div-eq-of-lt u) ∙ mul-one (maskTo l m i))

@@ -3,7 +3,34 @@ ghost use Prim.Native.Nat.{ℕ, _+_, _*_, _-_, _^_, _<_, _≤_};
 ghost use mathlib.Core.Path.{_≡_};
 ghost use mathlib.Core.Bool.{cond};
 ghost use lib.Dec.{eqb};
-ghost use Rattle.index.specs.Masks.{bit};
+ghost use Rattle.index.specs.Masks.{bit, maskTo, rowTo};
+ghost use Rattle.index.specs.Least.{Row, LeastTo, orNamed};
+
+// A divisor: the set of its primes, and its size.
+pub struct Named {
+    pub mask: u32,
+    pub size: u64,
+}
+
+// The walk: the primes of r in five places, how many, r, the divisor taken last (0 before the first) and how many are still due.
+pub struct Walk {
+    pub primes: [u64; 5],
+    pub count: usize,
+    pub r: u64,
+    pub last: u64,
+    pub due: u64,
+}
+
+// The next divisor d, and whether mu(r/d) is +1; or none is left.
+pub enum Next {
+    Divisor { size: u64, plus: bool },
+    Nothing,
+}
+
+pub struct Turn {
+    pub next: Next,
+    pub walk: Walk,
+}
 
 // p where bit i of the mask is a one, else 1
 fn chosen(mask: u32, i: usize, p: u64) -> u64
@@ -19,4 +46,48 @@ fn full(count: usize) -> u32
     ensures { λ x. ⌜ x ≡ 2 ^ count - 1 ⌝ }
 {
     (1u32 << count) - 1
+}
+
+// the product of the primes of a mask
+fn product(primes: [u64; 5], count: usize, mask: u32) -> u64
+    requires { ⌜ Row primes count ⌝ }
+    ensures { λ x. ⌜ x ≡ maskTo primes mask count ⌝ }
+{
+    let mut size: u64 = 1;
+    let mut i: usize = 0;
+    while i < count {
+        size = size * chosen(mask, i, primes[i]);
+        i += 1;
+    }
+    size
+}
+
+impl Named {
+    // the smaller of two, if it is above `after`
+    fn or(self, mask: u32, size: u64, after: u64) -> Named
+        ensures { λ x. ⌜ x ≡ orNamed self mask size after ⌝ }
+    {
+        if after < size {
+            if size < self.size {
+                return Named { mask, size };
+            }
+        }
+        self
+    }
+}
+
+// the least divisor above `after`, which is below r
+fn least(primes: [u64; 5], count: usize, r: u64, after: u64) -> Named
+    requires { ⌜ Row primes count × (r ≡ rowTo primes count) × (after < r) ⌝ }
+    ensures { λ x. ⌜ LeastTo primes count after (2 ^ count) x ⌝ }
+{
+    let all = full(count);
+    let mut best = Named { mask: all, size: r };
+    let mut mask: u32 = 0;
+    while mask < all {
+        let size = product(primes, count, mask);
+        best = best.or(mask, size, after);
+        mask += 1;
+    }
+    best
 }
