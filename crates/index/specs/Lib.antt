@@ -7,3 +7,5 @@ pub mod Masks
 pub mod Rows
 pub mod Least
 pub mod Searching
+pub mod Walks
+pub mod Walking

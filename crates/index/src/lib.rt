@@ -1,5 +1,5 @@
 // n taken apart: its distinct odd primes by trial division, r, m, t and phi; and the walk over the divisors of r.
-mod walk;
+pub mod walk;
 
 ghost use Prim.Native.Nat.{ℕ, _+_, _*_, _-_, _%_, _<_, _≤_, _∣_};
 ghost use mathlib.Core.Path.{_≡_};

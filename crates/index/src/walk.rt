@@ -1,10 +1,12 @@
 // The divisors of r below r, one after the other in ascending order. A divisor is named by the set of its primes, one bit for each.
+use crate::Apart;
 ghost use Prim.Native.Nat.{ℕ, _+_, _*_, _-_, _^_, _<_, _≤_};
 ghost use mathlib.Core.Path.{_≡_};
 ghost use mathlib.Core.Bool.{cond};
 ghost use lib.Dec.{eqb};
 ghost use Rattle.index.specs.Masks.{bit, maskTo, rowTo};
 ghost use Rattle.index.specs.Least.{Row, LeastTo, orNamed};
+ghost use Rattle.index.specs.Walks.{overApart, Stands, turnOf};
 
 // A divisor: the set of its primes, and its size.
 pub struct Named {
@@ -90,4 +92,54 @@ fn least(primes: [u64; 5], count: usize, r: u64, after: u64) -> Named
         mask += 1;
     }
     best
+}
+
+impl Walk {
+    // the walk at its start
+    pub fn over(a: Apart) -> Walk
+        requires { ⌜ a .count ≤ 5 ⌝ }
+        ensures { λ w. ⌜ w ≡ overApart a ⌝ }
+    {
+        let primes = a.primes;
+        let count = a.count;
+        Walk {
+            primes,
+            count,
+            r: a.r,
+            last: 0,
+            due: full(count) as u64,
+        }
+    }
+
+    // the next divisor, and the walk after it
+    pub fn next(self) -> Turn
+        requires { ⌜ Stands self ⌝ }
+        ensures { λ t. ⌜ t ≡ turnOf self ⌝ }
+    {
+        let due = self.due;
+        if due == 0 {
+            return Turn {
+                next: Next::Nothing,
+                walk: self,
+            };
+        }
+        let primes = self.primes;
+        let count = self.count;
+        let r = self.r;
+        let d = least(primes, count, r, self.last);
+        let others = u32::count_ones(full(count) - d.mask);
+        Turn {
+            next: Next::Divisor {
+                size: d.size,
+                plus: others % 2 == 0,
+            },
+            walk: Walk {
+                primes,
+                count,
+                r,
+                last: d.size,
+                due: due - 1,
+            },
+        }
+    }
 }
