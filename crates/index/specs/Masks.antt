@@ -1,38 +1,17 @@
 -- A divisor of p(0) p(1) .. p(k - 1), different primes, is named by the set of its primes, one bit for each. Every divisor has such a mask; the
 -- complement of a mask names the rest; and a mask has a one for each prime of what it names.
 use Prim.Native.Nat.{ℕ, zero, suc, _+_, _*_, _-_, _/_, _%_, _^_, _≤_, _<_, _∣_}
-use mathlib.Core.Path.{_≡_, refl, sym, ap, ap₂, subst, _∙_}
-use mathlib.Core.Bool.{Bool, true, false, cond}
+use mathlib.Core.Path.{_≡_, refl, sym, ap, ap₂, _∙_}
+use mathlib.Core.Bool.{cond}
 use mathlib.Core.List.{List}
 use mathlib.Core.Logic.{_⊎_, inl, inr, ⊎-elim}
-use native.Mathlib.Nat.{
-  mul-one,
-  add-comm,
-  mul-pos,
-  add-div-left,
-  mul-comm,
-  mul-assoc,
-  mul-right-comm,
-  one-mul,
-  pow-suc,
-  div-eq-of-lt,
-  div-mul-cancel,
-  mul-add-div-right,
-  mul-add-mod-self-right,
-  dvd-trans,
-  dvd-mul-right,
-  dvd-of-mul-dvd-mul-right,
-  eq-one-of-dvd-one,
-  pos-of-dvd-of-pos,
-  div-eq-of-eq-mul-right,
-  add-sub-of-le,
-}
+use native.Mathlib.Nat.{mul-one, add-comm, mul-pos, add-div-left, mul-assoc, mul-right-comm, one-mul, pow-suc, div-eq-of-lt, div-mul-cancel, mul-add-div-right, mul-add-mod-self-right, dvd-trans, dvd-mul-right, dvd-of-mul-dvd-mul-right, eq-one-of-dvd-one, pos-of-dvd-of-pos, div-eq-of-eq-mul-right}
 use native.Mathlib.Decide.{decDvd, decLt}
 use native.Mathlib.Omega.{arith}
 use lib.Dec.{eqb}
 use lib.ListN.{getD}
 use lib.Pow.{pow-pos, pow-add}
-use lib.Count.{ones, onesIn, ones-cat}
+use lib.Count.{ones, ones-cat}
 use Rattle.definitions.specs.Numbers.{primesOf, muIsPlus}
 use Rattle.numbers.specs.Primes.{Prime, prime-pos, divides-without}
 use Rattle.numbers.specs.HowMany.{primes-times, primes-one}

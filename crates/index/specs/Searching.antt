@@ -1,6 +1,6 @@
 -- The search for the next divisor, step by step: sizes stay small; the start is r itself; each mask is weighed; and at the end every mask was.
 use Prim.Native.Nat.{ℕ, zero, suc, _+_, _*_, _-_, _^_, _≤_, _<_}
-use mathlib.Core.Path.{_≡_, refl, sym, ap, ap₂, subst, _∙_}
+use mathlib.Core.Path.{_≡_, refl, sym, ap, ap₂, _∙_}
 use mathlib.Core.Bool.{Bool, true, false, cond, _&&_}
 use mathlib.Core.List.{List}
 use mathlib.Core.Logic.{_⊎_, inl, inr, ⊎-elim}
@@ -12,7 +12,7 @@ use lib.Dec.{ltb, eqb}
 use lib.ListN.{getD}
 use lib.Pow.{pow-pos}
 use Rattle.numbers.specs.Tests.{Tests, test-and, test-lt, refutes}
-use Rattle.numbers.specs.Primes.{Prime, prime-pos}
+use Rattle.numbers.specs.Primes.{prime-pos}
 use Rattle.index.specs.Masks.{maskTo, rowTo, mask-suc, mask-off, mask-complement, bit}
 use Rattle.index.specs.Least.{Row, LeastTo, orNamed}
 use Rattle.index.specs.declared.walk.Named.{Named}

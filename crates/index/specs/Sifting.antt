@@ -8,7 +8,7 @@ use mathlib.Core.List.{[], _∷_}
 use native.Mathlib.Decide.{ℕ-discrete}
 use native.Mathlib.Nat.{eq-or-lt-of-le, one-mul, le-trans, not-le-of-lt, mul-le-mul, add-sub-of-le, dvd-antisymm, le-antisymm, le-of-dvd, pos-of-dvd-of-pos, dvd-refl, dvd-trans, dvd-of-mod-eq-zero, mod-eq-zero-of-dvd, div-mul-cancel}
 use native.Mathlib.Omega.{arith}
-use Rattle.numbers.specs.Primes.{Prime, prime-divisor, prime-same, euclid, quotient-divides, quotient-pos}
+use Rattle.numbers.specs.Primes.{two-or-odd, Prime, prime-divisor, prime-same, euclid, quotient-divides, quotient-pos}
 use Rattle.index.specs.Held.{Taking, Without, Sifted, withPrime, oddTo}
 use Rattle.index.specs.declared.Odd.{Odd}
 use Rattle.index.specs.Odds.{odd-fields, odd-none, odd-more, odd-same, odd-further, odd-all}
@@ -65,9 +65,6 @@ module _ (n : ℕ) (l : 0 < n) (u : n ≤ 65535) (k : ℕ) (s : Sieve) (f : Sift
       let P : Prime (suc k) = next-prime a d in
       test-odd-prime n (suc k) .says ((P, dvd-trans (suc k) d (f .part)), f .above (suc k) P d .1)
 
-  no-odd : ¬ (suc k ∣ s .rest) → oddPrimeOf n (suc k) ≡ false
-  no-odd v = denies (test-odd-prime n (suc k)) (λ h. v (f .kept (suc k) (h .0 .0) (h .0 .1) (h .1) (omega arith)))
-
   found-hit :
       (o : Odd) (x : ℕ)
       → oddPrimeOf n (suc k) ≡ true
@@ -88,13 +85,15 @@ module _ (n : ℕ) (l : 0 < n) (u : n ≤ 65535) (k : ℕ) (s : Sieve) (f : Sift
           let other : q ≢ suc k = λ y. w .gone (rw y at d) in
           omega (arith, f .above q Q (dvd-trans q d (w .taking .part)) .0)
 
-  found-miss : ¬ (suc k ∣ s .rest) → Sifted n (suc k) s
-  found-miss v =
+  -- the next number is no prime of what is left
+  pub passed : (Prime (suc k) → ¬ (suc k ∣ s .rest)) → Sifted n (suc k) s
+  passed v =
       record {
-        found = f .found ∙ sym (odd-same n l u k (no-odd v));
+        found = f .found ∙ sym (odd-same n l u k (denies (test-odd-prime n (suc k)) (λ h. v (h .0 .0) (f .kept (suc k) (h .0 .0) (h .0 .1) (h .1) (omega arith)))));
         pos = f .pos;
         part = f .part;
-        above = λ q Q d. (let other : q ≢ suc k = λ y. v (rw y at d) in omega (arith, f .above q Q d .0), f .above q Q d .1);
+        above =
+            λ q Q d. (let other : q ≢ suc k = λ y. v (rw y at Q) (rw y at d) in omega (arith, f .above q Q d .0), f .above q Q d .1);
         kept = λ q Q d w a. f .kept q Q d w (omega arith);
       }
 
@@ -104,7 +103,7 @@ module _ (n : ℕ) (l : 0 < n) (u : n ≤ 65535) (k : ℕ) (s : Sieve) (f : Sift
         prime = λ e. next-prime a (dvd-of-mod-eq-zero (suc k) e);
         room = λ e. odd-fields n l u k (next-odd a (dvd-of-mod-eq-zero (suc k) e)) (s .odd) (f .found);
         hit = λ o x e. found-hit o x (next-odd a (dvd-of-mod-eq-zero (suc k) e));
-        miss = λ v. found-miss (λ d. v (mod-eq-zero-of-dvd (suc k) d));
+        miss = λ v. passed (λ P d. v (mod-eq-zero-of-dvd (suc k) d));
       }
 
 pub look-at :
@@ -113,6 +112,11 @@ look-at n l u p s a f = rw whole at (look n l u (p - 1) s f (omega arith))
   where
     whole : suc (p - 1) ≡ p
     whole = omega arith
+
+-- an even number above 2 is passed
+pub passed-even :
+    (n : ℕ) → 0 < n → n ≤ 65535 → (k : ℕ) (s : Sieve) → 2 < k → k % 2 ≡ 1 → Sifted n k s → Sifted n (suc k) s
+passed-even n l u k s a e f = passed n l u k s f (λ P d. ⊎-elim (λ y. omega arith) (λ y. omega arith) (two-or-odd P))
 
 -- 1 and 2 are no odd primes, so all the odd primes of n are those of n without its factors 2
 pub sifted-start :

@@ -1,42 +1,43 @@
 -- The walk goes right: the primes of r make a row; the least divisor above the one taken last stands at the next place; and so a turn is the
 -- definition's. Also the start, from n taken apart.
-use Prim.Native.Nat.{ℕ, zero, suc, _+_, _*_, _-_, _/_, _%_, _^_, _≤_, _<_, _∣_}
-use mathlib.Core.Path.{_≡_, refl, sym, ap, ap₂, subst, _∙_}
+use Prim.Native.Nat.{ℕ, zero, suc, _-_, _/_, _%_, _^_, _≤_, _<_, _∣_}
+use mathlib.Core.Path.{_≡_, sym, ap, ap₂, subst, _∙_}
 use mathlib.Core.List.{List}
-use mathlib.Core.Bool.{Bool, true, false, cond}
-use mathlib.Core.Logic.{_⊎_, inl, inr, ⊎-elim}
-use native.Mathlib.Nat.{le-refl, le-of-dvd, le-trans, le-of-eq, not-le-of-lt, eq-or-lt-of-le}
+use mathlib.Core.Bool.{Bool, false}
+use mathlib.Core.Logic.{⊎-elim}
+use native.Mathlib.Nat.{le-refl, le-of-dvd, eq-or-lt-of-le}
 use native.Mathlib.Omega.{arith}
-use lib.Dec.{eqb, ltb}
+use lib.Dec.{eqb}
 use lib.ListN.{length, getD}
 use lib.Count.{ones}
 use borrow.Author.Tests.{lt-ltb, le-ltb}
 use Rattle.definitions.specs.Numbers.{oddPrimeOf, countTo, listTo, divides, rOf, kOf, divisorsBelow, muIsPlus}
 use Rattle.numbers.specs.Tests.{divides-yes, divides-no}
-use Rattle.numbers.specs.Counts.{count-zero, count-further, count-yes}
-use Rattle.numbers.specs.Lists.{list-length, list-next, list-count, entry-has}
-use Rattle.numbers.specs.Apart.{OddSquarefree, r-own}
+use Rattle.numbers.specs.Counts.{count-zero, count-further}
+use Rattle.numbers.specs.Lists.{list-further, list-same, list-length, list-next, list-count, entry-has}
+use Rattle.numbers.specs.Apart.{OddSquarefree, r-own, r-divides, r-odd-squarefree}
+use Rattle.numbers.specs.HowMany.{k-of-r, r-same-primes, r-none-above}
 use Rattle.numbers.specs.AtMostFive.{k-at-most-5}
 use Rattle.numbers.specs.Below.{divisors-below}
-use Rattle.index.specs.Held.{padded}
+use Rattle.index.specs.Held.{padded, apartOf}
 use Rattle.index.specs.Masks.{maskTo, rowTo, mask-divides, divisor-mask, mask-mu}
 use Rattle.index.specs.Rows.{entry-new, row-r}
 use Rattle.index.specs.Least.{Row, LeastTo}
-use Rattle.index.specs.Walks.{divisorAt, lastOf, walkAt, turnAt, taken, Stands}
+use Rattle.index.specs.Walks.{divisorAt, lastOf, walkAt, turnAt, taken, Stands, overApart}
 use Rattle.index.specs.declared.walk.Named.{Named}
 use Rattle.index.specs.declared.walk.Walk.{Walk}
 use Rattle.index.specs.declared.walk.Turn.{Turn}
 use Rattle.index.specs.declared.walk.Next.the-variants.{Divisor, Nothing}
 
 -- the two cases of a turn
-turn-more :
+pub turn-more :
     (r j : ℕ)
     → j < length (divisorsBelow r)
     → turnAt r j ≡ record { next = Divisor (divisorAt r j) (muIsPlus (r / divisorAt r j)); walk = walkAt r (suc j) }
 unfolding turnAt
 turn-more r j h = rw (lt-ltb j (length (divisorsBelow r)) h)
 
-turn-none : (r j : ℕ) → length (divisorsBelow r) ≤ j → turnAt r j ≡ record { next = Nothing; walk = walkAt r j }
+pub turn-none : (r j : ℕ) → length (divisorsBelow r) ≤ j → turnAt r j ≡ record { next = Nothing; walk = walkAt r j }
 unfolding turnAt
 turn-none r j h = rw (le-ltb j (length (divisorsBelow r)) h)
 
@@ -183,3 +184,28 @@ module _ (w : Walk) (S : Stands w) where
       let more : taken w < length (divisorsBelow (w .r)) = omega (arith, is-due) in
       turn-next (w .r) (S .squarefree) (S .small) (taken w) more x g (w .primes) (w .count) (w .due - 1) _ is-primes is-count (omega (arith, is-due))
       (ap (λ y. eqb (ones (y - x .mask) % 2) 0) (e ∙ ap (λ c. 2 ^ c - 1) is-count) ∙ mu-next (w .r) (S .squarefree) (S .small) (taken w) more x g)
+
+-- for callers: the walk after j divisors stands, and has taken j; and the walk over n taken apart is the one over r at its start
+pub taken-at : (r j : ℕ) → j ≤ length (divisorsBelow r) → taken (walkAt r j) ≡ j
+unfolding taken walkAt
+taken-at r j h = omega arith
+
+pub stands-at : (r j : ℕ) → OddSquarefree r → r ≤ 65535 → j ≤ length (divisorsBelow r) → Stands (walkAt r j)
+unfolding walkAt
+stands-at r j O u h = record { squarefree = O; small = u; here = ap (walkAt r) (sym (taken-at r j h)) }
+
+pub over-start : (n : ℕ) → 0 < n → overApart (apartOf n) ≡ walkAt (rOf n) 0
+unfolding apartOf walkAt lastOf
+over-start n l =
+    λ i. record { primes = padded (same-list i); count = same-count i; r = rOf n; last = 0; due = due i }
+  where
+    same-list : listTo n (oddPrimeOf n) ≡ listTo (rOf n) (oddPrimeOf (rOf n))
+    same-list =
+        list-further (oddPrimeOf n) (rOf n) n (le-of-dvd l (r-divides n)) (λ d a b. r-none-above n l d a)
+        ∙ sym (list-same (rOf n) (λ d a b. r-same-primes n l d))
+
+    same-count : kOf n ≡ kOf (rOf n)
+    same-count = sym (k-of-r n l)
+
+    due : 2 ^ kOf n - 1 ≡ length (divisorsBelow (rOf n)) - 0
+    due = omega (arith, divisors-below (rOf n) (r-odd-squarefree n), ap (λ k. 2 ^ k) (k-of-r n l))

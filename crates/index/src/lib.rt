@@ -84,7 +84,7 @@ impl Sieve {
     }
 }
 
-// The odd primes of n: trial division by 3, 4, 5, .. (a number that is no prime divides nothing that is left) as long as its square
+// The odd primes of n: trial division by 3, 5, 7, .. (one that is no prime divides nothing that is left) as long as its square
 // is at most what is left; what is left then is 1 or the last prime.
 fn odd_primes(n: u64) -> Odd
     requires { ⌜ (0 < n) × (n ≤ 65535) ⌝ }
@@ -102,7 +102,7 @@ fn odd_primes(n: u64) -> Odd
     let mut p: u64 = 3;
     while p * p <= s.rest {
         s = s.sift(n, p);
-        p += 1;
+        p += 2;
     }
     let odd = s.odd;
     let rest = s.rest;

@@ -1,26 +1,27 @@
 -- `odd_primes` meets its contract. The invariant: the odd primes of n below p are found, and those above are the primes of what is left.
 -- Where p p is more than that, it is 1 or the last prime (`Last`).
-use Prim.Native.Nat.{_-_, _≤_, _<_}
-use mathlib.Core.Path.{_∙_}
-use native.Mathlib.Nat.{le-of-dvd, le-trans, le-mul-of-pos-right, mul-le-mul, add-sub-cancel}
+use Prim.Native.Nat.{ℕ, suc, _+_, _%_, _-_, _≤_, _<_}
+use mathlib.Core.Path.{_≡_, refl, _∙_}
+use native.Mathlib.Nat.{le-of-dvd, le-trans, le-mul-of-pos-right, mul-le-mul}
 use native.Mathlib.Omega.{arith}
 use Rattle.numbers.specs.Primes.{prime-two}
 use Rattle.index.specs.Held.{Sifted}
-use Rattle.index.specs.Sifting.{Last, last-of, sifted-start}
+use Rattle.index.specs.Sifting.{Last, last-of, sifted-start, passed-even}
 use Rattle.index.proofs.odd_primes.Statement.{statement}
 use Rattle.index.proofs.odd_primes.Tie as tie
 
 abbrev Inv-loop : tie.InvT-loop
-Inv-loop n s₀ p₀ s p = (2 < p) × (p ≤ 65536) × Sifted n (p - 1) s
+Inv-loop n s₀ p₀ s p = (2 < p) × (p ≤ 65537) × Sifted n (p - 1) s × (p % 2 ≡ 1)
 
 abbrev μ-loop : tie.MeasureT-loop
-μ-loop n s₀ p₀ s p = 65537 - p
+μ-loop n s₀ p₀ s p = 65538 - p
 
 without-requires : tie.Need-without-requires Inv-loop μ-loop
 without-requires c κs = (c .pre .0, prime-two)
 
 loop-holds : tie.Need-loop-holds Inv-loop μ-loop
-loop-holds c = (omega arith, omega arith, sifted-start _ _ (c .before .pre .0) (c .before .pre .1) (c .without .ensures))
+loop-holds c =
+    (omega arith, omega arith, sifted-start _ _ (c .before .pre .0) (c .before .pre .1) (c .without .ensures), refl)
 
 mul-if1 : tie.Need-mul-if1 Inv-loop μ-loop
 mul-if1 c = omega (arith, mul-le-mul (c .loop .inv .1) (c .loop .inv .1))
@@ -43,7 +44,14 @@ loop-less c = omega (arith, small (c .before))
 
 loop-again : tie.Need-loop-again Inv-loop μ-loop
 loop-again c =
-    (omega (arith, c .before .before .before .loop .inv .0), omega (arith, small (c .before)), rw (add-sub-cancel (c .before .before .before .loop .p) 1) (c .sift .ensures))
+    let p : ℕ = c .before .before .before .loop .p in
+    let next : suc p ≡ p + 2 - 1 = omega arith in (
+      omega (arith, c .before .before .before .loop .inv .0),
+      omega (arith, small (c .before)),
+      rw next at
+          (passed-even _ (c .before .before .before .before .before .pre .0) (c .before .before .before .before .before .pre .1) p _ (c .before .before .before .loop .inv .0) (c .before .before .before .loop .inv .3) (c .sift .ensures)),
+      omega (arith, c .before .before .before .loop .inv .3),
+    )
 
 -- after the loop
 last : (c : tie.After-odd Inv-loop μ-loop) → Last (c .before .before .before .before .before .args .n) (c .before .before .before .loop .s)

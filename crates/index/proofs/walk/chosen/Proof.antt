@@ -8,8 +8,6 @@ use Rattle.index.specs.Masks.{bit}
 use borrow.Author.Needs.{needs}
 use Rattle.index.proofs.walk.chosen.Statement.{statement}
 use Rattle.index.proofs.walk.chosen.Tie as tie
-use Rattle.index.proofs.walk.chosen.Reads as reads
-use Rattle.index.proofs.walk.chosen.Lts as lts
 
 cast-if1 : tie.Need-cast-if1
 cast-if1 c = search needs

@@ -7,8 +7,6 @@ use lib.Pow.{pow-pos, pow-mono}
 use borrow.Author.Needs.{needs}
 use Rattle.index.proofs.walk.full.Statement.{statement}
 use Rattle.index.proofs.walk.full.Tie as tie
-use Rattle.index.proofs.walk.full.Reads as reads
-use Rattle.index.proofs.walk.full.Lts as lts
 
 cast-result : tie.Need-cast-result
 cast-result c = search needs

@@ -1,14 +1,12 @@
 -- `least` meets its contract. The invariant: the least above `after` among r and what the masks below `mask` name.
 use Prim.Native.Nat.{_-_, _^_, _≤_, _<_}
-use mathlib.Core.Path.{_≡_, refl, ap, _∙_}
+use mathlib.Core.Path.{_≡_}
 use native.Mathlib.Omega.{arith}
-use lib.Pow.{pow-pos, pow-mono}
+use lib.Pow.{pow-mono}
 use Rattle.index.specs.Least.{LeastTo}
 use Rattle.index.specs.Searching.{least-start, least-step, least-end}
 use Rattle.index.proofs.walk.least.Statement.{statement}
 use Rattle.index.proofs.walk.least.Tie as tie
-use Rattle.index.proofs.walk.least.Reads as reads
-use Rattle.index.proofs.walk.least.Lts as lts
 
 abbrev Inv-loop : tie.InvT-loop
 Inv-loop primes count r after all best₀ mask₀ best mask =

@@ -3,11 +3,9 @@ use Prim.Native.Nat.{_+_, _*_, _-_, _≤_}
 use mathlib.Core.Path.{_≡_, refl, ap, _∙_}
 use native.Mathlib.Omega.{arith}
 use Rattle.index.specs.Masks.{maskTo}
-use Rattle.index.specs.Searching.{mask-small, mask-more}
+use Rattle.index.specs.Searching.{mask-more}
 use Rattle.index.proofs.walk.product.Statement.{statement}
 use Rattle.index.proofs.walk.product.Tie as tie
-use Rattle.index.proofs.walk.product.Reads as reads
-use Rattle.index.proofs.walk.product.Lts as lts
 
 abbrev Inv-loop : tie.InvT-loop
 Inv-loop count mask primes size₀ i₀ size i = (i ≤ count) × (size ≡ maskTo primes mask i)

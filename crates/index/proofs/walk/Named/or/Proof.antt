@@ -2,8 +2,6 @@
 use borrow.Author.Tests.{lt-ltb, le-ltb}
 use Rattle.index.proofs.walk.Named.or.Statement.{statement}
 use Rattle.index.proofs.walk.Named.or.Tie as tie
-use Rattle.index.proofs.walk.Named.or.Reads as reads
-use Rattle.index.proofs.walk.Named.or.Lts as lts
 
 returns : tie.Need-returns
 returns c = simp (lt-ltb _ _ (c .before .before .if1 .taken), lt-ltb _ _ (c .if2 .taken))

@@ -1,11 +1,8 @@
 -- `Walk::next` meets its contract, by the laws of `Walking`.
-use native.Mathlib.Omega.{arith}
 use borrow.Author.Needs.{needs}
 use Rattle.index.specs.Walking.{walk-few, walk-row, walk-done, walk-next}
 use Rattle.index.proofs.walk.Walk.next.Statement.{statement}
 use Rattle.index.proofs.walk.Walk.next.Tie as tie
-use Rattle.index.proofs.walk.Walk.next.Reads as reads
-use Rattle.index.proofs.walk.Walk.next.Lts as lts
 
 returns : tie.Need-returns
 returns c = walk-done _ (c .before .pre) (c .if1 .taken)

@@ -2,8 +2,6 @@
 use borrow.Author.Needs.{needs}
 use Rattle.index.proofs.walk.Walk.over.Statement.{statement}
 use Rattle.index.proofs.walk.Walk.over.Tie as tie
-use Rattle.index.proofs.walk.Walk.over.Reads as reads
-use Rattle.index.proofs.walk.Walk.over.Lts as lts
 
 full-requires : tie.Need-full-requires
 full-requires c κs = search needs
