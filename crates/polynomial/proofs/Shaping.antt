@@ -14,7 +14,7 @@ use Rattle.definitions.specs.Steps.{entries, largest}
 use Rattle.definitions.specs.Requests.{zeros}
 use Rattle.series.specs.Maps.{alternate-even, alternate-odd}
 use Rattle.steps.specs.Passes.{Split, All}
-use Rattle.steps.proofs.Split.{moved-up, none-below, all-below, all-firsts}
+use Rattle.steps.proofs.Split.{moved-up, all-firsts}
 use Rattle.polynomial.specs.Shapes.{mirroredUp, copiedFrom}
 
 -- ---- zeros
@@ -82,7 +82,7 @@ module _ (negate : Bool) {n i : ℕ} {l : List ℤ} (e : Series) (s : Split l n 
   pub mirror-turn : {m : List ℤ} → m ≡ set l i (cond negate (⊖ (entries l (n - 1 - i))) (entries l (n - 1 - i))) → Split m n (i + 1) (mirroredUp negate n e) e
   mirror-turn q =
       rw q
-      (moved-up i _ s b
+      (moved-up s i (i + 1) b refl refl _
       (ap (λ v. cond negate (⊖ v) v) mirror-read ∙ sym (mirrored-high negate n e i h)))
 
 module _ (r : ℕ) {n i : ℕ} {l : List ℤ} (e : Series) (s : Split l n i (copiedFrom r e) e) (h : r ≤ i) (b : i < n) (twice : n ≤ r + r) where
@@ -90,7 +90,7 @@ module _ (r : ℕ) {n i : ℕ} {l : List ℤ} (e : Series) (s : Split l n i (cop
   copy-read = new-entry s (i - r) (omega arith) (omega arith) ∙ copied-low r e (i - r) (omega arith)
 
   pub copy-turn : {m : List ℤ} → m ≡ set l i (⊖ (entries l (i - r))) → Split m n (i + 1) (copiedFrom r e) e
-  copy-turn q = rw q (moved-up i _ s b (ap ⊖ copy-read ∙ sym (copied-high r e i h)))
+  copy-turn q = rw q (moved-up s i (i + 1) b refl refl _ (ap ⊖ copy-read ∙ sym (copied-high r e i h)))
 
 module _ {n i : ℕ} {l : List ℤ} (e : Series) (s : Split l n i (alternate e) e) (o : i % 2 ≡ 1) (b : i < n) where
   pub alternate-read : entries l i ≡ e i
@@ -99,7 +99,7 @@ module _ {n i : ℕ} {l : List ℤ} (e : Series) (s : Split l n i (alternate e) 
   pub alternate-turn : {m : List ℤ} → m ≡ set l i (⊖ (entries l i)) → Split m n (i + 2) (alternate e) e
   alternate-turn q =
       rw (two i)
-      (skips (rw q (moved-up i _ s b (ap ⊖ alternate-read ∙ sym (alternate-odd i e o)))) (alternate-even (i + 1) e (omega arith)))
+      (skips (rw q (moved-up s i (i + 1) b refl refl _ (ap ⊖ alternate-read ∙ sym (alternate-odd i e o)))) (alternate-even (i + 1) e (omega arith)))
     where
       two : (j : ℕ) → j + 2 ≡ j + 1 + 1
       two j = omega arith

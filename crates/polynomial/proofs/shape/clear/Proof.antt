@@ -1,13 +1,14 @@
 -- `clear` meets its contract. The loop's invariant: the entries below i are 0.
 use Prim.Native.Nat.{_-_, _≤_}
+use native.Mathlib.Nat.{not-suc-le-zero}
 use native.Mathlib.Omega.{arith}
 use lib.ListN.{length}
 use Rattle.definitions.specs.Integers.{0ℤ}
 use Rattle.definitions.specs.Steps.{entries}
 use Rattle.steps.specs.Passes.{Split}
-use Rattle.steps.proofs.Split.{moved-up, none-below, all-below}
+use Rattle.steps.proofs.Split.{moved-up, all-below}
 use mathlib.Core.Path.{refl}
-use Rattle.polynomial.proofs.Shaping.{all-zeros}
+use Rattle.polynomial.proofs.Shaping.{all-zeros, starts}
 use Rattle.polynomial.proofs.shape.clear.Statement.{statement}
 use Rattle.polynomial.proofs.shape.clear.Tie as tie
 
@@ -18,7 +19,7 @@ abbrev μ-loop : tie.MeasureT-loop
 μ-loop a₀ i₀ a i = length a₀ - i
 
 loop-holds : tie.Need-loop-holds Inv-loop μ-loop
-loop-holds c = (omega arith, none-below (c .args .a .now) (λ k. 0ℤ))
+loop-holds c = (omega arith, starts (c .args .a .now) 0 (λ k h. absurd (not-suc-le-zero h)))
 
 mul-a : tie.Need-mul-a Inv-loop μ-loop
 mul-a c = omega arith
@@ -33,7 +34,7 @@ loop-less : tie.Need-loop-less Inv-loop μ-loop
 loop-less c = omega arith
 
 loop-again : tie.Need-loop-again Inv-loop μ-loop
-loop-again c = (omega arith, moved-up (c .before .loop .i) 0ℤ (c .before .loop .inv .1) (omega arith) refl)
+loop-again c = (omega arith, moved-up (c .before .loop .inv .1) (c .before .loop .i) _ (omega arith) refl refl 0ℤ refl)
 
 same-length : tie.Need-same-length Inv-loop μ-loop
 same-length c = c .before .loop .inv .1 .len
