@@ -3,3 +3,4 @@ pub mod Negation
 pub mod Shaping
 pub mod Parts
 pub mod Spreading
+pub mod Advancing

@@ -10,3 +10,4 @@ pub mod Least
 pub mod Searching
 pub mod Walks
 pub mod Walking
+pub mod Halves
