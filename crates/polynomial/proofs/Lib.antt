@@ -4,3 +4,4 @@ pub mod Shaping
 pub mod Parts
 pub mod Spreading
 pub mod Advancing
+pub mod Turning

@@ -3,7 +3,7 @@ use super::walk::Next;
 use super::walk::Walk;
 use steps::Sort;
 use steps::Step;
-ghost use Prim.Native.Nat.{ℕ, _+_, _≤_, _<_};
+ghost use Prim.Native.Nat.{ℕ, _+_, _-_, _≤_, _<_};
 ghost use mathlib.Core.Path.{_≡_};
 ghost use mathlib.Core.Bool.{cond, not};
 ghost use lib.Dec.{eqb};
@@ -62,6 +62,13 @@ fn sort_for(kind: u64, plus: bool) -> Sort
     }
 }
 
+// The additions of a step of size d on n entries.
+fn count_of(n: u64, d: u64) -> u64
+    ensures { λ r. ⌜ r ≡ n - d ⌝ }
+{
+    if d < n { n - d } else { 0 }
+}
+
 // The next divisor's step.
 fn turn(a: &mut [i64], walk: Walk, kind: u64, bound: u64) -> Took
     requires { ⌜ Standing kind walk bound (now a) × (0 < walk .due) ⌝ }
@@ -77,7 +84,7 @@ fn turn(a: &mut [i64], walk: Walk, kind: u64, bound: u64) -> Took
             let moved = advance(a, sort, size, bound);
             Took {
                 over: moved.over,
-                count: if size < n { n - size } else { 0 },
+                count: count_of(n, size),
                 bound: moved.bound,
                 walk: after,
             }
