@@ -76,8 +76,8 @@ unfolding entries
 stays-inside s d b l h u t k =
     by-order k (length l)
     (λ in′. by-order k d
-      (λ low. rw (getD-stepList-below s d l k low in′) (NatL.le-trans (h k) u))
-      (λ high. rw (getD-stepList s d l k in′) (range-in largest _ (not-over-each s d l largest t k high in′))))
+    (λ low. rw (getD-stepList-below s d l k low in′) (NatL.le-trans (h k) u))
+    (λ high. rw (getD-stepList s d l k in′) (range-in largest _ (not-over-each s d l largest t k high in′))))
     (λ out. rw (List·getD-eq-default (stepList s d l) 0ℤ {n = k} (omega (arith, length-stepList s d l))) (omega arith))
 
 -- what a step's answer tells
@@ -90,7 +90,7 @@ advanced s d b l m code one small h u e f =
       leaves = λ t. f ∙ leaves-done s d l one small (sym told ∙ t);
       bounded = λ t. rw (f ∙ leaves-done s d l one small (sym told ∙ t)) (stays-inside s d b l h u (sym told ∙ t));
       inside = NatL.le-refl largest;
-      len = ap length f ∙ leaves-length s d l
+      len = ap length f ∙ leaves-length s d l;
     }
   where
     told : not (eqb code DONE) ≡ stepOver largest s d l

@@ -5,3 +5,4 @@ pub mod Parts
 pub mod Spreading
 pub mod Advancing
 pub mod Turning
+pub mod Running

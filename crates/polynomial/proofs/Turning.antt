@@ -91,13 +91,15 @@ module _ (kind : ℕ) (w : Walk) (bound : ℕ) (l : List ℤ) (st : Standing kin
             bounded = a .bounded;
             inside = a .inside;
             count = ec ∙ ap₂ (λ n d. n - d) l-length size-is;
-            len = a .len ∙ l-length
+            len = a .len ∙ l-length;
           }
         where
           d : ℕ
           d = nextDivisor (w .r) (taken w)
+
           l-length : length l ≡ halfDegree kind (w .r) + 1
           l-length = ap length (st .half) ∙ kept-length kind (w .r) (taken w)
+
           sort-is : s ≡ sortOf kind (w .r) d
           sort-is = es ∙ ap (λ b. cond (cond (eqb kind 1) b (not b)) comb accumulate) plus-is ∙ sort-of
             where
