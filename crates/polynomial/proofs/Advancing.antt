@@ -24,11 +24,19 @@ use Rattle.step_laws.specs.Told.{Told, told-over, told-done}
 use Rattle.polynomial.specs.Halves.{Advanced}
 
 -- ---- the start
-start-later : (kind k : ℕ) → start kind (suc k) ≡ 0ℤ
+pub start-later : (kind k : ℕ) → start kind (suc k) ≡ 0ℤ
 unfolding start constant -ˢ ⊖
 start-later kind k = go (eqb kind 1)
   where
     go : (b : Bool) → cond b 𝟙 (-ˢ 𝟙) (suc k) ≡ 0ℤ
+    go true = refl
+    go false = refl
+
+pub start-first : (kind : ℕ) → natAbs (start kind 0) ≡ 1
+unfolding start constant -ˢ ⊖
+start-first kind = go (eqb kind 1)
+  where
+    go : (b : Bool) → natAbs (cond b 𝟙 (-ˢ 𝟙) 0) ≡ 1
     go true = refl
     go false = refl
 

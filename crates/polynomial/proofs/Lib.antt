@@ -6,3 +6,4 @@ pub mod Spreading
 pub mod Advancing
 pub mod Turning
 pub mod Running
+pub mod Stopping

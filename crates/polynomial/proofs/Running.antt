@@ -7,25 +7,31 @@ use mathlib.Core.List.{List, [], _∷_, _++_, map, map-append}
 use native.Mathlib.Omega.{arith}
 use native.Mathlib.Nat as NatL
 use native.Mathlib.Numerals.{add-one}
-use lib.ListN.{length, getD, take, length-take}
+use lib.ListN.{length, getD, take, length-take, length-replicate, List·getD-eq-default}
 use lib.Seq.{take-suc}
-use lib.IntN.{ℤ}
+use lib.IntN.{ℤ, natAbs}
+use Rattle.definitions.specs.Integers.{0ℤ}
+use Rattle.definitions.specs.Series.{firsts}
 use Rattle.definitions.specs.Numbers.{divisorsBelow, kOf}
 use Rattle.definitions.specs.Steps.{entries, largest}
-use Rattle.definitions.specs.KeptHalf.{halfDegree, keptHalf, sumOf, additionsAfter}
-use Rattle.definitions.specs.Requests.{divisorsDue, nextDivisor, overAt, overAmong}
+use Rattle.definitions.specs.KeptHalf.{halfDegree, start, keptHalf, sumOf, additionsAfter}
+use Rattle.definitions.specs.Requests.{divisorsDue, nextDivisor, overAt, overAmong, zeros}
 use Rattle.numbers.specs.Apart.{OddSquarefree}
 use Rattle.numbers.specs.AtMostFive.{k-at-most-5}
 use Rattle.numbers.specs.Below.{divisors-below}
 use Rattle.numbers.specs.Lists.{sum-append, sum-at-most}
-use Rattle.cyclotomic.specs.Kept.{half-below}
+use Rattle.cyclotomic.specs.Kept.{half-below, kept-start}
 use Rattle.step_laws.specs.Bound.{Bounded}
+use Rattle.step_laws.specs.Tests.{by-order}
+use Rattle.step_laws.specs.Firsts.{length-firsts, getD-firsts}
 use Rattle.polynomial.specs.Walks.{Stands, taken, walkAt}
 use Rattle.polynomial.specs.Walking.{taken-at, stands-at}
-use Rattle.polynomial.specs.Halves.{Standing, Turned, Ran}
+use Rattle.polynomial.specs.Halves.{Standing, Turned, Ran, Fresh, Made}
 use Rattle.polynomial.specs.declared.walk.Walk.{Walk}
 use Rattle.polynomial.specs.declared.half.Took.{Took}
+use Rattle.polynomial.specs.declared.half.Half.{Half}
 use Rattle.polynomial.proofs.Turning.{kept-length}
+use Rattle.polynomial.proofs.Advancing.{start-first, start-later}
 
 -- ---- sums
 sum-next : (kind r i : ℕ) → i < divisorsDue r → additionsAfter kind r (suc i) ≡ additionsAfter kind r i + (halfDegree kind r + 1 - nextDivisor r i)
@@ -167,3 +173,45 @@ ran kind r j additions bound at a s =
       due = λ o. ap (λ (w : Walk). w .due) (s .walk);
       len = ap length (s .half) ∙ kept-length kind r j;
     }
+
+-- ---- a walk that has taken nothing, and the start of the kept half
+start-at-most : (kind k : ℕ) → natAbs (start kind k) ≤ 1
+start-at-most kind zero = rw (start-first kind) (omega arith)
+start-at-most kind (suc k) = rw (start-later kind k) (omega arith)
+
+start-bounded : (kind n : ℕ) → Bounded 1 (entries (firsts n (start kind)))
+unfolding entries
+start-bounded kind n k =
+    by-order k n (λ h. rw (getD-firsts n (start kind) k h) (start-at-most kind k))
+    (λ h. rw (List·getD-eq-default (firsts n (start kind)) 0ℤ {n = k} (omega (arith, length-firsts n (start kind)))) (omega arith))
+
+pub fresh-stands :
+    (kind : ℕ) (w : Walk) (l : List ℤ) (n : ℕ) → Fresh w → n ≡ halfDegree kind (w .r) + 1 → l ≡ firsts n (start kind) → Standing kind w 1 l
+unfolding divisorsDue
+fresh-stands kind w l n f len e =
+    record {
+      walk = rw (f .here) (stands-at (w .r) 0 (f .squarefree) (f .small) (omega arith));
+      above = f .above;
+      half = e ∙ ap (λ k. firsts k (start kind)) len ∙ sym (kept-start kind (w .r)) ∙ sym (ap (keptHalf kind (w .r)) (ap taken (f .here) ∙ taken-at (w .r) 0 (omega arith)));
+      bounded = rw e (start-bounded kind n);
+      inside = omega arith;
+    }
+
+pub made-zeros : (kind r j : ℕ) (m l : List ℤ) (h : Half) → Ran kind r j m h → h .over ≡ true → l ≡ zeros (length m) → Made kind r j l h
+unfolding zeros
+made-zeros kind r j m l h t o e =
+    record {
+      ran =
+          record {
+            over = t .over;
+            half = λ q. absurd (both q);
+            inside = λ q. absurd (both q);
+            additions = λ q. absurd (both q);
+            due = λ q. absurd (both q);
+            len = ap length e ∙ length-replicate (length m) 0ℤ ∙ t .len;
+          };
+      zeroed = λ q. e ∙ ap zeros (t .len);
+    }
+  where
+    both : h .over ≡ false → ⊥
+    both q = true≢false (sym o ∙ q)

@@ -10,11 +10,11 @@ ghost use lib.Dec.{eqb};
 ghost use lib.ListN.{length};
 ghost use Rattle.definitions.specs.Series.{firsts};
 ghost use Rattle.definitions.specs.Steps.{comb, accumulate, entries, largest};
-ghost use Rattle.definitions.specs.KeptHalf.{start, keptHalf};
+ghost use Rattle.definitions.specs.KeptHalf.{halfDegree, start, keptHalf};
 ghost use Rattle.definitions.specs.Requests.{divisorsDue};
 ghost use Rattle.step_laws.specs.Bound.{Bounded};
 ghost use Rattle.steps.specs.Sorts.{sortMeans};
-ghost use Rattle.polynomial.specs.Halves.{Advanced, Turned, Ran, Standing};
+ghost use Rattle.polynomial.specs.Halves.{Advanced, Turned, Ran, Standing, Fresh, Made};
 ghost use Rattle.polynomial.specs.Walks.{walkAt};
 
 // What a step came to: a value out of range, or the bound of the magnitudes after it.
@@ -143,4 +143,17 @@ pub(crate) fn begin(a: &mut [i64], kind: u64)
     super::shape::clear(a);
     let first = first_of(kind);
     a[0] = first;
+}
+
+// The kept half after the first j divisors, in a slice of D + 1 entries; zeros where a value would be out of range.
+pub(crate) fn make(a: &mut [i64], walk: Walk, kind: u64, j: u64) -> Half
+    requires { ⌜ Fresh walk × (length (now a) ≡ halfDegree kind (walk .r) + 1) × (j ≤ divisorsDue (walk .r)) ⌝ }
+    ensures { λ r. ⌜ Made kind (walk .r) j (now (a .exit)) r ⌝ }
+{
+    begin(a, kind);
+    let ran = run(a, walk, kind, j);
+    if ran.over {
+        super::shape::clear(a);
+    }
+    ran
 }
