@@ -7,3 +7,4 @@ pub mod Advancing
 pub mod Turning
 pub mod Running
 pub mod Stopping
+pub mod Growing
