@@ -26,7 +26,7 @@ use Rattle.cyclotomic.specs.Degrees.{monic-I}
 use Rattle.cyclotomic.specs.Apart.{first-copy, second-copy}
 use Rattle.polynomial.specs.Shapes.{mirroredUp, copiedFrom}
 use Rattle.polynomial.specs.Growth.{Lower, FirstCopy}
-use Rattle.polynomial.proofs.Negation.{abs-neg}
+use Rattle.step_laws.specs.Signed.{abs-⊖}
 use Rattle.polynomial.proofs.Shaping.{mirrored-low, mirrored-high, copied-low, copied-high}
 
 -- the half of N + 1 entries, rounded up, is D + 1
@@ -44,7 +44,7 @@ module _ (kind r : ℕ) (l : List ℤ) (w : Lower kind r l) where
     where
       go : (b : Bool) → natAbs (cond b v (⊖ v)) ≡ natAbs v
       go true = refl
-      go false = abs-neg v
+      go false = abs-⊖ v
 
   -- every coefficient is, up to sign, one of the lower half
   pub all-inside : (i : ℕ) → i < degree kind r + 1 → natAbs (polynomial kind r i) ≤ largest
@@ -89,7 +89,7 @@ alternate-abs f i = go (parity i)
   where
     go : (i % 2 ≡ 0) ⊎ (i % 2 ≡ 1) → natAbs (alternate f i) ≡ natAbs (f i)
     go (inl e) = ap natAbs (alternate-even i f e)
-    go (inr e) = ap natAbs (alternate-odd i f e) ∙ abs-neg (f i)
+    go (inr e) = ap natAbs (alternate-odd i f e) ∙ abs-⊖ (f i)
 
 -- ---- the second copy
 module _ (r top : ℕ) (l : List ℤ) (w : FirstCopy r top l) where

@@ -1,5 +1,6 @@
 // The requests: the half-built polynomial (`partial`) and the polynomial (`polynomial`). Nothing is asked of the caller.
 mod apart;
+mod gain;
 mod grow;
 mod half;
 mod shape;

@@ -1,7 +1,9 @@
 -- `odd` meets its contract: the mirrored entries are the polynomial's (Growing).
 use Prim.Native.Nat.{_+_, _/_}
 use mathlib.Core.Path.{_≡_, _∙_, ap, refl}
+use mathlib.Core.Bool.{not}
 use native.Mathlib.Omega.{arith}
+use lib.Dec.{eqb}
 use lib.IntN.{natAbs}
 use lib.ListN.{length}
 use Rattle.definitions.specs.Steps.{entries}
@@ -25,7 +27,7 @@ same-length c = search needs
 returns : tie.Need-returns
 returns c = 
     let p = c .before .before .before in
-    c .before .mirror .ensures ∙ ap (λ k. firsts k (mirroredUp _ k (entries (p .args .a .now)))) (p .pre .1)
+    c .before .mirror .ensures ∙ ap (λ k. firsts k (mirroredUp (not (eqb (p .args .kind) 1)) k (entries (p .args .a .now)))) (p .pre .1)
     ∙ firsts-same (degree (p .args .kind) (p .args .r) + 1) _ (polynomial (p .args .kind) (p .args .r)) (mirror-grows (p .args .kind) (p .args .r) (p .args .a .now) (p .pre .0) _ refl)
 
 pub odd-spec : {M : Type 1} → statement M
