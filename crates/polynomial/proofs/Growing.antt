@@ -169,7 +169,7 @@ half-within : (kind r : ℕ) → halfDegree kind r ≤ degree kind r
 unfolding halfDegree
 half-within kind r = omega arith
 
-pub lower-front : (kind r top : ℕ) (l : List ℤ) → top ≡ degree kind r + 1 → Lower kind r l → Lower kind r (take top l)
+pub lower-front : (kind r top : ℕ) (l : List ℤ) → degree kind r + 1 ≤ top → Lower kind r l → Lower kind r (take top l)
 unfolding entries
 lower-front kind r top l e w =
     record {
