@@ -165,7 +165,7 @@ alternated n f l x e q =
     ∙ firsts-same n (alternate (entries l)) (alternate f) (λ i h. alternate-same (entries l) f i (front-entry n f l e i h))
 
 -- ---- the first entries of a list alone
-half-within : (kind r : ℕ) → halfDegree kind r ≤ degree kind r
+pub half-within : (kind r : ℕ) → halfDegree kind r ≤ degree kind r
 unfolding halfDegree
 half-within kind r = omega arith
 

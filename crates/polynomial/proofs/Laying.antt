@@ -78,6 +78,9 @@ module _ (kind n : ℕ) (a : Apart) (l : List ℤ) (R : Ready kind n a l) where
       go false true e = omega (arith, phi-m n, r-is)
       go false false e = omega (arith, phi-m n, r-is)
 
+  pub r-fits : degree kind (rOf n) + 1 ≤ length l
+  r-fits = omega (arith, r-degree, R .room, degree-apart kind n above-zero, NatL.le-mul-of-pos-right (degree kind (mOf n)) t-pos, ap (λ t. degree kind (mOf n) * t) t-is)
+
   -- the degree for m, as it is computed
   module _ (top : ℕ) (e : top ≡ cond (eqb kind 1) (a .free) (a .m - a .free)) where
     pub top-is : top ≡ degree kind (mOf n)

@@ -10,3 +10,4 @@ pub mod Stopping
 pub mod Growing
 pub mod Even
 pub mod Laying
+pub mod Making

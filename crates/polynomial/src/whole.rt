@@ -73,6 +73,14 @@ fn finish_one(b: &mut [i64], kind: u64, n: u64, a: Apart)
     space(b, top, a.t as usize);
 }
 
+// Is the height above h, which is at least 1?
+fn tall(h: i64, height: u64) -> bool
+    requires { ⌜ ltZ h (pos 1) ≡ false ⌝ }
+    ensures { λ r. ⌜ r ≡ ltZ h (pos height) ⌝ }
+{
+    (h as u64) < height
+}
+
 // r > 1: the kept half after all divisors, the polynomial of m from it, and z^t for z. The height is that of the kept half, so a polynomial too
 // tall is never laid out.
 fn lay_more(b: &mut [i64], kind: u64, n: u64, a: Apart, h: i64) -> Layout
@@ -92,7 +100,7 @@ fn lay_more(b: &mut [i64], kind: u64, n: u64, a: Apart, h: i64) -> Layout
         };
     }
     let height = heights::height(&b[..part]);
-    if (h as u64) < height {
+    if tall(h, height) {
         shape::clear(b);
         return Layout {
             code: answers::TALL,
