@@ -9,9 +9,10 @@ use lib.Seq.{getD-set-same, getD-set-other}
 use lib.IntN.{ℤ}
 use Rattle.definitions.specs.Integers.{0ℤ, _⊕_, _⊝_}
 use Rattle.definitions.specs.Series.{Series, firsts}
+use Rattle.definitions.specs.Steps.{comb, accumulate}
 use Rattle.step_laws.specs.Tests.{by-order}
 use Rattle.step_laws.specs.Firsts.{is-firsts}
-use Rattle.steps.specs.Passes.{Split, All, plusAt, minusAt}
+use Rattle.steps.specs.Passes.{Split, All, turnAt}
 
 -- an entry after a store at j: what was stored, or what stood there
 getD-set-by : (l : List ℤ) (j : ℕ) (v : ℤ) → j < length l → (k : ℕ) (x : ℤ) → (k ≡ j → v ≡ x) → ((k ≡ j → ⊥) → getD l k 0ℤ ≡ x) → getD (set l j v) k 0ℤ ≡ x
@@ -47,10 +48,10 @@ module _ {l : List ℤ} {n i : ℕ} {f g : Series} (s : Split l n i f g) (k j : 
 
 -- what a turn computes
 module _ {l : List ℤ} {n i : ℕ} {f g : Series} (s : Split l n i f g) (d k : ℕ) (one : 1 ≤ d) (h : d ≤ k) (b : k < n) where
-  pub plus-turn : k ≡ i → f k ≡ g k ⊕ f (k - d) → plusAt l k d ≡ f k
+  pub plus-turn : k ≡ i → f k ≡ g k ⊕ f (k - d) → turnAt accumulate d l k ≡ f k
   plus-turn here e = ap₂ _⊕_ (s .above k (omega arith) b) (s .below (k - d) (omega arith) (omega arith)) ∙ sym e
 
-  pub minus-turn : i ≡ k + 1 → g k ≡ f k ⊝ f (k - d) → minusAt l k d ≡ g k
+  pub minus-turn : i ≡ k + 1 → g k ≡ f k ⊝ f (k - d) → turnAt comb d l k ≡ g k
   minus-turn here e = ap₂ _⊝_ (s .below k (omega arith) b) (s .below (k - d) (omega arith) (omega arith)) ∙ sym e
 
 pub all-firsts : {l : List ℤ} {n : ℕ} {f : Series} → All l n f → l ≡ firsts n f

@@ -11,7 +11,7 @@ ghost use Rattle.definitions.specs.Integers.{_⊕_, _⊝_};
 ghost use Rattle.definitions.specs.Steps.{comb, accumulate, combed, accumulated, entries, inRange, largest, stepCode, stepCount, stepLeaves};
 ghost use Rattle.step_laws.specs.Summed.{summed};
 ghost use Rattle.steps.specs.Sorts.{sortMeans};
-ghost use Rattle.steps.specs.Passes.{plusAt, minusAt, All, Fit, combedBelow, CombedTo, AccumulatedTo, Taken};
+ghost use Rattle.steps.specs.Passes.{turned, turnAt, All, Fit, combedBelow, CombedTo, AccumulatedTo, Taken};
 
 const MOST: i64 = 9223372036854775807;
 
@@ -76,34 +76,55 @@ fn difference_fits(a: i64, b: i64) -> bool
     LEAST + b <= a
 }
 
-// The same of two entries, d apart. That an entry fits its type is known where it is read, and an undoing needs it.
-fn sum_fits_at(a: &[i64], i: usize, d: usize) -> bool
+// What a turn of either sort makes of an entry x and the one y that stands d before it: whether it is in range, and the value.
+fn turn_fits(sort: Sort, x: i64, y: i64) -> bool
+    ensures { λ r. ⌜ r ≡ inRange largest (turned (sortMeans sort) x y) ⌝ }
+{
+    match sort {
+        Sort::Comb => difference_fits(x, y),
+        Sort::Accumulate => sum_fits(x, y),
+    }
+}
+
+fn turn_value(sort: Sort, x: i64, y: i64) -> i64
+    requires { ⌜ SFits w64 (turned (sortMeans sort) x y) ⌝ }
+    ensures { λ r. ⌜ r ≡ turned (sortMeans sort) x y ⌝ }
+{
+    match sort {
+        Sort::Comb => x - y,
+        Sort::Accumulate => x + y,
+    }
+}
+
+// The same at a place of the slice. That an entry fits its type is known where it is read, and an undoing needs it.
+fn fits_at(sort: Sort, a: &[i64], i: usize, d: usize) -> bool
     requires { ⌜ (d ≤ i) × (i < length (now a)) ⌝ }
-    ensures { λ r. ⌜ (r ≡ inRange largest (plusAt (now (a .entry)) i d)) × SFits w64 (entries (now (a .entry)) i) ⌝ }
+    ensures { λ r. ⌜ (r ≡ inRange largest (turnAt (sortMeans sort) d (now (a .entry)) i)) × SFits w64 (entries (now (a .entry)) i) ⌝ }
 {
-    sum_fits(a[i], a[i - d])
+    turn_fits(sort, a[i], a[i - d])
 }
 
-fn difference_fits_at(a: &[i64], i: usize, d: usize) -> bool
-    requires { ⌜ (d ≤ i) × (i < length (now a)) ⌝ }
-    ensures { λ r. ⌜ (r ≡ inRange largest (minusAt (now (a .entry)) i d)) × SFits w64 (entries (now (a .entry)) i) ⌝ }
+fn value_at(sort: Sort, a: &[i64], i: usize, d: usize) -> i64
+    requires { ⌜ (d ≤ i) × (i < length (now a)) × SFits w64 (turnAt (sortMeans sort) d (now a) i) ⌝ }
+    ensures { λ r. ⌜ r ≡ turnAt (sortMeans sort) d (now (a .entry)) i ⌝ }
 {
-    difference_fits(a[i], a[i - d])
+    turn_value(sort, a[i], a[i - d])
 }
 
-// One entry, with the one d before it added or taken away.
-fn add_at(a: &mut [i64], i: usize, d: usize)
-    requires { ⌜ (d ≤ i) × (i < length (now a)) × SFits w64 (plusAt (now a) i d) ⌝ }
-    ensures { λ _. ⌜ now (a .exit) ≡ set (now (a .entry)) i (plusAt (now (a .entry)) i d) ⌝ }
+fn put(a: &mut [i64], i: usize, v: i64)
+    requires { ⌜ i < length (now a) ⌝ }
+    ensures { λ _. ⌜ now (a .exit) ≡ set (now (a .entry)) i v ⌝ }
 {
-    a[i] = a[i] + a[i - d];
+    a[i] = v;
 }
 
-fn subtract_at(a: &mut [i64], i: usize, d: usize)
-    requires { ⌜ (d ≤ i) × (i < length (now a)) × SFits w64 (minusAt (now a) i d) ⌝ }
-    ensures { λ _. ⌜ now (a .exit) ≡ set (now (a .entry)) i (minusAt (now (a .entry)) i d) ⌝ }
+// One turn.
+fn turn(sort: Sort, a: &mut [i64], i: usize, d: usize)
+    requires { ⌜ (d ≤ i) × (i < length (now a)) × SFits w64 (turnAt (sortMeans sort) d (now a) i) ⌝ }
+    ensures { λ _. ⌜ now (a .exit) ≡ set (now (a .entry)) i (turnAt (sortMeans sort) d (now (a .entry)) i) ⌝ }
 {
-    a[i] = a[i] - a[i - d];
+    let v = value_at(sort, a, i, d);
+    put(a, i, v);
 }
 
 // Where a pass over the entries from d to n - 1 works in its turn: a comb from the top down, so that the entry d before is still the old one; an
@@ -133,10 +154,10 @@ fn comb_down(a: &mut [i64], d: usize) -> usize
     let mut t = 0;
     while t < turns {
         let k = from_top(t, d, n);
-        if !difference_fits_at(a, k, d) {
+        if !fits_at(Sort::Comb, a, k, d) {
             return k + 1;
         }
-        subtract_at(a, k, d);
+        turn(Sort::Comb, a, k, d);
         t += 1;
     }
     d
@@ -153,10 +174,10 @@ fn accumulate_up(a: &mut [i64], d: usize) -> usize
     let mut t = 0;
     while t < turns {
         let k = from_bottom(t, d, n);
-        if !sum_fits_at(a, k, d) {
+        if !fits_at(Sort::Accumulate, a, k, d) {
             return k;
         }
-        add_at(a, k, d);
+        turn(Sort::Accumulate, a, k, d);
         t += 1;
     }
     n
@@ -170,7 +191,7 @@ fn add_from(a: &mut [i64], d: usize, from: usize)
 {
     let mut i = from;
     while i < a.len() {
-        add_at(a, i, d);
+        turn(Sort::Accumulate, a, i, d);
         i += 1;
     }
 }
@@ -184,7 +205,7 @@ fn subtract_below(a: &mut [i64], d: usize, end: usize)
     let mut i = end;
     while d < i {
         i -= 1;
-        subtract_at(a, i, d);
+        turn(Sort::Comb, a, i, d);
     }
 }
 

@@ -6,9 +6,9 @@ use native.Mathlib.Nat.{lt-irrefl}
 use native.Mathlib.Omega.{arith}
 use borrow.Author.Tests.{not-true, not-false}
 use lib.ListN.{length}
-use Rattle.definitions.specs.Steps.{inRange, largest}
+use Rattle.definitions.specs.Steps.{accumulate, inRange, largest}
 use Rattle.step_laws.specs.Machine.{range-fits}
-use Rattle.steps.specs.Passes.{AccumulatedTo, plusAt}
+use Rattle.steps.specs.Passes.{AccumulatedTo, turnAt}
 use Rattle.steps.proofs.Turns.{up-start, up-value, up-turn}
 use Rattle.steps.proofs.accumulate_up.Statement.{statement}
 use Rattle.steps.proofs.accumulate_up.Tie as tie
@@ -28,8 +28,8 @@ loop-holds c = (omega arith, up-start (c .args .d) (c .args .a .now) (c .pre .1)
 from-bottom-requires : tie.Need-from-bottom-requires Inv-loop μ-loop
 from-bottom-requires c κs = omega arith
 
-sum-fits-at-requires : tie.Need-sum-fits-at-requires Inv-loop μ-loop
-sum-fits-at-requires c κs = omega arith
+fits-at-requires : tie.Need-fits-at-requires Inv-loop μ-loop
+fits-at-requires c κs = omega arith
 
 same-length : tie.Need-same-length Inv-loop μ-loop
 same-length c = c .before .before .before .before .before .loop .inv .1 .split .len
@@ -44,16 +44,16 @@ returns c =
       subst (AccumulatedTo d l (q .loop .a)) (sym here) (q .loop .inv .1),
       λ short.
           ap (inRange largest) (sym (up-value k (q .before .pre .0) (omega arith) (omega arith) (q .loop .inv .1) here))
-          ∙ sym (c .before .sum-fits-at .ensures .0)
+          ∙ sym (c .before .fits-at .ensures .0)
           ∙ not-true _ (c .if1 .taken),
     )
 
 -- the test passed: the value is in range
-passed : (c : tie.Else1 Inv-loop μ-loop) → inRange largest (plusAt (c .before .before .before .before .before .loop .a) (c .before .before .before .from-bottom .result) (c .before .before .before .before .before .before .args .d)) ≡ true
-passed c = sym (c .before .sum-fits-at .ensures .0) ∙ not-false _ (c .if1 .left)
+passed : (c : tie.Else1 Inv-loop μ-loop) → inRange largest (turnAt accumulate (c .before .before .before .before .before .before .args .d) (c .before .before .before .before .before .loop .a) (c .before .before .before .from-bottom .result)) ≡ true
+passed c = sym (c .before .fits-at .ensures .0) ∙ not-false _ (c .if1 .left)
 
-add-at-requires : tie.Need-add-at-requires Inv-loop μ-loop
-add-at-requires c κs = (omega arith, omega arith, range-fits _ (passed (c .before)))
+turn-requires : tie.Need-turn-requires Inv-loop μ-loop
+turn-requires c κs = (omega arith, omega arith, range-fits _ (passed (c .before)))
 
 add-t : tie.Need-add-t Inv-loop μ-loop
 add-t c = omega arith
@@ -67,8 +67,8 @@ loop-again c =
     let t = g .before .before .before .before .before in
     let k = g .before .before .before .from-bottom .result in (
       omega arith,
-      rw (c .before .add-at .ensures)
-          (up-turn k (t .before .pre .0) (omega arith) (omega arith) (t .loop .inv .1) _ (omega arith) (omega arith) (passed g) (g .before .sum-fits-at .ensures .1)),
+      rw (c .before .turn .ensures)
+          (up-turn k (t .before .pre .0) (omega arith) (omega arith) (t .loop .inv .1) _ (omega arith) (omega arith) (passed g) (g .before .fits-at .ensures .1)),
     )
 
 same-length-2 : tie.Need-same-length-2 Inv-loop μ-loop
@@ -91,10 +91,10 @@ accumulate-up-spec =
     sub-turns
     loop-holds
     from-bottom-requires
-    sum-fits-at-requires
+    fits-at-requires
     same-length
     returns
-    add-at-requires
+    turn-requires
     add-t
     loop-less
     loop-again

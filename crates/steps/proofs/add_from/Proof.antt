@@ -3,9 +3,9 @@ use mathlib.Core.Path.{_≡_, refl, sym}
 use Prim.Native.Nat.{_+_, _-_, _≤_}
 use native.Mathlib.Omega.{arith}
 use lib.ListN.{length}
-use Rattle.definitions.specs.Steps.{entries}
+use Rattle.definitions.specs.Steps.{accumulate, entries}
 use Rattle.step_laws.specs.Summed.{summed, summed-from, summed-below}
-use Rattle.steps.specs.Passes.{Split, plusAt}
+use Rattle.steps.specs.Passes.{Split, turnAt}
 use Rattle.steps.proofs.Split.{moved-up, plus-turn, all-below}
 use Rattle.steps.proofs.add_from.Statement.{statement}
 use Rattle.steps.proofs.add_from.Tie as tie
@@ -30,15 +30,15 @@ loop-holds c = (
 )
 
 -- what a turn computes
-value : (c : tie.In-loop Inv-loop μ-loop) → plusAt (c .before .loop .a) (c .before .loop .i) (c .before .before .args .d) ≡ summed (c .before .before .args .d) (c .before .before .args .from) (entries (c .before .before .args .a .now)) (c .before .loop .i)
+value : (c : tie.In-loop Inv-loop μ-loop) → turnAt accumulate (c .before .before .args .d) (c .before .loop .a) (c .before .loop .i) ≡ summed (c .before .before .args .d) (c .before .before .args .from) (entries (c .before .before .args .a .now)) (c .before .loop .i)
 value c =
     let p = c .before .before in
     let i = c .before .loop .i in
     plus-turn (c .before .loop .inv .2) (p .args .d) i (p .pre .0 .0) (omega arith) (omega arith) refl
     (summed-from (p .args .d) (p .args .from) (entries (p .args .a .now)) (p .pre .0 .0) (p .pre .0 .1) i (omega arith))
 
-add-at-requires : tie.Need-add-at-requires Inv-loop μ-loop
-add-at-requires c κs = (
+turn-requires : tie.Need-turn-requires Inv-loop μ-loop
+turn-requires c κs = (
   omega arith,
   omega arith,
   rw (value (c .before)) (c .before .before .before .pre .1 (c .before .before .loop .i) (omega arith) (omega arith)),
@@ -55,7 +55,7 @@ loop-again c =
     let t = c .before .before .before in (
       omega arith,
       omega arith,
-      rw (c .before .add-at .ensures)
+      rw (c .before .turn .ensures)
           (moved-up (t .before .loop .inv .2) (t .before .loop .i) (t .before .loop .i + 1) (omega arith) refl refl _ (value t)),
     )
 
@@ -68,4 +68,4 @@ returns c = all-below (c .before .loop .inv .2) (omega arith)
 pub add-from-spec : {M : Type 1} → statement M
 add-from-spec =
     tie.close
-    (tie.spec Inv-loop μ-loop loop-holds add-at-requires add-i loop-less loop-again same-length returns)
+    (tie.spec Inv-loop μ-loop loop-holds turn-requires add-i loop-less loop-again same-length returns)

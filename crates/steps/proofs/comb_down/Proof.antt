@@ -6,9 +6,9 @@ use native.Mathlib.Nat.{lt-irrefl}
 use native.Mathlib.Omega.{arith}
 use borrow.Author.Tests.{not-true, not-false}
 use lib.ListN.{length}
-use Rattle.definitions.specs.Steps.{inRange, largest, combed, entries}
+use Rattle.definitions.specs.Steps.{comb, inRange, largest, combed, entries}
 use Rattle.step_laws.specs.Machine.{range-fits}
-use Rattle.steps.specs.Passes.{CombedTo, minusAt}
+use Rattle.steps.specs.Passes.{CombedTo, turnAt}
 use Rattle.steps.proofs.Turns.{down-start, down-value, down-turn}
 use Rattle.steps.proofs.comb_down.Statement.{statement}
 use Rattle.steps.proofs.comb_down.Tie as tie
@@ -28,8 +28,8 @@ loop-holds c = (omega arith, down-start (c .args .d) (c .args .a .now) (c .pre .
 from-top-requires : tie.Need-from-top-requires Inv-loop μ-loop
 from-top-requires c κs = omega arith
 
-difference-fits-at-requires : tie.Need-difference-fits-at-requires Inv-loop μ-loop
-difference-fits-at-requires c κs = omega arith
+fits-at-requires : tie.Need-fits-at-requires Inv-loop μ-loop
+fits-at-requires c κs = omega arith
 
 add-result : tie.Need-add-result Inv-loop μ-loop
 add-result c = omega arith
@@ -49,16 +49,16 @@ returns c =
       λ above.
           ap (λ x. inRange largest (combed d (entries l) x)) same
           ∙ ap (inRange largest) (sym (down-value k (q .before .pre .0) (omega arith) (omega arith) (q .loop .inv .1) here))
-          ∙ sym (c .before .difference-fits-at .ensures .0)
+          ∙ sym (c .before .fits-at .ensures .0)
           ∙ not-true _ (c .if1 .taken),
     )
 
 -- the test passed: the value is in range
-passed : (c : tie.Else1 Inv-loop μ-loop) → inRange largest (minusAt (c .before .before .before .before .before .loop .a) (c .before .before .before .from-top .result) (c .before .before .before .before .before .before .args .d)) ≡ true
-passed c = sym (c .before .difference-fits-at .ensures .0) ∙ not-false _ (c .if1 .left)
+passed : (c : tie.Else1 Inv-loop μ-loop) → inRange largest (turnAt comb (c .before .before .before .before .before .before .args .d) (c .before .before .before .before .before .loop .a) (c .before .before .before .from-top .result)) ≡ true
+passed c = sym (c .before .fits-at .ensures .0) ∙ not-false _ (c .if1 .left)
 
-subtract-at-requires : tie.Need-subtract-at-requires Inv-loop μ-loop
-subtract-at-requires c κs = (omega arith, omega arith, range-fits _ (passed (c .before)))
+turn-requires : tie.Need-turn-requires Inv-loop μ-loop
+turn-requires c κs = (omega arith, omega arith, range-fits _ (passed (c .before)))
 
 add-t : tie.Need-add-t Inv-loop μ-loop
 add-t c = omega arith
@@ -72,8 +72,8 @@ loop-again c =
     let t = g .before .before .before .before .before in
     let k = g .before .before .before .from-top .result in (
       omega arith,
-      rw (c .before .subtract-at .ensures)
-          (down-turn k (t .before .pre .0) (omega arith) (omega arith) (t .loop .inv .1) _ (omega arith) (omega arith) (passed g) (g .before .difference-fits-at .ensures .1)),
+      rw (c .before .turn .ensures)
+          (down-turn k (t .before .pre .0) (omega arith) (omega arith) (t .loop .inv .1) _ (omega arith) (omega arith) (passed g) (g .before .fits-at .ensures .1)),
     )
 
 same-length-2 : tie.Need-same-length-2 Inv-loop μ-loop
@@ -94,11 +94,11 @@ comb-down-spec =
     sub-turns
     loop-holds
     from-top-requires
-    difference-fits-at-requires
+    fits-at-requires
     add-result
     same-length
     returns
-    subtract-at-requires
+    turn-requires
     add-t
     loop-less
     loop-again

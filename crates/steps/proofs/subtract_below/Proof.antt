@@ -3,9 +3,9 @@ use mathlib.Core.Path.{_≡_, refl, sym, _∙_}
 use Prim.Native.Nat.{_-_, _≤_}
 use native.Mathlib.Omega.{arith}
 use lib.ListN.{length}
-use Rattle.definitions.specs.Steps.{entries}
+use Rattle.definitions.specs.Steps.{comb, entries}
 use Rattle.step_laws.specs.Step.{combed-from}
-use Rattle.steps.specs.Passes.{Split, combedBelow, minusAt}
+use Rattle.steps.specs.Passes.{Split, combedBelow, turnAt}
 use Rattle.steps.proofs.Below.{below-end, past-end, below-d}
 use Rattle.steps.proofs.Split.{moved-down, minus-turn, all-above}
 use Rattle.steps.proofs.subtract_below.Statement.{statement}
@@ -30,7 +30,7 @@ sub-i : tie.Need-sub-i Inv-loop μ-loop
 sub-i c = omega arith
 
 -- what a turn computes
-value : (c : tie.In-loop Inv-loop μ-loop) → minusAt (c .before .loop .a) (c .before .loop .i - 1) (c .before .before .args .d) ≡ combedBelow (c .before .before .args .d) (c .before .before .args .end) (entries (c .before .before .args .a .now)) (c .before .loop .i - 1)
+value : (c : tie.In-loop Inv-loop μ-loop) → turnAt comb (c .before .before .args .d) (c .before .loop .a) (c .before .loop .i - 1) ≡ combedBelow (c .before .before .args .d) (c .before .before .args .end) (entries (c .before .before .args .a .now)) (c .before .loop .i - 1)
 value c =
     let p = c .before .before in
     let k = c .before .loop .i - 1 in
@@ -38,8 +38,8 @@ value c =
     (below-end (p .args .d) (p .args .end) (entries (p .args .a .now)) k (omega arith)
     ∙ combed-from (p .args .d) (entries (p .args .a .now)) k (omega arith))
 
-subtract-at-requires : tie.Need-subtract-at-requires Inv-loop μ-loop
-subtract-at-requires c κs =
+turn-requires : tie.Need-turn-requires Inv-loop μ-loop
+turn-requires c κs =
     let p = c .before .before .before in
     let k = c .before .before .loop .i - 1 in (
       omega arith,
@@ -57,7 +57,7 @@ loop-again c =
     let k = t .before .loop .i - 1 in (
       omega arith,
       omega arith,
-      rw (c .before .subtract-at .ensures)
+      rw (c .before .turn .ensures)
           (moved-down (t .before .loop .inv .2) k k (omega arith) (omega arith) refl _ (value t)),
     )
 
@@ -73,4 +73,4 @@ returns c =
 pub subtract-below-spec : {M : Type 1} → statement M
 subtract-below-spec =
     tie.close
-    (tie.spec Inv-loop μ-loop loop-holds sub-i subtract-at-requires loop-less loop-again same-length returns)
+    (tie.spec Inv-loop μ-loop loop-holds sub-i turn-requires loop-less loop-again same-length returns)
