@@ -12,7 +12,7 @@ use Rattle.definitions.specs.Steps.{comb, accumulate, combed, accumulated, inRa
 use Rattle.step_laws.specs.Step.{combed-from}
 use Rattle.step_laws.specs.Summed.{accumulated-from, accumulated-below}
 use Rattle.step_laws.specs.Tests.{by-order}
-use Rattle.steps.specs.Passes.{turnAt, CombedTo, AccumulatedTo}
+use Rattle.steps.specs.Passes.{Split, turnAt, CombedTo, AccumulatedTo}
 use Rattle.steps.proofs.Split.{moved-up, moved-down, plus-turn, minus-turn}
 
 -- nothing lies from i on and below i
@@ -38,7 +38,7 @@ module _ (P : ℕ → Type 0) (i k j : ℕ) (here : P k) where
 
 module _ {d : ℕ} {l m : List ℤ} {i : ℕ} (k : ℕ) (one : 1 ≤ d) (h : d ≤ k) (b : k < length l) where
   pub up-value : AccumulatedTo d l m i → k ≡ i → turnAt accumulate d m k ≡ accumulated d (entries l) k
-  up-value t here = plus-turn (t .split) d k one h b here (accumulated-from d (entries l) k one h)
+  up-value t here = plus-turn (t .split) d k one h b (omega arith) (omega arith) (accumulated-from d (entries l) k one h)
 
   pub up-turn : AccumulatedTo d l m i → (j : ℕ) → k ≡ i → j ≡ k + 1 → inRange largest (turnAt accumulate d m k) ≡ true → SFits w64 (entries m k) → AccumulatedTo d l (set m k (turnAt accumulate d m k)) j
   unfolding entries
@@ -59,7 +59,7 @@ module _ {d : ℕ} {l m : List ℤ} {i : ℕ} (k : ℕ) (one : 1 ≤ d) (h : d �
       }
 
   pub down-value : CombedTo d l m i → i ≡ k + 1 → turnAt comb d m k ≡ combed d (entries l) k
-  down-value t here = minus-turn (t .split) d k one h b here (combed-from d (entries l) k h)
+  down-value t here = minus-turn (t .split) d k one h b (omega arith) (combed-from d (entries l) k h)
 
   pub down-turn : CombedTo d l m i → (j : ℕ) → i ≡ k + 1 → j ≡ k → inRange largest (turnAt comb d m k) ≡ true → SFits w64 (entries m k) → CombedTo d l (set m k (turnAt comb d m k)) j
   unfolding entries
@@ -80,25 +80,33 @@ module _ {d : ℕ} {l m : List ℤ} {i : ℕ} (k : ℕ) (one : 1 ≤ d) (h : d �
             (t .fit);
       }
 
-module _ (d : ℕ) (l : List ℤ) (h : d ≤ length l) (i : ℕ) where
-  pub up-start : i ≡ d → AccumulatedTo d l l i
+-- before the first turn
+module _ (d : ℕ) (l : List ℤ) (i : ℕ) where
+  pub split-up : i ≡ d → Split l (length l) i (accumulated d (entries l)) (entries l)
   unfolding entries
-  up-start e =
+  split-up e =
+      record { len = refl; below = λ k b s. sym (accumulated-below d (entries l) k (omega arith)); above = λ k b s. refl }
+
+  pub split-down : i ≡ length l → Split l (length l) i (entries l) (combed d (entries l))
+  unfolding entries
+  split-down e = record { len = refl; below = λ k b s. refl; above = λ k b s. none i k b (omega arith) }
+
+  pub up-start : d ≤ length l → i ≡ d → AccumulatedTo d l l i
+  up-start h e =
       record {
         from = omega arith;
         to = omega arith;
-        split = record { len = refl; below = λ k b s. sym (accumulated-below d (entries l) k (omega arith)); above = λ k b s. refl };
+        split = split-up e;
         inside = λ k b s. none d k b (omega arith);
         fit = λ k b s. none d k b (omega arith);
       }
 
-  pub down-start : i ≡ length l → CombedTo d l l i
-  unfolding entries
-  down-start e =
+  pub down-start : d ≤ length l → i ≡ length l → CombedTo d l l i
+  down-start h e =
       record {
         from = omega arith;
         to = omega arith;
-        split = record { len = refl; below = λ k b s. refl; above = λ k b s. none i k b (omega arith) };
+        split = split-down e;
         inside = λ k b s. none i k b (omega arith);
         fit = λ k b s. none i k b (omega arith);
       }

@@ -37,16 +37,9 @@ Fit i n f = (k : ℕ) → i ≤ k → k < n → SFits w64 (f k)
 abbrev pub Inside : ℕ → ℕ → Series → Type 0
 Inside i n f = (k : ℕ) → i ≤ k → k < n → inRange largest (f k) ≡ true
 
--- four entries from k on
-abbrev pub FitFour : ℕ → Series → Type 0
-FitFour k v = (j : ℕ) → k ≤ j → j < k + 4 → SFits w64 (v j)
-
--- the values v put into their places, upward and downward
-abbrev pub fourUp : List ℤ → ℕ → Series → List ℤ
-fourUp l k v = set (set (set (set l k (v k)) (k + 1) (v (k + 1))) (k + 2) (v (k + 2))) (k + 3) (v (k + 3))
-
-abbrev pub fourDown : List ℤ → ℕ → Series → List ℤ
-fourDown l k v = set (set (set (set l (k + 3) (v (k + 3))) (k + 2) (v (k + 2))) (k + 1) (v (k + 1))) k (v k)
+-- four values v put into their places, from k on
+abbrev pub fourAt : List ℤ → ℕ → Series → List ℤ
+fourAt l k v = set (set (set (set l k (v k)) (k + 1) (v (k + 1))) (k + 2) (v (k + 2))) (k + 3) (v (k + 3))
 
 -- the entries from d on and below `end`, each with the old one d before it taken away: a comb that starts early
 unfoldable pub combedBelow : ℕ → ℕ → Series → Series

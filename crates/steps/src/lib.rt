@@ -1,6 +1,8 @@
 // One step on a lent slice: a comb or an accumulate, in place, in one pass. A value out of range stops the pass, and what it
 // did is undone by the opposite pass.
 
+mod under;
+
 ghost use mathlib.Core.Path.{_≡_};
 ghost use mathlib.Core.Bool.{true, false};
 ghost use Prim.Native.Nat.{ℕ, _+_, _-_, _≤_, _<_};

@@ -23,7 +23,7 @@ sub-turns : tie.Need-sub-turns Inv-loop μ-loop
 sub-turns c = c .pre .1
 
 loop-holds : tie.Need-loop-holds Inv-loop μ-loop
-loop-holds c = (omega arith, up-start (c .args .d) (c .args .a .now) (c .pre .1) _ (omega arith))
+loop-holds c = (omega arith, up-start (c .args .d) (c .args .a .now) _ (c .pre .1) (omega arith))
 
 from-bottom-requires : tie.Need-from-bottom-requires Inv-loop μ-loop
 from-bottom-requires c κs = omega arith

@@ -34,7 +34,7 @@ value : (c : tie.In-loop Inv-loop μ-loop) → turnAt accumulate (c .before .bef
 value c =
     let p = c .before .before in
     let i = c .before .loop .i in
-    plus-turn (c .before .loop .inv .2) (p .args .d) i (p .pre .0 .0) (omega arith) (omega arith) refl
+    plus-turn (c .before .loop .inv .2) (p .args .d) i (p .pre .0 .0) (omega arith) (omega arith) (omega arith) (omega arith)
     (summed-from (p .args .d) (p .args .from) (entries (p .args .a .now)) (p .pre .0 .0) (p .pre .0 .1) i (omega arith))
 
 turn-requires : tie.Need-turn-requires Inv-loop μ-loop
