@@ -5,13 +5,16 @@ ghost use mathlib.Core.Path.{_≡_};
 ghost use mathlib.Core.Bool.{false};
 ghost use Prim.Native.Nat.{_+_, _≤_, _<_};
 ghost use lib.ListN.{length};
+ghost use mir.Syntax.{w64};
+ghost use mir.Val.{SFits};
 ghost use Rattle.definitions.specs.Steps.{comb, accumulate, combed, accumulated, entries, largest, stepOver, stepList};
 ghost use Rattle.steps.specs.Sorts.{sortMeans};
-ghost use Rattle.steps.specs.Passes.{turnAt, Fit, Split, fourAt};
+ghost use Rattle.steps.specs.Passes.{turnAt, All, Fit, Split, fourAt};
 use crate::Sort;
 use crate::add_from;
 use crate::put;
 use crate::subtract_below;
+use crate::turn_value;
 use crate::value_at;
 
 // Four turns at once, at the places from k on.
@@ -46,14 +49,15 @@ fn comb_fours(a: &mut [i64], d: usize) -> usize
     i
 }
 
-// An accumulate by fours, from d up. Where d is below four, one turn needs what another of the four makes, and none is taken.
+// An accumulate by fours, from d up. Where d is below four, one turn needs what another of the four makes; and up to some thirty it
+// needs what has only just been written, for which the processor waits. There none is taken.
 fn accumulate_fours(a: &mut [i64], d: usize) -> usize
     requires { ⌜ (1 ≤ d) × (d ≤ length (now a)) × Fit d (length (now a)) (accumulated d (entries (now a))) ⌝ }
     ensures { λ r. ⌜ (d ≤ r) × (r ≤ length (now (a .entry))) ⌝ }
     ensures { λ r. ⌜ Split (now (a .exit)) (length (now (a .entry))) r (accumulated d (entries (now (a .entry)))) (entries (now (a .entry))) ⌝ }
 {
     let mut i = d;
-    if d < 4 {
+    if d < 32 {
         return i;
     }
     while 4 <= a.len() - i {
@@ -61,6 +65,28 @@ fn accumulate_fours(a: &mut [i64], d: usize) -> usize
         i += 4;
     }
     i
+}
+
+fn entry(a: &[i64], i: usize) -> i64
+    requires { ⌜ i < length (now a) ⌝ }
+    ensures { λ r. ⌜ (r ≡ entries (now (a .entry)) i) × SFits w64 (entries (now (a .entry)) i) ⌝ }
+{
+    a[i]
+}
+
+// An accumulate of size 1: the sum so far stays in a register, where a turn would read back what the last one wrote.
+fn running(a: &mut [i64])
+    requires { ⌜ (1 ≤ length (now a)) × Fit 1 (length (now a)) (accumulated 1 (entries (now a))) ⌝ }
+    ensures { λ _. ⌜ All (now (a .exit)) (length (now (a .entry))) (accumulated 1 (entries (now (a .entry)))) ⌝ }
+{
+    let mut s = entry(a, 0);
+    let mut i = 1;
+    while i < a.len() {
+        let x = entry(a, i);
+        s = turn_value(Sort::Accumulate, x, s);
+        put(a, i, s);
+        i += 1;
+    }
 }
 
 // A comb of which it is known that no value leaves the range.
@@ -81,6 +107,10 @@ pub(crate) fn accumulate_under(a: &mut [i64], d: usize)
     ensures { λ _. ⌜ now (a .exit) ≡ stepList accumulate d (now (a .entry)) ⌝ }
 {
     if a.len() <= d {
+        return;
+    }
+    if d == 1 {
+        running(a);
         return;
     }
     let r = accumulate_fours(a, d);
