@@ -11,11 +11,11 @@ ghost use Rattle.definitions.specs.Steps.{comb, accumulate, combed, accumulated
 ghost use Rattle.steps.specs.Sorts.{sortMeans};
 ghost use Rattle.steps.specs.Passes.{turnAt, All, Fit, Split, fourAt};
 use crate::Sort;
-use crate::add_from;
-use crate::put;
-use crate::subtract_below;
-use crate::turn_value;
-use crate::value_at;
+use crate::pass::add_from;
+use crate::pass::subtract_below;
+use crate::turn::put;
+use crate::turn::turn_value;
+use crate::turn::value_at;
 
 // Four turns at once, at the places from k on.
 fn four(sort: Sort, a: &mut [i64], k: usize, d: usize)
