@@ -1,6 +1,6 @@
 -- `steps::range::difference_fits` meets its contract: two small numbers have a difference in range, and else one test by the sign of b
 -- is that of the range (`upper-is`, `lower-is`).
-use mathlib.Core.Path.{_≡_, sym, _∙_}
+use mathlib.Core.Path.{sym}
 use native.Mathlib.Omega.{arith}
 use borrow.Author.Needs.{needs}
 use mir.Facts.{toZ-ofZ}

@@ -1,5 +1,4 @@
 -- `steps::range::small` meets its contract: the lower test, and where it holds the upper one.
-use mathlib.Core.Path.{_≡_}
 use mir.Facts.{toZ-ofZ}
 use Rattle.step_laws.specs.Signed.{above-test, below-test}
 use Rattle.steps.proofs.range.small.Statement.{statement}

@@ -1,5 +1,5 @@
 -- `steps::range::sum_fits` meets its contract: a + b is the difference of a and -b, so the tests are those of `difference_fits`.
-use mathlib.Core.Path.{_≡_, sym, _∙_, ap}
+use mathlib.Core.Path.{sym, _∙_, ap}
 use native.Mathlib.Omega.{arith}
 use borrow.Author.Needs.{needs}
 use mir.Facts.{toZ-ofZ}
