@@ -1,0 +1,3 @@
+-- What the functions' proofs share: signs, widths, bytes, lists, and the round trips.
+pub mod Signs
+pub mod Widths
