@@ -1,3 +1,4 @@
 -- What the functions' proofs share: signs, widths, bytes, lists, and the round trips.
 pub mod Signs
 pub mod Widths
+pub mod Passes

@@ -1,4 +1,5 @@
 // The shelf record: a writer and a reader that agree to the byte.
+mod bytes;
 mod numbers;
 
 // What the writer answers: the code, the degree, and the bytes used.
