@@ -1,4 +1,6 @@
 -- What the functions' proofs share: signs, widths, bytes, lists, and the round trips.
 pub mod Signs
 pub mod Widths
+pub mod Least
 pub mod Passes
+pub mod Writing

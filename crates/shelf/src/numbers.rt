@@ -6,7 +6,8 @@ ghost use mathlib.Core.Bool.{cond};
 ghost use lib.IntN.{pos, negsuc, natAbs};
 ghost use lib.Seq.{sets};
 ghost use Rattle.definitions.specs.Answer.{heightOf};
-ghost use Rattle.shelf.specs.Numbers.{bytesOf, number, top, twos, signedOf, width, widths, leastOf};
+ghost use Rattle.shelf.specs.Numbers.{bytesOf, number, top, twos, signedOf, widths, oneOf, leastOf};
+ghost use Rattle.shelf.specs.Format.{isKind};
 
 // -(m + 1) or m.
 pub fn whole_of(below: bool, m: u64) -> i64
@@ -72,4 +73,22 @@ pub fn least_width(h: u64) -> usize
     } else {
         0
     }
+}
+
+pub fn is_kind(kind: u64) -> bool
+    ensures { λ r. ⌜ r ≡ isKind kind ⌝ }
+{
+    kind == 1 || kind == 2
+}
+
+pub fn is_width(w: u64) -> bool
+    ensures { λ r. ⌜ r ≡ oneOf widths w ⌝ }
+{
+    if w == 1 {
+        return true;
+    }
+    if w == 2 {
+        return true;
+    }
+    w == 4 || w == 8
 }
