@@ -4,3 +4,4 @@ pub mod Widths
 pub mod Least
 pub mod Passes
 pub mod Writing
+pub mod Reading

@@ -1,6 +1,7 @@
 // The shelf record: a writer and a reader that agree to the byte.
 mod bytes;
 mod numbers;
+mod reader;
 mod writer;
 
 // What the writer answers: the code, the degree, and the bytes used.

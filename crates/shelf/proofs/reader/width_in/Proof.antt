@@ -1,0 +1,21 @@
+-- `width_in`: a byte of the header.
+use borrow.Author.Needs.{needs}
+use Rattle.shelf.specs.Format.{widthIn}
+use Rattle.shelf.proofs.reader.width_in.Statement.{statement}
+use Rattle.shelf.proofs.reader.width_in.Tie as tie
+use Rattle.shelf.proofs.reader.width_in.Reads as reads
+use Rattle.shelf.proofs.reader.width_in.Lts as lts
+use Rattle.shelf.proofs.bytes.wide.Reads as wide-reads
+
+shared-slice-read-wide : tie.Need-shared-slice-read-wide
+shared-slice-read-wide c = search needs
+
+wide-requires : tie.Need-wide-requires
+wide-requires c κs = search needs
+
+returns : tie.Need-returns
+unfolding widthIn
+returns c = c .wide .ensures
+
+pub width-in-spec : {M : Type 1} → statement M
+width-in-spec = tie.close (tie.spec shared-slice-read-wide wide-requires returns)
