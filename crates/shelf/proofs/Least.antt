@@ -14,7 +14,7 @@ use Rattle.definitions.specs.Steps.{largest}
 use Rattle.shelf.specs.Numbers.{top, widths, oneOf, leastOf, width}
 use Rattle.shelf.proofs.Widths.{full, full-mono}
 
-or-right : (a b : Bool) → b ≡ true → (a || b) ≡ true
+pub or-right : (a b : Bool) → b ≡ true → (a || b) ≡ true
 or-right true b e = refl
 or-right false b e = e
 

@@ -5,3 +5,4 @@ pub mod Least
 pub mod Passes
 pub mod Writing
 pub mod Reading
+pub mod Degrees

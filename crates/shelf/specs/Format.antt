@@ -7,6 +7,7 @@ use lib.ListN.{length, getD, take, drop}
 use lib.IntN.{ℤ}
 use lib.Dec.{leb, ltb, eqb}
 use Rattle.definitions.specs.Answer.{heightOf}
+use Rattle.definitions.specs.Polynomials.{degree}
 use Rattle.definitions.specs.Steps.{largest}
 use Rattle.definitions.specs.Codes.{DONE, KIND, INDEX, SHORT, OVER, CUT, MARK, FIELD, WIDTH}
 use Rattle.shelf.specs.declared.Written.{Written}
@@ -69,6 +70,10 @@ indexIn bytes = number (take 2 (drop 4 bytes))
 
 unfoldable pub countIn : List ℕ → ℕ
 countIn bytes = number (take 4 (drop 6 bytes))
+
+-- the degree at the kind and the index of the header
+unfoldable pub degreeIn : List ℕ → ℕ
+degreeIn bytes = degree (kindIn bytes) (indexIn bytes)
 
 unfoldable pub coefficientsIn : List ℕ → List ℤ
 coefficientsIn bytes = coefficientsAt (widthIn bytes) (countIn bytes) (drop 10 bytes)

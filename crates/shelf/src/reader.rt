@@ -14,7 +14,7 @@ ghost use Rattle.definitions.specs.Codes.{DONE};
 ghost use Rattle.shelf.specs.Format.{headerCode, marked, kindIn, widthIn, indexIn, countIn, readAnswer, readLeaves};
 
 // A refusal: the degree is told with SHORT only.
-fn refused(code: u64, degree: u64) -> Record
+pub fn refused(code: u64, degree: u64) -> Record
     ensures { λ r. ⌜ r ≡ record { code = code; degree = degree; used = 0; kind = 0; n = 0 } ⌝ }
 {
     Record {
