@@ -24,7 +24,7 @@ count-le (suc k) p = go (p (suc k)) (count-le k p)
     go true h = omega arith
     go false h = omega arith
 
-degree-le : (kind n : ℕ) → degree kind n ≤ n
+pub degree-le : (kind n : ℕ) → degree kind n ≤ n
 unfolding degree phi
 degree-le kind n = go (eqb kind 1) _ (count-le n _)
   where

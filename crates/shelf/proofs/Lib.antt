@@ -6,3 +6,8 @@ pub mod Passes
 pub mod Writing
 pub mod Reading
 pub mod Degrees
+pub mod Digits
+pub mod Done
+pub mod WriteRead
+pub mod ReadWrite
+pub mod RoundTrips

@@ -126,6 +126,10 @@ unfolding coefficientsAt
 length-at w zero bs = refl
 length-at w (suc k) bs = ap suc (length-at w k (drop w bs))
 
+pub length-all : (bs : List ℕ) → length (coefficientsIn bs) ≡ countIn bs
+unfolding coefficientsIn
+length-all bs = length-at (widthIn bs) (countIn bs) (drop 10 bs)
+
 -- as the functions have it, with w and k for the width and the count in the header
 module _ (bs : List ℕ) (w k : ℕ) (ew : w ≡ widthIn bs) (ek : k ≡ countIn bs) where
   pub size-in : 10 + k * w ≡ sizeIn bs
