@@ -11,3 +11,4 @@ pub mod Done
 pub mod WriteRead
 pub mod ReadWrite
 pub mod RoundTrips
+pub mod OneOutcome

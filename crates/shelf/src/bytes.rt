@@ -9,7 +9,7 @@ ghost use lib.Seq.{sets};
 ghost use Rattle.definitions.specs.Answer.{heightOf};
 ghost use Rattle.shelf.specs.Numbers.{bytesOf, number, top, signedOf, body, coefficientsAt};
 
-pub fn wide(b: u8) -> u64
+pub(crate) fn wide(b: u8) -> u64
     ensures { λ r. ⌜ r ≡ b ⌝ }
 {
     b as u64
@@ -22,7 +22,7 @@ fn larger(a: u64, b: u64) -> u64
 }
 
 // v in w bytes, from `at` on.
-pub fn put(bytes: &mut [u8], at: usize, w: usize, v: u64)
+pub(crate) fn put(bytes: &mut [u8], at: usize, w: usize, v: u64)
     requires { ⌜ at + w ≤ length (now bytes) ⌝ }
     ensures { λ r. ⌜ now (bytes .exit) ≡ sets (now (bytes .entry)) at (bytesOf w v) ⌝ }
 {
@@ -38,7 +38,7 @@ pub fn put(bytes: &mut [u8], at: usize, w: usize, v: u64)
 }
 
 // The number in the w bytes from `at` on.
-pub fn get(bytes: &[u8], at: usize, w: usize) -> u64
+pub(crate) fn get(bytes: &[u8], at: usize, w: usize) -> u64
     requires { ⌜ (at + w ≤ length (now bytes)) × (w ≤ 8) ⌝ }
     ensures { λ r. ⌜ (r ≡ number (take w (drop at (now (bytes .entry))))) × (r < 2 ^ (8 * w)) ⌝ }
 {
@@ -60,7 +60,7 @@ fn coefficient(bytes: &[u8], at: usize, w: usize) -> i64
 }
 
 // Writing, the look: the height of the coefficients.
-pub fn height(coeffs: &[i64]) -> u64
+pub(crate) fn height(coeffs: &[i64]) -> u64
     ensures { λ r. ⌜ r ≡ heightOf (now (coeffs .entry)) ⌝ }
 {
     let mut h: u64 = 0;
@@ -73,7 +73,7 @@ pub fn height(coeffs: &[i64]) -> u64
 }
 
 // Writing, the store: each coefficient in w bytes, after the header.
-pub fn put_body(coeffs: &[i64], w: usize, bytes: &mut [u8])
+pub(crate) fn put_body(coeffs: &[i64], w: usize, bytes: &mut [u8])
     requires { ⌜ (0 < w) × (w ≤ 8) × (heightOf (now coeffs) ≤ top w) × (10 + length (body w (now coeffs)) ≤ length (now bytes)) ⌝ }
     ensures { λ r. ⌜ now (bytes .exit) ≡ sets (now (bytes .entry)) 10 (body w (now (coeffs .entry))) ⌝ }
 {
@@ -87,7 +87,7 @@ pub fn put_body(coeffs: &[i64], w: usize, bytes: &mut [u8])
 }
 
 // Reading, the look: the height of the k coefficients after the header.
-pub fn height_in(bytes: &[u8], w: usize, k: usize) -> u64
+pub(crate) fn height_in(bytes: &[u8], w: usize, k: usize) -> u64
     requires { ⌜ (0 < w) × (w ≤ 8) × (10 + k * w ≤ length (now bytes)) ⌝ }
     ensures { λ r. ⌜ r ≡ heightOf (coefficientsAt w k (drop 10 (now (bytes .entry)))) ⌝ }
 {
@@ -103,7 +103,7 @@ pub fn height_in(bytes: &[u8], w: usize, k: usize) -> u64
 }
 
 // Reading, the store: the k coefficients after the header.
-pub fn fill(bytes: &[u8], w: usize, k: usize, coeffs: &mut [i64])
+pub(crate) fn fill(bytes: &[u8], w: usize, k: usize, coeffs: &mut [i64])
     requires { ⌜ (0 < w) × (w ≤ 8) × (10 + k * w ≤ length (now bytes)) × (k ≤ length (now coeffs)) ⌝ }
     ensures { λ r. ⌜ now (coeffs .exit) ≡ sets (now (coeffs .entry)) 0 (coefficientsAt w k (drop 10 (now (bytes .entry)))) ⌝ }
 {

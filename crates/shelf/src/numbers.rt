@@ -10,7 +10,7 @@ ghost use Rattle.shelf.specs.Numbers.{bytesOf, number, top, twos, signed
 ghost use Rattle.shelf.specs.Format.{isKind};
 
 // -(m + 1) or m.
-pub fn whole_of(below: bool, m: u64) -> i64
+pub(crate) fn whole_of(below: bool, m: u64) -> i64
     requires { ⌜ m < 2 ^ 63 ⌝ }
     ensures { λ r. ⌜ r ≡ cond below (negsuc m) (pos m) ⌝ }
 {
@@ -18,14 +18,14 @@ pub fn whole_of(below: bool, m: u64) -> i64
 }
 
 // The magnitude of x; that of -2^63 fits too. Below 0, -(m + 1) with all bits turned round is m.
-pub fn magnitude(x: i64) -> u64
+pub(crate) fn magnitude(x: i64) -> u64
     ensures { λ r. ⌜ r ≡ natAbs x ⌝ }
 {
     if x < 0 { (!x as u64) + 1 } else { x as u64 }
 }
 
 // The largest height that w bytes take.
-pub fn top_of(w: usize) -> u64
+pub(crate) fn top_of(w: usize) -> u64
     requires { ⌜ (0 < w) × (w ≤ 8) ⌝ }
     ensures { λ r. ⌜ r ≡ top w ⌝ }
 {
@@ -33,7 +33,7 @@ pub fn top_of(w: usize) -> u64
 }
 
 // Two's complement of x in w bytes, which take it.
-pub fn twos_of(x: i64, w: usize) -> u64
+pub(crate) fn twos_of(x: i64, w: usize) -> u64
     requires { ⌜ (0 < w) × (w ≤ 8) × (natAbs x ≤ top w) ⌝ }
     ensures { λ r. ⌜ r ≡ twos w x ⌝ }
 {
@@ -46,7 +46,7 @@ pub fn twos_of(x: i64, w: usize) -> u64
 }
 
 // The number that v stands for in w bytes.
-pub fn signed_of(v: u64, w: usize) -> i64
+pub(crate) fn signed_of(v: u64, w: usize) -> i64
     requires { ⌜ (0 < w) × (w ≤ 8) × (v < 2 ^ (8 * w)) ⌝ }
     ensures { λ r. ⌜ r ≡ signedOf w v ⌝ }
 {
@@ -59,7 +59,7 @@ pub fn signed_of(v: u64, w: usize) -> i64
 }
 
 // The least width that takes a height; 0 where none does.
-pub fn least_width(h: u64) -> usize
+pub(crate) fn least_width(h: u64) -> usize
     ensures { λ r. ⌜ r ≡ leastOf widths h ⌝ }
 {
     if h <= 127 {
@@ -75,13 +75,13 @@ pub fn least_width(h: u64) -> usize
     }
 }
 
-pub fn is_kind(kind: u64) -> bool
+pub(crate) fn is_kind(kind: u64) -> bool
     ensures { λ r. ⌜ r ≡ isKind kind ⌝ }
 {
     kind == 1 || kind == 2
 }
 
-pub fn is_width(w: u64) -> bool
+pub(crate) fn is_width(w: u64) -> bool
     ensures { λ r. ⌜ r ≡ oneOf widths w ⌝ }
 {
     if w == 1 {

@@ -14,7 +14,7 @@ ghost use Rattle.definitions.specs.Codes.{DONE};
 ghost use Rattle.shelf.specs.Format.{headerCode, marked, kindIn, widthIn, indexIn, countIn, readAnswer, readLeaves};
 
 // A refusal: the degree is told with SHORT only.
-pub fn refused(code: u64, degree: u64) -> Record
+pub(crate) fn refused(code: u64, degree: u64) -> Record
     ensures { λ r. ⌜ r ≡ record { code = code; degree = degree; used = 0; kind = 0; n = 0 } ⌝ }
 {
     Record {
@@ -34,7 +34,7 @@ fn is_marked(bytes: &[u8]) -> bool
     bytes[0] == 0xC9 && bytes[1] == 0x50
 }
 
-pub fn kind_in(bytes: &[u8]) -> u64
+pub(crate) fn kind_in(bytes: &[u8]) -> u64
     requires { ⌜ 10 ≤ length (now bytes) ⌝ }
     ensures { λ r. ⌜ r ≡ kindIn (now (bytes .entry)) ⌝ }
 {
@@ -48,7 +48,7 @@ fn width_in(bytes: &[u8]) -> u64
     wide(bytes[3])
 }
 
-pub fn index_in(bytes: &[u8]) -> u64
+pub(crate) fn index_in(bytes: &[u8]) -> u64
     requires { ⌜ 10 ≤ length (now bytes) ⌝ }
     ensures { λ r. ⌜ (r ≡ indexIn (now (bytes .entry))) × (r ≤ 65535) ⌝ }
 {
@@ -63,7 +63,7 @@ fn count_in(bytes: &[u8]) -> u64
 }
 
 // What the header says by itself: CUT, MARK, FIELD, or nothing wrong.
-pub fn header_code(bytes: &[u8]) -> u64
+pub(crate) fn header_code(bytes: &[u8]) -> u64
     ensures { λ r. ⌜ r ≡ headerCode (now (bytes .entry)) ⌝ }
 {
     if bytes.len() < 10 {
@@ -85,7 +85,7 @@ pub fn header_code(bytes: &[u8]) -> u64
 }
 
 // Reading past a right header, at the degree of its kind and index, which the caller has worked out.
-pub fn read_with(bytes: &[u8], degree: u64, coeffs: &mut [i64]) -> Record
+pub(crate) fn read_with(bytes: &[u8], degree: u64, coeffs: &mut [i64]) -> Record
     requires { ⌜ (headerCode (now bytes) ≡ DONE) × (degree ≤ 65535) ⌝ }
     ensures { λ r. ⌜ (r ≡ readAnswer degree (now (bytes .entry)) (length (now (coeffs .entry)))) × (now (coeffs .exit) ≡ readLeaves degree (now (bytes .entry)) (now (coeffs .entry))) ⌝ }
 {

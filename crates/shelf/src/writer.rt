@@ -36,7 +36,13 @@ fn store(kind: u64, n: u64, w: usize, coeffs: &[i64], bytes: &mut [u8])
 }
 
 // Writing at a kind and an index whose degree the caller has worked out.
-pub fn write_with(kind: u64, n: u64, degree: u64, coeffs: &[i64], bytes: &mut [u8]) -> Written
+pub(crate) fn write_with(
+    kind: u64,
+    n: u64,
+    degree: u64,
+    coeffs: &[i64],
+    bytes: &mut [u8],
+) -> Written
     requires { ⌜ degree ≤ 65535 ⌝ }
     ensures { λ r. ⌜ (r ≡ writeAnswer degree kind n (now (coeffs .entry)) (length (now (bytes .entry)))) × (now (bytes .exit) ≡ writeLeaves degree kind n (now (coeffs .entry)) (now (bytes .entry))) ⌝ }
 {
