@@ -1,15 +1,15 @@
 -- Numbers and their bytes, coefficients and theirs, each way and back, all over the width w.
 use Prim.Native.Nat.{ℕ, zero, suc, _+_, _*_, _-_, _/_, _%_, _≤_, _<_, _^_}
-use mathlib.Core.Path.{_≡_, refl, sym, ap, _∙_}
+use mathlib.Core.Path.{_≡_, refl, ap, _∙_}
 use mathlib.Core.Bool.{Bool, true, false, cond}
 use lib.Dec.{leb}
 use mathlib.Core.List.{List, [], _∷_, _++_, append-assoc}
 use native.Mathlib.Omega.{arith}
-use native.Mathlib.Nat.{zero-mul, suc-mul, add-comm}
-use lib.ListN.{length, getD, take, drop, length-take, length-drop}
+use native.Mathlib.Nat.{zero-mul, suc-mul}
+use lib.ListN.{length, getD, take, drop, length-drop}
 use lib.Seq.{take-at, drop-at, take-add, length-take-le}
 use lib.IntN.{ℤ, pos, negsuc, natAbs}
-use borrow.Author.Tests.{le-leb, lt-leb, leb-true, leb-false}
+use borrow.Author.Tests.{le-leb, lt-leb}
 use Rattle.definitions.specs.Answer.{heightOf}
 use Rattle.shelf.specs.Numbers.{bytesOf, number, top, twos, signedOf, body, coefficientsAt}
 use Rattle.shelf.proofs.Widths.{full, full-suc}

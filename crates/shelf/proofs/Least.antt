@@ -8,7 +8,7 @@ use mathlib.Core.Logic.{_⊎_, inl, inr, ⊎-elim}
 use native.Mathlib.Omega.{arith}
 use lib.IntN.{ℤ}
 use lib.Dec.{leb, ltb, eqb}
-use borrow.Author.Tests.{leb-true, leb-false, eqb-true, eqb-false, eq-eqb, le-ltb, ltb-false, le-leb}
+use borrow.Author.Tests.{leb-true, eqb-true, eqb-false, eq-eqb, le-ltb, ltb-false, le-leb}
 use Rattle.definitions.specs.Answer.{heightOf}
 use Rattle.definitions.specs.Steps.{largest}
 use Rattle.shelf.specs.Numbers.{top, widths, oneOf, leastOf, width}

@@ -7,10 +7,10 @@ use native.Mathlib.Omega.{arith}
 use native.Mathlib.Numerals.{add-one}
 use native.Mathlib.Nat.{add-zero, suc-mul}
 use lib.ListN.{length, getD, set, take, drop, length-append, drop-of-length-le}
-use lib.Seq.{sets, drop-cons, drop-drop, length-sets}
+use lib.Seq.{sets, drop-cons, drop-drop}
 use lib.IntN.{ℤ, pos, natAbs}
 use Rattle.definitions.specs.Answer.{heightOf}
-use Rattle.shelf.specs.Numbers.{bytesOf, number, top, twos, signedOf, body, coefficientsAt}
+use Rattle.shelf.specs.Numbers.{bytesOf, number, twos, signedOf, body, coefficientsAt}
 use Rattle.shelf.proofs.Widths.{full-suc, full-mono}
 
 -- a number put: the lowest byte first

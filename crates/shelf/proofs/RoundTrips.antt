@@ -1,7 +1,7 @@
 -- The round trips, over what the public functions promise: what the writer wrote reads back to the same kind, index and
 -- coefficients; a record that reads well, rewritten, is the same bytes; what lies past a record is untouched both ways.
-use Prim.Native.Nat.{ℕ, zero, suc, _+_, _≤_, _<_}
-use mathlib.Core.Path.{_≡_, refl, sym, ap, _∙_}
+use Prim.Native.Nat.{ℕ, _+_, _≤_, _<_}
+use mathlib.Core.Path.{_≡_, refl}
 use mathlib.Core.Bool.{Bool, true, false, cond}
 use mathlib.Core.List.{List, _++_}
 use native.Mathlib.Omega.{arith}
@@ -9,7 +9,6 @@ use lib.ListN.{length, getD, take, drop}
 use lib.Seq.{drop-at}
 use lib.IntN.{ℤ}
 use lib.Dec.{eqb}
-use borrow.Author.Tests.{eqb-true}
 use Rattle.definitions.specs.Codes.{DONE}
 use Rattle.definitions.specs.Polynomials.{degree}
 use Rattle.shelf.specs.declared.Written.{Written}
@@ -17,7 +16,7 @@ use Rattle.shelf.specs.declared.Record.{Record}
 use Rattle.shelf.specs.Format.{recordOf, size, writeCode, writeTells, writeAnswer, writeLeaves, degreeIn, kindIn, indexIn, countIn, coefficientsIn, sizeIn, readCode, readTells, readAnswer, readLeaves}
 use Rattle.shelf.proofs.Writing.{length-record}
 use Rattle.shelf.proofs.Reading.{length-all}
-use Rattle.shelf.proofs.Digits.{Bytes, bytes-each}
+use Rattle.shelf.proofs.Digits.{bytes-each}
 use Rattle.shelf.proofs.Degrees.{degree-le}
 use Rattle.shelf.proofs.Done.{written-right}
 use Rattle.shelf.proofs.WriteRead.{left-written, degree-back, write-read-record}

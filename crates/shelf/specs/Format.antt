@@ -2,10 +2,10 @@
 -- answers on any bytes at all and leaves. `d` is the degree of the kind at the index, which the caller works out.
 use Prim.Native.Nat.{ℕ, _+_, _*_}
 use mathlib.Core.Bool.{Bool, cond, not, _&&_, _||_}
-use mathlib.Core.List.{List, [], _∷_, _++_}
+use mathlib.Core.List.{List, _∷_, _++_}
 use lib.ListN.{length, getD, take, drop}
 use lib.IntN.{ℤ}
-use lib.Dec.{leb, ltb, eqb}
+use lib.Dec.{ltb, eqb}
 use Rattle.definitions.specs.Answer.{heightOf}
 use Rattle.definitions.specs.Polynomials.{degree}
 use Rattle.definitions.specs.Steps.{largest}

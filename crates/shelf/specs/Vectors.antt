@@ -6,7 +6,7 @@ use mathlib.Core.List.{map}
 use lib.IntN.{ℤ, pos, negsuc}
 use Rattle.definitions.specs.Answer.{heightOf}
 use Rattle.shelf.specs.Numbers.{bytesOf, number, top, twos, signedOf, body, coefficientsAt, oneOf, leastOf, width}
-use Rattle.shelf.specs.Format.{headerOf, recordOf, size, isKind, writeCode, marked, kindIn, widthIn, indexIn, countIn, coefficientsIn, sizeIn, fieldsRight, headerCode, readCode}
+use Rattle.shelf.specs.Format.{headerOf, recordOf, isKind, marked, kindIn, widthIn, indexIn, countIn, coefficientsIn, sizeIn, fieldsRight, headerCode, readCode}
 
 -- F(6): C9 50 01 01 06 00 03 00 00 00 01 FF 01
 F6 : List ℕ

@@ -4,8 +4,6 @@ use borrow.Author.Tests.{lt-ltb, le-ltb, eq-eqb, ne-eqb}
 use Rattle.definitions.specs.Numbers.{divides}
 use Rattle.degrees.proofs.common.Statement.{statement}
 use Rattle.degrees.proofs.common.Tie as tie
-use Rattle.degrees.proofs.common.Reads as reads
-use Rattle.degrees.proofs.common.Lts as lts
 
 returns : tie.Need-returns
 unfolding divides

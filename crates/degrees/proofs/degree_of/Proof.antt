@@ -4,9 +4,6 @@ use borrow.Author.Tests.{lt-ltb, le-ltb, eq-eqb, ne-eqb}
 use Rattle.definitions.specs.Polynomials.{degree}
 use Rattle.degrees.proofs.degree_of.Statement.{statement}
 use Rattle.degrees.proofs.degree_of.Tie as tie
-use Rattle.degrees.proofs.degree_of.Reads as reads
-use Rattle.degrees.proofs.degree_of.Lts as lts
-use Rattle.degrees.proofs.phi_of.Reads as phi-of-reads
 
 returns : tie.Need-returns
 unfolding degree

@@ -7,10 +7,6 @@ use native.Mathlib.Numerals.{add-one}
 use Rattle.definitions.specs.Numbers.{countTo, shareFactor, phi}
 use Rattle.degrees.proofs.phi_of.Statement.{statement}
 use Rattle.degrees.proofs.phi_of.Tie as tie
-use Rattle.degrees.proofs.phi_of.Reads as reads
-use Rattle.degrees.proofs.phi_of.Lts as lts
-use Rattle.degrees.proofs.one_if_not.Reads as one-if-not-reads
-use Rattle.degrees.proofs.share.Reads as share-reads
 
 abbrev Inv-loop : tie.InvT-loop
 Inv-loop n count₀ a₀ count a = (count ≡ countTo a (λ i. not (shareFactor i n))) × (count ≤ a) × (a ≤ n)

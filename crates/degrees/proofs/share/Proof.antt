@@ -8,10 +8,6 @@ use lib.Dec.{ltb}
 use Rattle.definitions.specs.Numbers.{someTo, divides, shareFactor}
 use Rattle.degrees.proofs.share.Statement.{statement}
 use Rattle.degrees.proofs.share.Tie as tie
-use Rattle.degrees.proofs.share.Reads as reads
-use Rattle.degrees.proofs.share.Lts as lts
-use Rattle.degrees.proofs.common.Reads as common-reads
-use Rattle.degrees.proofs.either.Reads as either-reads
 
 abbrev Inv-loop : tie.InvT-loop
 Inv-loop a n found₀ c₀ found c = (found ≡ someTo c (λ i. ltb 1 i && divides i a && divides i n)) × (c ≤ a)

@@ -6,14 +6,6 @@ use Rattle.shelf.proofs.Reading.{header-wrong, right}
 use Rattle.shelf.proofs.Degrees.{told-small, degree-in}
 use Rattle.shelf.proofs.read.Statement.{statement}
 use Rattle.shelf.proofs.read.Tie as tie
-use Rattle.shelf.proofs.read.Reads as reads
-use Rattle.shelf.proofs.read.Lts as lts
-use Rattle.degrees.proofs.degree_of.Reads as degree-of-reads
-use Rattle.shelf.proofs.reader.header_code.Reads as header-code-reads
-use Rattle.shelf.proofs.reader.index_in.Reads as index-in-reads
-use Rattle.shelf.proofs.reader.kind_in.Reads as kind-in-reads
-use Rattle.shelf.proofs.reader.read_with.Reads as read-with-reads
-use Rattle.shelf.proofs.reader.refused.Reads as refused-reads
 
 header-code-requires : tie.Need-header-code-requires
 header-code-requires c κs = search needs

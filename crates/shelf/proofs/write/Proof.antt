@@ -5,10 +5,6 @@ use lib.ListN.{length}
 use Rattle.shelf.proofs.Degrees.{told-small, same-answer, same-leaves}
 use Rattle.shelf.proofs.write.Statement.{statement}
 use Rattle.shelf.proofs.write.Tie as tie
-use Rattle.shelf.proofs.write.Reads as reads
-use Rattle.shelf.proofs.write.Lts as lts
-use Rattle.degrees.proofs.degree_of.Reads as degree-of-reads
-use Rattle.shelf.proofs.writer.write_with.Reads as write-with-reads
 
 degree-of-requires : tie.Need-degree-of-requires
 degree-of-requires c κs = search needs

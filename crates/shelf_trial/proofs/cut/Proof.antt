@@ -1,16 +1,9 @@
 -- `cut`: the part has as many bytes as it says.
-use Prim.Native.Nat.{_+_, _-_, _≤_}
-use mathlib.Core.Path.{_≡_}
-use native.Mathlib.Omega.{arith}
 use borrow.Author.Needs.{needs}
-use lib.ListN.{length, length-set}
 use mathlib.Core.Path.{sym}
 use lib.Seq.{length-take-le}
 use Rattle.shelf_trial.proofs.cut.Statement.{statement}
 use Rattle.shelf_trial.proofs.cut.Tie as tie
-use Rattle.shelf_trial.proofs.cut.Reads as reads
-use Rattle.shelf_trial.proofs.cut.Lts as lts
-use Rattle.shelf_trial.proofs.read_one.Reads as read-one-reads
 
 slice-aggregate-read-one : tie.Need-slice-aggregate-read-one
 slice-aggregate-read-one c = sym (length-take-le _ _ (c .before .if1 .taken))

@@ -1,15 +1,10 @@
 -- `damage_all` keeps the slice its length.
-use Prim.Native.Nat.{_+_, _-_, _≤_}
+use Prim.Native.Nat.{_-_, _≤_}
 use mathlib.Core.Path.{_≡_}
-use native.Mathlib.Omega.{arith}
 use borrow.Author.Needs.{needs}
-use lib.ListN.{length, length-set}
+use lib.ListN.{length}
 use Rattle.shelf_trial.proofs.damage_all.Statement.{statement}
 use Rattle.shelf_trial.proofs.damage_all.Tie as tie
-use Rattle.shelf_trial.proofs.damage_all.Reads as reads
-use Rattle.shelf_trial.proofs.damage_all.Lts as lts
-use Rattle.shelf_trial.proofs.cut.Reads as cut-reads
-use Rattle.shelf_trial.proofs.damage.Reads as damage-reads
 
 abbrev Inv-loop : tie.InvT-loop
 Inv-loop bytes₀ room v j₀ bytes j = (j ≤ 12) × (length bytes ≡ length bytes₀)

@@ -1,16 +1,8 @@
 -- `run_kind` ends.
-use Prim.Native.Nat.{_+_, _-_, _≤_}
-use mathlib.Core.Path.{_≡_}
-use native.Mathlib.Omega.{arith}
+use Prim.Native.Nat.{_-_, _≤_}
 use borrow.Author.Needs.{needs}
-use lib.ListN.{length, length-set}
 use Rattle.shelf_trial.proofs.run_kind.Statement.{statement}
 use Rattle.shelf_trial.proofs.run_kind.Tie as tie
-use Rattle.shelf_trial.proofs.run_kind.Reads as reads
-use Rattle.shelf_trial.proofs.run_kind.Lts as lts
-use Rattle.degrees.proofs.degree_of.Reads as degree-of-reads
-use Rattle.shelf_trial.proofs.room_for.Reads as room-for-reads
-use Rattle.shelf_trial.proofs.run_case.Reads as run-case-reads
 
 abbrev Inv-loop : tie.InvT-loop
 Inv-loop kind n degree count p₀ p = p ≤ 23

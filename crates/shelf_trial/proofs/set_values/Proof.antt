@@ -1,14 +1,10 @@
 -- `set_values` keeps the slice its length.
-use Prim.Native.Nat.{_+_, _-_, _≤_}
+use Prim.Native.Nat.{_-_, _≤_}
 use mathlib.Core.Path.{_≡_}
-use native.Mathlib.Omega.{arith}
 use borrow.Author.Needs.{needs}
-use lib.ListN.{length, length-set}
+use lib.ListN.{length}
 use Rattle.shelf_trial.proofs.set_values.Statement.{statement}
 use Rattle.shelf_trial.proofs.set_values.Tie as tie
-use Rattle.shelf_trial.proofs.set_values.Reads as reads
-use Rattle.shelf_trial.proofs.set_values.Lts as lts
-use Rattle.shelf_trial.proofs.set_value.Reads as set-value-reads
 
 abbrev Inv-loop : tie.InvT-loop
 Inv-loop coeffs₀ count p i₀ coeffs i = (i ≤ count) × (length coeffs ≡ length coeffs₀)

@@ -1,16 +1,9 @@
 -- `show` keeps within the slice.
-use Prim.Native.Nat.{_+_, _-_, _≤_}
-use mathlib.Core.Path.{_≡_}
-use native.Mathlib.Omega.{arith}
+use Prim.Native.Nat.{_-_, _≤_}
 use borrow.Author.Needs.{needs}
-use lib.ListN.{length, length-set}
+use lib.ListN.{length}
 use Rattle.shelf_trial.proofs.show.Statement.{statement}
 use Rattle.shelf_trial.proofs.show.Tie as tie
-use Rattle.shelf_trial.proofs.show.Reads as reads
-use Rattle.shelf_trial.proofs.show.Lts as lts
-use Rattle.io.proofs.print_hex.Reads as print-hex-reads
-use Rattle.io.proofs.write_all.Reads as write-all-reads
-use Rattle.shelf_trial.proofs.wide.Reads as wide-reads
 
 abbrev Inv-loop : tie.InvT-loop
 Inv-loop bytes i₀ i = i ≤ length bytes

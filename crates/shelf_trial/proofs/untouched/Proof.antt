@@ -1,14 +1,11 @@
 -- `untouched`: no more are counted than were passed.
-use Prim.Native.Nat.{_+_, _-_, _≤_}
-use mathlib.Core.Path.{_≡_}
+use Prim.Native.Nat.{_-_, _≤_}
 use native.Mathlib.Omega.{arith}
 use borrow.Author.Needs.{needs}
-use lib.ListN.{length, length-set}
+use lib.ListN.{length}
 use mathlib.Core.Logic.{⊎-elim}
 use Rattle.shelf_trial.proofs.untouched.Statement.{statement}
 use Rattle.shelf_trial.proofs.untouched.Tie as tie
-use Rattle.shelf_trial.proofs.untouched.Reads as reads
-use Rattle.shelf_trial.proofs.untouched.Lts as lts
 
 abbrev Inv-loop : tie.InvT-loop
 Inv-loop entries count₀ i₀ count i = (count ≤ i) × (i ≤ length entries)

@@ -5,10 +5,6 @@ use Rattle.shelf.specs.Numbers.{signedOf}
 use Rattle.shelf.proofs.Signs.{passed}
 use Rattle.shelf.proofs.bytes.coefficient.Statement.{statement}
 use Rattle.shelf.proofs.bytes.coefficient.Tie as tie
-use Rattle.shelf.proofs.bytes.coefficient.Reads as reads
-use Rattle.shelf.proofs.bytes.coefficient.Lts as lts
-use Rattle.shelf.proofs.bytes.get.Reads as get-reads
-use Rattle.shelf.proofs.numbers.signed_of.Reads as signed-of-reads
 
 get-requires : tie.Need-get-requires
 get-requires c κs = search needs

@@ -2,7 +2,6 @@
 use Prim.Native.Nat.{_+_, _*_, _≤_}
 use mathlib.Core.Path.{_≡_, refl, sym, _∙_}
 use native.Mathlib.Omega.{arith}
-use borrow.Author.Needs.{needs}
 use lib.ListN.{length, drop, length-set}
 use lib.Seq.{sets}
 use Rattle.shelf.specs.Numbers.{coefficientsAt}
@@ -10,9 +9,6 @@ use Rattle.shelf.proofs.Signs.{passed}
 use Rattle.shelf.proofs.Passes.{fill-turn, fill-none, one-less}
 use Rattle.shelf.proofs.bytes.fill.Statement.{statement}
 use Rattle.shelf.proofs.bytes.fill.Tie as tie
-use Rattle.shelf.proofs.bytes.fill.Reads as reads
-use Rattle.shelf.proofs.bytes.fill.Lts as lts
-use Rattle.shelf.proofs.bytes.coefficient.Reads as coefficient-reads
 
 abbrev Inv-loop : tie.InvT-loop
 Inv-loop bytes w k coeffs₀ left₀ at₀ i₀ coeffs left at i = (sets coeffs i (coefficientsAt w left (drop at bytes)) ≡ sets coeffs₀ 0 (coefficientsAt w k (drop 10 bytes))) × (at + left * w ≤ length bytes) × (i + left ≤ length coeffs) × (length coeffs ≡ length coeffs₀)

@@ -1,15 +1,10 @@
 -- `get`: the bytes from place `left` on are in v (Passes).
 use Prim.Native.Nat.{_+_, _-_, _≤_}
-use mathlib.Core.Path.{_≡_, refl, _∙_}
 use native.Mathlib.Omega.{arith}
 use borrow.Author.Needs.{needs}
-use lib.ListN.{length, length-set}
 use Rattle.shelf.proofs.Passes.{Got, got-none, got-all, got-room, get-turn}
 use Rattle.shelf.proofs.bytes.get.Statement.{statement}
 use Rattle.shelf.proofs.bytes.get.Tie as tie
-use Rattle.shelf.proofs.bytes.get.Reads as reads
-use Rattle.shelf.proofs.bytes.get.Lts as lts
-use Rattle.shelf.proofs.bytes.wide.Reads as wide-reads
 
 abbrev Inv-loop : tie.InvT-loop
 Inv-loop bytes at w v₀ left₀ v left = Got bytes at w left v × (left ≤ w)

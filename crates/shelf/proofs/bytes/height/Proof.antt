@@ -1,5 +1,5 @@
 -- `height`: the largest so far and what is left give the height of all (Passes).
-use Prim.Native.Nat.{_+_, _≤_, _-_, max}
+use Prim.Native.Nat.{_≤_, _-_, max}
 use mathlib.Core.Path.{_≡_, ap, _∙_}
 use native.Mathlib.Omega.{arith}
 use borrow.Author.Needs.{needs}
@@ -10,10 +10,6 @@ use Rattle.shelf.proofs.Passes.{height-turn}
 use Rattle.shelf.proofs.Signs.{passed}
 use Rattle.shelf.proofs.bytes.height.Statement.{statement}
 use Rattle.shelf.proofs.bytes.height.Tie as tie
-use Rattle.shelf.proofs.bytes.height.Reads as reads
-use Rattle.shelf.proofs.bytes.height.Lts as lts
-use Rattle.shelf.proofs.bytes.larger.Reads as larger-reads
-use Rattle.shelf.proofs.numbers.magnitude.Reads as magnitude-reads
 
 abbrev Inv-loop : tie.InvT-loop
 Inv-loop coeffs h₀ i₀ h i = (max h (heightOf (drop i coeffs)) ≡ heightOf coeffs) × (i ≤ length coeffs)

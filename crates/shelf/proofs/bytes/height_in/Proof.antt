@@ -11,11 +11,6 @@ use Rattle.shelf.proofs.Signs.{passed}
 use Rattle.shelf.proofs.Passes.{look-turn, look-none, one-less}
 use Rattle.shelf.proofs.bytes.height_in.Statement.{statement}
 use Rattle.shelf.proofs.bytes.height_in.Tie as tie
-use Rattle.shelf.proofs.bytes.height_in.Reads as reads
-use Rattle.shelf.proofs.bytes.height_in.Lts as lts
-use Rattle.shelf.proofs.bytes.coefficient.Reads as coefficient-reads
-use Rattle.shelf.proofs.bytes.larger.Reads as larger-reads
-use Rattle.shelf.proofs.numbers.magnitude.Reads as magnitude-reads
 
 abbrev Inv-loop : tie.InvT-loop
 Inv-loop bytes w k h₀ left₀ at₀ h left at = (max h (heightOf (coefficientsAt w left (drop at bytes))) ≡ heightOf (coefficientsAt w k (drop 10 bytes))) × (at + left * w ≤ length bytes)

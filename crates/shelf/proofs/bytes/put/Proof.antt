@@ -8,8 +8,6 @@ use Rattle.shelf.specs.Numbers.{bytesOf}
 use Rattle.shelf.proofs.Passes.{put-turn, put-none}
 use Rattle.shelf.proofs.bytes.put.Statement.{statement}
 use Rattle.shelf.proofs.bytes.put.Tie as tie
-use Rattle.shelf.proofs.bytes.put.Reads as reads
-use Rattle.shelf.proofs.bytes.put.Lts as lts
 
 abbrev Inv-loop : tie.InvT-loop
 Inv-loop bytes₀ at w v i₀ left₀ rest₀ bytes i left rest = (sets bytes i (bytesOf left rest) ≡ sets bytes₀ at (bytesOf w v)) × (i + left ≡ at + w) × (length bytes ≡ length bytes₀)

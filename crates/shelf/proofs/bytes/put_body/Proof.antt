@@ -3,18 +3,14 @@ use Prim.Native.Nat.{_+_, _-_, _≤_, zero-le}
 use mathlib.Core.Path.{_≡_, refl, sym, _∙_, ap}
 use native.Mathlib.Omega.{arith}
 use lib.ListN.{length, getD, drop}
-use lib.Seq.{sets, length-sets}
+use lib.Seq.{sets}
 use lib.IntN.{pos, natAbs}
 use Rattle.definitions.specs.Answer.{heightOf}
-use Rattle.shelf.specs.Numbers.{body, top, bytesOf, twos}
+use Rattle.shelf.specs.Numbers.{body, top}
 use Rattle.shelf.proofs.Signs.{passed}
 use Rattle.shelf.proofs.Passes.{body-turn, body-none, body-left, height-left}
 use Rattle.shelf.proofs.bytes.put_body.Statement.{statement}
 use Rattle.shelf.proofs.bytes.put_body.Tie as tie
-use Rattle.shelf.proofs.bytes.put_body.Reads as reads
-use Rattle.shelf.proofs.bytes.put_body.Lts as lts
-use Rattle.shelf.proofs.bytes.put.Reads as put-reads
-use Rattle.shelf.proofs.numbers.twos_of.Reads as twos-of-reads
 
 abbrev Inv-loop : tie.InvT-loop
 Inv-loop coeffs w bytes₀ i₀ at₀ bytes i at = (sets bytes at (body w (drop i coeffs)) ≡ sets bytes₀ 10 (body w coeffs)) × (at + length (body w (drop i coeffs)) ≤ length bytes) × (heightOf (drop i coeffs) ≤ top w) × (length bytes ≡ length bytes₀) × (i ≤ length coeffs)

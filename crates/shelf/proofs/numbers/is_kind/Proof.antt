@@ -3,8 +3,6 @@ use borrow.Author.Tests.{eq-eqb, ne-eqb}
 use Rattle.shelf.specs.Format.{isKind}
 use Rattle.shelf.proofs.numbers.is_kind.Statement.{statement}
 use Rattle.shelf.proofs.numbers.is_kind.Tie as tie
-use Rattle.shelf.proofs.numbers.is_kind.Reads as reads
-use Rattle.shelf.proofs.numbers.is_kind.Lts as lts
 
 returns : tie.Need-returns
 unfolding isKind

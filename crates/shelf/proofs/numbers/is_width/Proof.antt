@@ -4,8 +4,6 @@ use Rattle.shelf.specs.Numbers.{oneOf}
 use Rattle.shelf.proofs.Least.{or-false}
 use Rattle.shelf.proofs.numbers.is_width.Statement.{statement}
 use Rattle.shelf.proofs.numbers.is_width.Tie as tie
-use Rattle.shelf.proofs.numbers.is_width.Reads as reads
-use Rattle.shelf.proofs.numbers.is_width.Lts as lts
 
 returns : tie.Need-returns
 unfolding oneOf

@@ -1,5 +1,5 @@
 -- `magnitude`: what stands beside the sign, and one more below 0 (Signs).
-use mathlib.Core.Path.{_∙_, ap}
+use mathlib.Core.Path.{ap}
 use borrow.Author.Needs.{needs}
 use native.Mathlib.Omega.{arith}
 use lib.IntN.{natAbs}

@@ -4,8 +4,6 @@ use borrow.Author.Needs.{needs}
 use native.Mathlib.Omega.{arith}
 use Rattle.shelf.proofs.numbers.signed_of.Statement.{statement}
 use Rattle.shelf.proofs.numbers.signed_of.Tie as tie
-use Rattle.shelf.proofs.numbers.signed_of.Reads as reads
-use Rattle.shelf.proofs.numbers.signed_of.Lts as lts
 use Rattle.shelf.proofs.Signs.{passed}
 use Rattle.shelf.proofs.Widths.{full, top-small, signed-low, signed-high}
 

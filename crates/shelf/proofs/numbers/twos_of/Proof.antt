@@ -5,8 +5,6 @@ use native.Mathlib.Omega.{arith}
 use lib.IntN.{natAbs}
 use Rattle.shelf.proofs.numbers.twos_of.Statement.{statement}
 use Rattle.shelf.proofs.numbers.twos_of.Tie as tie
-use Rattle.shelf.proofs.numbers.twos_of.Reads as reads
-use Rattle.shelf.proofs.numbers.twos_of.Lts as lts
 use Rattle.shelf.proofs.Signs.{casts, turned, natAbs-below, twos-below, plain, twos-above}
 use Rattle.shelf.proofs.Widths.{full, top-small}
 

@@ -3,9 +3,6 @@ use borrow.Author.Needs.{needs}
 use Rattle.shelf.specs.Format.{countIn}
 use Rattle.shelf.proofs.reader.count_in.Statement.{statement}
 use Rattle.shelf.proofs.reader.count_in.Tie as tie
-use Rattle.shelf.proofs.reader.count_in.Reads as reads
-use Rattle.shelf.proofs.reader.count_in.Lts as lts
-use Rattle.shelf.proofs.bytes.get.Reads as get-reads
 
 get-requires : tie.Need-get-requires
 get-requires c κs = search needs

@@ -7,14 +7,6 @@ use Rattle.shelf.specs.Format.{isKind}
 use Rattle.shelf.proofs.Reading.{header-short, header-unmarked, header-kind, header-width, header-zero, header-right}
 use Rattle.shelf.proofs.reader.header_code.Statement.{statement}
 use Rattle.shelf.proofs.reader.header_code.Tie as tie
-use Rattle.shelf.proofs.reader.header_code.Reads as reads
-use Rattle.shelf.proofs.reader.header_code.Lts as lts
-use Rattle.shelf.proofs.numbers.is_kind.Reads as is-kind-reads
-use Rattle.shelf.proofs.numbers.is_width.Reads as is-width-reads
-use Rattle.shelf.proofs.reader.index_in.Reads as index-in-reads
-use Rattle.shelf.proofs.reader.is_marked.Reads as is-marked-reads
-use Rattle.shelf.proofs.reader.kind_in.Reads as kind-in-reads
-use Rattle.shelf.proofs.reader.width_in.Reads as width-in-reads
 
 returns : tie.Need-returns
 returns c = sym (header-short _ (c .if1 .taken))

@@ -4,9 +4,6 @@ use borrow.Author.Needs.{needs}
 use Rattle.shelf.specs.Format.{indexIn}
 use Rattle.shelf.proofs.reader.index_in.Statement.{statement}
 use Rattle.shelf.proofs.reader.index_in.Tie as tie
-use Rattle.shelf.proofs.reader.index_in.Reads as reads
-use Rattle.shelf.proofs.reader.index_in.Lts as lts
-use Rattle.shelf.proofs.bytes.get.Reads as get-reads
 
 get-requires : tie.Need-get-requires
 get-requires c κs = search needs

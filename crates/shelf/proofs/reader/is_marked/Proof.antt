@@ -4,8 +4,6 @@ use borrow.Author.Tests.{eq-eqb, ne-eqb}
 use Rattle.shelf.specs.Format.{marked}
 use Rattle.shelf.proofs.reader.is_marked.Statement.{statement}
 use Rattle.shelf.proofs.reader.is_marked.Tie as tie
-use Rattle.shelf.proofs.reader.is_marked.Reads as reads
-use Rattle.shelf.proofs.reader.is_marked.Lts as lts
 
 shared-slice-read-if1 : tie.Need-shared-slice-read-if1
 shared-slice-read-if1 c = search needs

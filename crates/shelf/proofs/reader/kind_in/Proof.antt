@@ -3,9 +3,6 @@ use borrow.Author.Needs.{needs}
 use Rattle.shelf.specs.Format.{kindIn}
 use Rattle.shelf.proofs.reader.kind_in.Statement.{statement}
 use Rattle.shelf.proofs.reader.kind_in.Tie as tie
-use Rattle.shelf.proofs.reader.kind_in.Reads as reads
-use Rattle.shelf.proofs.reader.kind_in.Lts as lts
-use Rattle.shelf.proofs.bytes.wide.Reads as wide-reads
 
 shared-slice-read-wide : tie.Need-shared-slice-read-wide
 shared-slice-read-wide c = search needs

@@ -7,16 +7,6 @@ use Rattle.shelf.proofs.Writing.{few}
 use Rattle.shelf.proofs.Reading.{right, in-bounds, count-wrong, cut, no-room, width-wrong, filled, size-in, seen-in, filled-in}
 use Rattle.shelf.proofs.reader.read_with.Statement.{statement}
 use Rattle.shelf.proofs.reader.read_with.Tie as tie
-use Rattle.shelf.proofs.reader.read_with.Reads as reads
-use Rattle.shelf.proofs.reader.read_with.Lts as lts
-use Rattle.shelf.proofs.bytes.fill.Reads as fill-reads
-use Rattle.shelf.proofs.bytes.height_in.Reads as height-in-reads
-use Rattle.shelf.proofs.numbers.least_width.Reads as least-width-reads
-use Rattle.shelf.proofs.reader.count_in.Reads as count-in-reads
-use Rattle.shelf.proofs.reader.index_in.Reads as index-in-reads
-use Rattle.shelf.proofs.reader.kind_in.Reads as kind-in-reads
-use Rattle.shelf.proofs.reader.refused.Reads as refused-reads
-use Rattle.shelf.proofs.reader.width_in.Reads as width-in-reads
 
 width-in-requires : tie.Need-width-in-requires
 width-in-requires c κs = right _ (c .before .pre .0) .long

@@ -6,9 +6,6 @@ use lib.ListN.{length-set}
 use Rattle.shelf.proofs.Writing.{four-long, header-stored}
 use Rattle.shelf.proofs.writer.put_header.Statement.{statement}
 use Rattle.shelf.proofs.writer.put_header.Tie as tie
-use Rattle.shelf.proofs.writer.put_header.Reads as reads
-use Rattle.shelf.proofs.writer.put_header.Lts as lts
-use Rattle.shelf.proofs.bytes.put.Reads as put-reads
 
 slice-write-bytes : tie.Need-slice-write-bytes
 slice-write-bytes c = search needs

@@ -5,10 +5,6 @@ use Rattle.shelf.proofs.Least.{width-fits}
 use Rattle.shelf.proofs.Writing.{length-body, size-made, record-made}
 use Rattle.shelf.proofs.writer.store.Statement.{statement}
 use Rattle.shelf.proofs.writer.store.Tie as tie
-use Rattle.shelf.proofs.writer.store.Reads as reads
-use Rattle.shelf.proofs.writer.store.Lts as lts
-use Rattle.shelf.proofs.bytes.put_body.Reads as put-body-reads
-use Rattle.shelf.proofs.writer.put_header.Reads as put-header-reads
 
 cast-put-header : tie.Need-cast-put-header
 cast-put-header c = search needs

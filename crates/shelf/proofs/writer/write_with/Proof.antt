@@ -9,12 +9,6 @@ use Rattle.shelf.proofs.Least.{Fitting, width-none, width-made, width-f
 use Rattle.shelf.proofs.Writing.{kind-wrong, index-wrong, count-wrong, too-low, no-room, stored, size-made, index-zero, index-above, index-right, few, kind-small, nonzero}
 use Rattle.shelf.proofs.writer.write_with.Statement.{statement}
 use Rattle.shelf.proofs.writer.write_with.Tie as tie
-use Rattle.shelf.proofs.writer.write_with.Reads as reads
-use Rattle.shelf.proofs.writer.write_with.Lts as lts
-use Rattle.shelf.proofs.bytes.height.Reads as height-reads
-use Rattle.shelf.proofs.numbers.is_kind.Reads as is-kind-reads
-use Rattle.shelf.proofs.numbers.least_width.Reads as least-width-reads
-use Rattle.shelf.proofs.writer.store.Reads as store-reads
 
 -- past the test for OVER the width is that of the coefficients, and takes their height
 made : (c : tie.Else5) → c .before .least-width .result ≡ width (c .before .before .before .before .before .before .before .before .before .args .coeffs .now)
