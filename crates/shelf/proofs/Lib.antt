@@ -5,6 +5,7 @@ pub mod Least
 pub mod Passes
 pub mod Writing
 pub mod Reading
+pub mod Lowest
 pub mod Degrees
 pub mod Digits
 pub mod Done

@@ -40,6 +40,6 @@ pub fn read(bytes: &[u8], coeffs: &mut [i64]) -> Record
     if code != 0 {
         return reader::refused(code, 0);
     }
-    let degree = degrees::degree_of(reader::kind_in(bytes), reader::index_in(bytes));
+    let degree = degrees::degree_of(reader::field(bytes, 2), reader::index_in(bytes));
     reader::read_with(bytes, degree, coeffs)
 }

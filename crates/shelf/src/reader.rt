@@ -8,10 +8,10 @@ use super::numbers::is_kind;
 use super::numbers::is_width;
 use super::numbers::least_width;
 ghost use mathlib.Core.Path.{_≡_};
-ghost use Prim.Native.Nat.{_≤_};
-ghost use lib.ListN.{length};
+ghost use Prim.Native.Nat.{_<_, _≤_};
+ghost use lib.ListN.{length, getD};
 ghost use Rattle.definitions.specs.Codes.{DONE};
-ghost use Rattle.shelf.specs.Format.{headerCode, marked, kindIn, widthIn, indexIn, countIn, readAnswer, readLeaves};
+ghost use Rattle.shelf.specs.Format.{headerCode, marked, indexIn, countIn, readAnswer, readLeaves};
 
 // A refusal: the degree is told with SHORT only.
 pub(crate) fn refused(code: u64, degree: u64) -> Record
@@ -34,18 +34,12 @@ fn is_marked(bytes: &[u8]) -> bool
     bytes[0] == 0xC9 && bytes[1] == 0x50
 }
 
-pub(crate) fn kind_in(bytes: &[u8]) -> u64
-    requires { ⌜ 10 ≤ length (now bytes) ⌝ }
-    ensures { λ r. ⌜ r ≡ kindIn (now (bytes .entry)) ⌝ }
+// The field that is one byte at a place: the kind at 2, the width at 3.
+pub(crate) fn field(bytes: &[u8], at: usize) -> u64
+    requires { ⌜ (10 ≤ length (now bytes)) × (at < 10) ⌝ }
+    ensures { λ r. ⌜ r ≡ getD (now (bytes .entry)) at 0 ⌝ }
 {
-    wide(bytes[2])
-}
-
-fn width_in(bytes: &[u8]) -> u64
-    requires { ⌜ 10 ≤ length (now bytes) ⌝ }
-    ensures { λ r. ⌜ r ≡ widthIn (now (bytes .entry)) ⌝ }
-{
-    wide(bytes[3])
+    wide(bytes[at])
 }
 
 pub(crate) fn index_in(bytes: &[u8]) -> u64
@@ -72,10 +66,10 @@ pub(crate) fn header_code(bytes: &[u8]) -> u64
     if !is_marked(bytes) {
         return 9;
     }
-    if !is_kind(kind_in(bytes)) {
+    if !is_kind(field(bytes, 2)) {
         return 10;
     }
-    if !is_width(width_in(bytes)) {
+    if !is_width(field(bytes, 3)) {
         return 10;
     }
     if index_in(bytes) == 0 {
@@ -89,7 +83,7 @@ pub(crate) fn read_with(bytes: &[u8], degree: u64, coeffs: &mut [i64]) -> Record
     requires { ⌜ (headerCode (now bytes) ≡ DONE) × (degree ≤ 65535) ⌝ }
     ensures { λ r. ⌜ (r ≡ readAnswer degree (now (bytes .entry)) (length (now (coeffs .entry)))) × (now (coeffs .exit) ≡ readLeaves degree (now (bytes .entry)) (now (coeffs .entry))) ⌝ }
 {
-    let w = width_in(bytes) as usize;
+    let w = field(bytes, 3) as usize;
     let count = count_in(bytes) as usize;
     if count as u64 != degree + 1 {
         return refused(10, 0);
@@ -109,7 +103,7 @@ pub(crate) fn read_with(bytes: &[u8], degree: u64, coeffs: &mut [i64]) -> Record
         code: 0,
         degree,
         used: size as u64,
-        kind: kind_in(bytes),
+        kind: field(bytes, 2),
         n: index_in(bytes),
     }
 }

@@ -1,7 +1,8 @@
 -- `read`: a wrong header refuses by itself, and else `read_with` at the degree of its kind and index.
 use mathlib.Core.Path.{sym, _∙_}
 use borrow.Author.Needs.{needs}
-use Rattle.shelf.specs.Format.{degreeIn}
+use lib.Dec.{lit<}
+use Rattle.shelf.specs.Format.{degreeIn, kindIn}
 use Rattle.shelf.proofs.Reading.{header-wrong, right}
 use Rattle.shelf.proofs.Degrees.{told-small, degree-in}
 use Rattle.shelf.proofs.read.Statement.{statement}
@@ -19,8 +20,8 @@ returns c =
     let p = header-wrong (degreeIn (a .bytes .now)) (a .bytes .now) (a .coeffs .now) _ (c .before .before .header-code .ensures) (c .before .if1 .taken) in
     (c .refused .ensures ∙ p .0, p .1)
 
-kind-in-requires : tie.Need-kind-in-requires
-kind-in-requires c κs = right _ (sym (c .before .header-code .ensures) ∙ c .if1 .left) .long
+field-requires : tie.Need-field-requires
+field-requires c κs = (right _ (sym (c .before .header-code .ensures) ∙ c .if1 .left) .long, lit< tt)
 
 index-in-requires : tie.Need-index-in-requires
 index-in-requires c κs = right _ (sym (c .before .before .header-code .ensures) ∙ c .before .if1 .left) .long
@@ -29,16 +30,17 @@ degree-of-requires : tie.Need-degree-of-requires
 degree-of-requires c κs = search needs
 
 read-with-requires : tie.Need-read-with-requires
-read-with-requires c κs = (sym (c .before .before .before .before .before .header-code .ensures) ∙ c .before .before .before .before .if1 .left, told-small (c .before .before .before .kind-in .result) (c .before .before .index-in .result) _ (c .before .degree-of .ensures))
+read-with-requires c κs = (sym (c .before .before .before .before .before .header-code .ensures) ∙ c .before .before .before .before .if1 .left, told-small (c .before .before .before .field .result) (c .before .before .index-in .result) _ (c .before .degree-of .ensures))
 
 same-length : tie.Need-same-length
 same-length c = search needs
 
 returns-2 : tie.Need-returns-2
+unfolding kindIn
 returns-2 c =
     let a = c .before .before .before .before .before .before .before .before .before .args in
     let r = c .before .read-with .ensures in
-    let d = degree-in (a .bytes .now) _ _ _ (c .before .before .before .before .before .kind-in .ensures) (c .before .before .before .before .index-in .ensures .0) (c .before .before .before .before .index-in .ensures .1) (c .before .before .before .degree-of .ensures) in
+    let d = degree-in (a .bytes .now) _ _ _ (c .before .before .before .before .before .field .ensures) (c .before .before .before .before .index-in .ensures .0) (c .before .before .before .before .index-in .ensures .1) (c .before .before .before .degree-of .ensures) in
     (rw (← d) (r .0), rw (← d) (r .1))
 
 pub read-spec : {M : Type 1} → statement M
@@ -48,7 +50,7 @@ read-spec =
     header-code-requires
     refused-requires
     returns
-    kind-in-requires
+    field-requires
     index-in-requires
     degree-of-requires
     read-with-requires
