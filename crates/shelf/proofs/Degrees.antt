@@ -47,7 +47,8 @@ module _ (kind n d : ℕ) (told : d ≡ cond (ltb 65535 n) 0 (degree kind n)) wh
   unfolding writeAnswer writeCode writeTells
   same-answer cs room = go (ltb 65535 n) refl (isKind kind) refl
     where
-      go : (b : Bool) → ltb 65535 n ≡ b → (k : Bool) → isKind kind ≡ k → writeAnswer d kind n cs room ≡ writeAnswer (degree kind n) kind n cs room
+      go : (b : Bool) → ltb 65535 n ≡ b → (k : Bool) → isKind kind ≡ k →
+          writeAnswer d kind n cs room ≡ writeAnswer (degree kind n) kind n cs room
       go false e k ek = rw (told-right (ltb-false 65535 n e))
       go true e false ek = simp ek
       go true e true ek = simp (ek, or-right (eqb n 0) (ltb 65535 n) e)
@@ -59,6 +60,7 @@ module _ (kind n d : ℕ) (told : d ≡ cond (ltb 65535 n) 0 (degree kind n)) wh
       rw e
 
 -- the degree of a header, as the reader has it
-pub degree-in : (bytes : List ℕ) (kind n d : ℕ) → kind ≡ kindIn bytes → n ≡ indexIn bytes → n ≤ 65535 → d ≡ cond (ltb 65535 n) 0 (degree kind n) → d ≡ degreeIn bytes
+pub degree-in : (bytes : List ℕ) (kind n d : ℕ) → kind ≡ kindIn bytes → n ≡ indexIn bytes → n ≤ 65535 →
+    d ≡ cond (ltb 65535 n) 0 (degree kind n) → d ≡ degreeIn bytes
 unfolding degreeIn
 degree-in bytes kind n d ek en h told = rw (← ek, ← en) (told-right kind n d told h)

@@ -80,7 +80,8 @@ twos-signed w v h = go (leb v (top w))
     go false = omega arith
 
 -- coefficients
-pub coefficients-body : (w : ℕ) (cs : List ℤ) (rest : List ℕ) → 0 < w → heightOf cs ≤ top w → coefficientsAt w (length cs) (body w cs ++ rest) ≡ cs
+pub coefficients-body : (w : ℕ) (cs : List ℤ) (rest : List ℕ) → 0 < w → heightOf cs ≤ top w →
+    coefficientsAt w (length cs) (body w cs ++ rest) ≡ cs
 unfolding coefficientsAt body heightOf
 coefficients-body w [] rest h t = refl
 coefficients-body w (c ∷ cs) rest h t =

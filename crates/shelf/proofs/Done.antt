@@ -30,7 +30,10 @@ written-right d kind n cs room = go (isKind kind) refl (eqb n 0) refl (ltb 65535
     wrong : {k : ℕ} → suc k ≡ 0 → Written-right d kind n cs room
     wrong e = absurd (omega arith)
 
-    go : (k : Bool) → isKind kind ≡ k → (z : Bool) → eqb n 0 ≡ z → (a : Bool) → ltb 65535 n ≡ a → (m : Bool) → eqb (length cs) (d + 1) ≡ m → (o : Bool) → ltb largest (heightOf cs) ≡ o → (s : Bool) → ltb room (size cs) ≡ s → cond (not k) KIND (cond (z || a) INDEX (cond (not m) FIELD (cond o OVER (cond s SHORT DONE)))) ≡ DONE → Written-right d kind n cs room
+    go : (k : Bool) → isKind kind ≡ k → (z : Bool) → eqb n 0 ≡ z → (a : Bool) → ltb 65535 n ≡ a → (m : Bool) → eqb (length cs) (d + 1) ≡ m →
+        (o : Bool) → ltb largest (heightOf cs) ≡ o → (s : Bool) → ltb room (size cs) ≡ s →
+        cond (not k) KIND (cond (z || a) INDEX (cond (not m) FIELD (cond o OVER (cond s SHORT DONE)))) ≡ DONE →
+        Written-right d kind n cs room
     go false ek z ez a ea m em o eo s es e = wrong e
     go true ek true ez a ea m em o eo s es e = wrong e
     go true ek false ez true ea m em o eo s es e = wrong e
@@ -55,7 +58,9 @@ read-right d bs room = go (headerCode bs) refl (eqb (countIn bs) (d + 1)) refl (
     wrong : {k : ℕ} → suc k ≡ 0 → Read-right d bs room
     wrong e = absurd (omega arith)
 
-    go : (h : ℕ) → headerCode bs ≡ h → (m : Bool) → eqb (countIn bs) (d + 1) ≡ m → (s : Bool) → ltb (length bs) (sizeIn bs) ≡ s → (r : Bool) → ltb room (countIn bs) ≡ r → (w : Bool) → eqb (width (coefficientsIn bs)) (widthIn bs) ≡ w → cond (not (eqb h DONE)) h (cond (not m) FIELD (cond s CUT (cond r SHORT (cond (not w) WIDTH DONE)))) ≡ DONE → Read-right d bs room
+    go : (h : ℕ) → headerCode bs ≡ h → (m : Bool) → eqb (countIn bs) (d + 1) ≡ m → (s : Bool) → ltb (length bs) (sizeIn bs) ≡ s →
+        (r : Bool) → ltb room (countIn bs) ≡ r → (w : Bool) → eqb (width (coefficientsIn bs)) (widthIn bs) ≡ w →
+        cond (not (eqb h DONE)) h (cond (not m) FIELD (cond s CUT (cond r SHORT (cond (not w) WIDTH DONE)))) ≡ DONE → Read-right d bs room
     go (suc h) eh m em s es r er w ew e = wrong (simp (eqb·suc-zero h) at e)
     go zero eh false em s es r er w ew e = wrong e
     go zero eh true em true es r er w ew e = wrong e

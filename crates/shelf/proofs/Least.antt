@@ -46,7 +46,8 @@ unfolding leastOf oneOf
 found [] h w p o t z = true≢false (sym o)
 found (v ∷ ws) h w p o t z = go (leb h (top v)) refl (eqb 0 v) refl p z (or-cases (eqb w v) (oneOf ws w) o) (found ws h w)
   where
-    go : (b : Bool) → leb h (top v) ≡ b → (a : Bool) → eqb 0 v ≡ a → (a || oneOf ws 0) ≡ false → cond b v (leastOf ws h) ≡ 0 → (eqb w v ≡ true) ⊎ (oneOf ws w ≡ true) → (oneOf ws 0 ≡ false → oneOf ws w ≡ true → h ≤ top w → leastOf ws h ≡ 0 → ⊥) → ⊥
+    go : (b : Bool) → leb h (top v) ≡ b → (a : Bool) → eqb 0 v ≡ a → (a || oneOf ws 0) ≡ false → cond b v (leastOf ws h) ≡ 0 →
+        (eqb w v ≡ true) ⊎ (oneOf ws w ≡ true) → (oneOf ws 0 ≡ false → oneOf ws w ≡ true → h ≤ top w → leastOf ws h ≡ 0 → ⊥) → ⊥
     go true e true f q y s more = true≢false q
     go true e false f q y s more = eqb-false 0 v f (sym y)
     go false e true f q y s more = true≢false q

@@ -47,7 +47,8 @@ got-room bs at w left v h l (same, less) =
     let few : w - left ≤ 7 = omega arith in
     omega (arith, full-mono few)
 
-pub get-turn : (bs : List ℕ) (at w left v b : ℕ) → 0 < left → left ≤ w → at + w ≤ length bs → b ≡ getD bs (at + (left - 1)) 0 → b < 256 → Got bs at w left v → Got bs at w (left - 1) (v * 256 + b)
+pub get-turn : (bs : List ℕ) (at w left v b : ℕ) → 0 < left → left ≤ w → at + w ≤ length bs → b ≡ getD bs (at + (left - 1)) 0 → b < 256 →
+    Got bs at w left v → Got bs at w (left - 1) (v * 256 + b)
 unfolding number
 get-turn bs at w left v b h l room e small (same, less) =
     let more : w - (left - 1) ≡ suc (w - left) = omega arith in
@@ -59,7 +60,8 @@ get-turn bs at w left v b h l room e small (same, less) =
     )
 
 -- the look, over the coefficients of a slice
-pub height-turn : (cs : List ℤ) (i h : ℕ) → i < length cs → max (max h (natAbs (getD cs i (pos 0)))) (heightOf (drop (i + 1) cs)) ≡ max h (heightOf (drop i cs))
+pub height-turn : (cs : List ℤ) (i h : ℕ) → i < length cs →
+    max (max h (natAbs (getD cs i (pos 0)))) (heightOf (drop (i + 1) cs)) ≡ max h (heightOf (drop i cs))
 unfolding heightOf
 height-turn cs i h l = rw (drop-cons cs i (pos 0), add-one) (omega arith)
 
@@ -75,11 +77,13 @@ unfolding bytesOf
 length-bytesOf zero v = refl
 length-bytesOf (suc w) v = ap suc (length-bytesOf w (v / 256))
 
-pub body-cons : (w : ℕ) (cs : List ℤ) (i : ℕ) → i < length cs → body w (drop i cs) ≡ bytesOf w (twos w (getD cs i (pos 0))) ++ body w (drop (i + 1) cs)
+pub body-cons : (w : ℕ) (cs : List ℤ) (i : ℕ) → i < length cs →
+    body w (drop i cs) ≡ bytesOf w (twos w (getD cs i (pos 0))) ++ body w (drop (i + 1) cs)
 unfolding body
 body-cons w cs i l = rw (drop-cons cs i (pos 0), add-one)
 
-pub body-turn : (w : ℕ) (cs : List ℤ) (b : List ℕ) (at i : ℕ) → i < length cs → sets (sets b at (bytesOf w (twos w (getD cs i (pos 0))))) (at + w) (body w (drop (i + 1) cs)) ≡ sets b at (body w (drop i cs))
+pub body-turn : (w : ℕ) (cs : List ℤ) (b : List ℕ) (at i : ℕ) → i < length cs →
+    sets (sets b at (bytesOf w (twos w (getD cs i (pos 0))))) (at + w) (body w (drop (i + 1) cs)) ≡ sets b at (body w (drop i cs))
 body-turn w cs b at i l =
     let c = twos w (getD cs i (pos 0)) in
     let e : at + length (bytesOf w c) ≡ at + w = ap (λ (k : ℕ). at + k) (length-bytesOf w c) in
@@ -93,12 +97,14 @@ body-none w cs b at i h = rw (drop-of-length-le cs h)
 pub body-left : (w : ℕ) (cs : List ℤ) (i : ℕ) → i < length cs → length (body w (drop i cs)) ≡ w + length (body w (drop (i + 1) cs))
 body-left w cs i l = rw (body-cons w cs i l, length-append, length-bytesOf)
 
-pub height-left : (cs : List ℤ) (i : ℕ) → i < length cs → heightOf (drop i cs) ≡ max (natAbs (getD cs i (pos 0))) (heightOf (drop (i + 1) cs))
+pub height-left : (cs : List ℤ) (i : ℕ) → i < length cs →
+    heightOf (drop i cs) ≡ max (natAbs (getD cs i (pos 0))) (heightOf (drop (i + 1) cs))
 unfolding heightOf
 height-left cs i l = rw (drop-cons cs i (pos 0), add-one)
 
 -- both passes over the coefficients in some bytes
-pub next-in : (w k at : ℕ) (bs : List ℕ) → 0 < k → coefficientsAt w k (drop at bs) ≡ signedOf w (number (take w (drop at bs))) ∷ coefficientsAt w (k - 1) (drop (at + w) bs)
+pub next-in : (w k at : ℕ) (bs : List ℕ) → 0 < k →
+    coefficientsAt w k (drop at bs) ≡ signedOf w (number (take w (drop at bs))) ∷ coefficientsAt w (k - 1) (drop (at + w) bs)
 unfolding coefficientsAt
 next-in w zero at bs h = absurd (omega arith)
 next-in w (suc k) at bs h =
@@ -116,7 +122,8 @@ one-less (suc k) w h =
     let e : suc k - 1 ≡ k = omega arith in
     rw e (omega (arith, suc-mul k w))
 
-pub look-turn : (w k at h : ℕ) (bs : List ℕ) → 0 < k → max (max h (natAbs (signedOf w (number (take w (drop at bs)))))) (heightOf (coefficientsAt w (k - 1) (drop (at + w) bs))) ≡ max h (heightOf (coefficientsAt w k (drop at bs)))
+pub look-turn : (w k at h : ℕ) (bs : List ℕ) → 0 < k →
+    max (max h (natAbs (signedOf w (number (take w (drop at bs)))))) (heightOf (coefficientsAt w (k - 1) (drop (at + w) bs))) ≡ max h (heightOf (coefficientsAt w k (drop at bs)))
 unfolding heightOf
 look-turn w k at h bs l = rw (next-in w k at bs l) (omega arith)
 
@@ -124,7 +131,8 @@ pub look-none : (w k at h : ℕ) (bs : List ℕ) → k ≤ 0 → max h (heightOf
 unfolding heightOf
 look-none w k at h bs l = rw (none-in w k (drop at bs) l) (omega arith)
 
-pub fill-turn : (w k at i : ℕ) (bs : List ℕ) (cs : List ℤ) → 0 < k → sets (set cs i (signedOf w (number (take w (drop at bs))))) (i + 1) (coefficientsAt w (k - 1) (drop (at + w) bs)) ≡ sets cs i (coefficientsAt w k (drop at bs))
+pub fill-turn : (w k at i : ℕ) (bs : List ℕ) (cs : List ℤ) → 0 < k →
+    sets (set cs i (signedOf w (number (take w (drop at bs))))) (i + 1) (coefficientsAt w (k - 1) (drop (at + w) bs)) ≡ sets cs i (coefficientsAt w k (drop at bs))
 fill-turn w k at i bs cs l = rw (next-in w k at bs l, add-one)
 
 pub fill-none : (w k at i : ℕ) (bs : List ℕ) (cs : List ℤ) → k ≤ 0 → sets cs i (coefficientsAt w k (drop at bs)) ≡ cs

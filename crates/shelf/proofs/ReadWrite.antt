@@ -80,7 +80,8 @@ module _ (d : ℕ) (bs : List ℕ) (out : List ℤ) (p : Bytes bs) (done : readC
       let tail : body (width cs) cs ≡ take (k * w) (drop 10 bs) = rw (g .wide) (body-coefficients w k (drop 10 bs) room (bytes-drop 10 bs p)) in
       ap₂ _++_ head tail ∙ sym (take-add 10 (k * w) bs)
 
-  pub read-write-record : (b : List ℕ) → sizeIn bs ≤ length b → let cs = coefficientsIn bs in (writeAnswer d (kindIn bs) (indexIn bs) cs (length b) ≡ record { code = DONE; degree = d; used = sizeIn bs }) × (writeLeaves d (kindIn bs) (indexIn bs) cs b ≡ take (sizeIn bs) bs ++ drop (sizeIn bs) b)
+  pub read-write-record : (b : List ℕ) → sizeIn bs ≤ length b →
+      let cs = coefficientsIn bs in (writeAnswer d (kindIn bs) (indexIn bs) cs (length b) ≡ record { code = DONE; degree = d; used = sizeIn bs }) × (writeLeaves d (kindIn bs) (indexIn bs) cs b ≡ take (sizeIn bs) bs ++ drop (sizeIn bs) b)
   unfolding writeTells
   read-write-record b room =
       let cs = coefficientsIn bs in

@@ -62,7 +62,9 @@ right bs = go (ltb (length bs) 10) refl (marked bs) refl (isKind (kindIn bs)) re
     wrong : {k : ℕ} → suc k ≡ 0 → Right bs
     wrong e = absurd (omega arith)
 
-    go : (s : Bool) → ltb (length bs) 10 ≡ s → (m : Bool) → marked bs ≡ m → (k : Bool) → isKind (kindIn bs) ≡ k → (w : Bool) → oneOf widths (widthIn bs) ≡ w → (z : Bool) → eqb (indexIn bs) 0 ≡ z → cond s CUT (cond (not m) MARK (cond (not (k && w && not z)) FIELD DONE)) ≡ DONE → Right bs
+    go : (s : Bool) → ltb (length bs) 10 ≡ s → (m : Bool) → marked bs ≡ m → (k : Bool) → isKind (kindIn bs) ≡ k → (w : Bool) →
+        oneOf widths (widthIn bs) ≡ w → (z : Bool) → eqb (indexIn bs) 0 ≡ z →
+        cond s CUT (cond (not m) MARK (cond (not (k && w && not z)) FIELD DONE)) ≡ DONE → Right bs
     go true es m em k ek w ew z ez e = wrong e
     go false es false em k ek w ew z ez e = wrong e
     go false es true em false ek w ew z ez e = wrong e
@@ -85,11 +87,13 @@ module _ (d : ℕ) (bs : List ℕ) (cs : List ℤ) where
   Answered r cs′ = (r ≡ readAnswer d bs (length cs)) × (cs′ ≡ readLeaves d bs cs)
 
   -- all that hangs on the code
-  by-code : (code : ℕ) → readCode d bs (length cs) ≡ code → Answered (readTells d bs code) (cond (eqb code DONE) (coefficientsIn bs ++ drop (countIn bs) cs) cs)
+  by-code : (code : ℕ) → readCode d bs (length cs) ≡ code →
+      Answered (readTells d bs code) (cond (eqb code DONE) (coefficientsIn bs ++ drop (countIn bs) cs) cs)
   unfolding readAnswer readLeaves
   by-code code e = rw e (refl, refl)
 
-  pub header-wrong : (code : ℕ) → code ≡ headerCode bs → (code ≡ DONE → ⊥) → Answered (record { code = code; degree = 0; used = 0; kind = 0; n = 0 }) cs
+  pub header-wrong : (code : ℕ) → code ≡ headerCode bs → (code ≡ DONE → ⊥) →
+      Answered (record { code = code; degree = 0; used = 0; kind = 0; n = 0 }) cs
   unfolding readCode readTells
   header-wrong code h z =
       let nz = ne-eqb code DONE z in
@@ -140,7 +144,8 @@ module _ (bs : List ℕ) (w k : ℕ) (ew : w ≡ widthIn bs) (ek : k ≡ countIn
   unfolding coefficientsIn width
   seen-in h v eh ev = rw (ev, eh, ew, ek)
 
-  pub filled-in : (cs cs′ : List ℤ) → k ≤ length cs → cs′ ≡ sets cs 0 (coefficientsAt w k (drop 10 bs)) → cs′ ≡ coefficientsIn bs ++ drop (countIn bs) cs
+  pub filled-in : (cs cs′ : List ℤ) → k ≤ length cs → cs′ ≡ sets cs 0 (coefficientsAt w k (drop 10 bs)) →
+      cs′ ≡ coefficientsIn bs ++ drop (countIn bs) cs
   unfolding coefficientsIn
   filled-in cs cs′ r e =
       let l = coefficientsAt w k (drop 10 bs) in

@@ -37,7 +37,8 @@ left-by-read bs out = readLeaves (degreeIn bs) bs out
 
 -- Written, then read, in a buffer with enough entries.
 module _ (kind n : ℕ) (cs : List ℤ) (b : List ℕ) (out : List ℤ) where
-  pub write-read : wrote kind n cs b .code ≡ DONE → length cs ≤ length out → (did-read (left-by-write kind n cs b) out ≡ record { code = DONE; degree = degree kind n; used = wrote kind n cs b .used; kind = kind; n = n }) × (left-by-read (left-by-write kind n cs b) out ≡ cs ++ drop (length cs) out)
+  pub write-read : wrote kind n cs b .code ≡ DONE → length cs ≤ length out →
+      (did-read (left-by-write kind n cs b) out ≡ record { code = DONE; degree = degree kind n; used = wrote kind n cs b .used; kind = kind; n = n }) × (left-by-read (left-by-write kind n cs b) out ≡ cs ++ drop (length cs) out)
   unfolding writeAnswer writeTells
   write-read done room =
       let d = degree kind n in
@@ -53,7 +54,8 @@ module _ (bs : List ℕ) (out : List ℤ) (done : did-read bs out .code ≡ DONE
   unfolding readAnswer readTells
   read-well = rw done
 
-  pub read-write : ((i : ℕ) → getD bs i 0 < 256) → (b : List ℕ) → did-read bs out .used ≤ length b → let r = did-read bs out in let cs = take (r .degree + 1) (left-by-read bs out) in (wrote (r .kind) (r .n) cs b ≡ record { code = DONE; degree = r .degree; used = r .used }) × (left-by-write (r .kind) (r .n) cs b ≡ take (r .used) bs ++ drop (r .used) b)
+  pub read-write : ((i : ℕ) → getD bs i 0 < 256) → (b : List ℕ) → did-read bs out .used ≤ length b →
+      let r = did-read bs out in let cs = take (r .degree + 1) (left-by-read bs out) in (wrote (r .kind) (r .n) cs b ≡ record { code = DONE; degree = r .degree; used = r .used }) × (left-by-write (r .kind) (r .n) cs b ≡ take (r .used) bs ++ drop (r .used) b)
   unfolding readAnswer readTells degreeIn
   read-write bytes b room =
       let d = degreeIn bs in
@@ -62,7 +64,8 @@ module _ (bs : List ℕ) (out : List ℤ) (done : did-read bs out .code ≡ DONE
       rw (done, entries-read d bs out p done) (read-write-record d bs out p done b fits)
 
 -- What lies past a record is untouched, and on refusal all of it.
-pub past-written : (d kind n : ℕ) (cs : List ℤ) (b : List ℕ) → drop (writeAnswer d kind n cs (length b) .used) (writeLeaves d kind n cs b) ≡ drop (writeAnswer d kind n cs (length b) .used) b
+pub past-written : (d kind n : ℕ) (cs : List ℤ) (b : List ℕ) →
+    drop (writeAnswer d kind n cs (length b) .used) (writeLeaves d kind n cs b) ≡ drop (writeAnswer d kind n cs (length b) .used) b
 unfolding writeAnswer writeTells writeLeaves
 past-written d kind n cs b = go (eqb (writeCode d kind n cs (length b)) DONE)
   where
@@ -71,10 +74,12 @@ past-written d kind n cs b = go (eqb (writeCode d kind n cs (length b)) DONE)
     go false = refl
 
 -- the entries that a reader fills are as many as the record has coefficients, and none on refusal
-pub past-read : (d : ℕ) (bs : List ℕ) (out : List ℤ) → let k = cond (eqb (readAnswer d bs (length out) .code) DONE) (countIn bs) 0 in drop k (readLeaves d bs out) ≡ drop k out
+pub past-read : (d : ℕ) (bs : List ℕ) (out : List ℤ) →
+    let k = cond (eqb (readAnswer d bs (length out) .code) DONE) (countIn bs) 0 in drop k (readLeaves d bs out) ≡ drop k out
 unfolding readAnswer readTells readLeaves
 past-read d bs out = go (eqb (readCode d bs (length out)) DONE)
   where
-    go : (t : Bool) → drop (cond t (countIn bs) 0) (cond t (coefficientsIn bs ++ drop (countIn bs) out) out) ≡ drop (cond t (countIn bs) 0) out
+    go : (t : Bool) →
+        drop (cond t (countIn bs) 0) (cond t (coefficientsIn bs ++ drop (countIn bs) out) out) ≡ drop (cond t (countIn bs) 0) out
     go true = drop-at (coefficientsIn bs) (drop (countIn bs) out) (countIn bs) (length-all bs)
     go false = refl

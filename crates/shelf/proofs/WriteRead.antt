@@ -65,7 +65,8 @@ module _ (d kind n : ℕ) (cs : List ℤ) (b : List ℕ) (small : d ≤ 65535) (
   unfolding writeLeaves
   left-written = rw done
 
-  pub write-read-record : (out : List ℤ) → length cs ≤ length out → let bs = recordOf kind n cs ++ drop (size cs) b in (readAnswer d bs (length out) ≡ record { code = DONE; degree = d; used = size cs; kind = kind; n = n }) × (readLeaves d bs out ≡ cs ++ drop (length cs) out)
+  pub write-read-record : (out : List ℤ) → length cs ≤ length out →
+      let bs = recordOf kind n cs ++ drop (size cs) b in (readAnswer d bs (length out) ≡ record { code = DONE; degree = d; used = size cs; kind = kind; n = n }) × (readLeaves d bs out ≡ cs ++ drop (length cs) out)
   unfolding readTells
   write-read-record out room =
       let rest = drop (size cs) b in

@@ -37,7 +37,8 @@ length-record kind n cs = rw (length-append, length-header, length-body)
 pub four-long : (b : List ℕ) (kind w : ℕ) → length (set (set (set (set b 0 0xC9) 1 0x50) 2 kind) 3 w) ≡ length b
 four-long b kind w = simp length-set
 
-pub header-stored : (b b₁ b₂ : List ℕ) (kind w n count : ℕ) → b₁ ≡ sets (set (set (set (set b 0 0xC9) 1 0x50) 2 kind) 3 w) 4 (bytesOf 2 n) → b₂ ≡ sets b₁ 6 (bytesOf 4 count) → b₂ ≡ sets b 0 (headerOf kind w n count)
+pub header-stored : (b b₁ b₂ : List ℕ) (kind w n count : ℕ) → b₁ ≡ sets (set (set (set (set b 0 0xC9) 1 0x50) 2 kind) 3 w) 4 (bytesOf 2 n) →
+    b₂ ≡ sets b₁ 6 (bytesOf 4 count) → b₂ ≡ sets b 0 (headerOf kind w n count)
 unfolding headerOf
 header-stored b b₁ b₂ kind w n count e₁ e₂ =
     let l = set (set (set (set b 0 0xC9) 1 0x50) 2 kind) 3 w in
@@ -49,7 +50,8 @@ module _ (d kind n : ℕ) (cs : List ℤ) (b : List ℕ) where
   Answered r b′ = (r ≡ writeAnswer d kind n cs (length b)) × (b′ ≡ writeLeaves d kind n cs b)
 
   -- all that hangs on the code
-  by-code : (code : ℕ) → writeCode d kind n cs (length b) ≡ code → Answered (writeTells d cs code) (cond (eqb code DONE) (recordOf kind n cs ++ drop (size cs) b) b)
+  by-code : (code : ℕ) → writeCode d kind n cs (length b) ≡ code →
+      Answered (writeTells d cs code) (cond (eqb code DONE) (recordOf kind n cs ++ drop (size cs) b) b)
   unfolding writeAnswer writeLeaves
   by-code code e = rw e (refl, refl)
 
@@ -82,7 +84,8 @@ module _ (d kind n : ℕ) (cs : List ℤ) (b : List ℕ) where
           stored s = by-code DONE (simp (k, i, eq-eqb (length cs) (d + 1) m, o, le-ltb (length b) (size cs) s))
 
 -- header and body stored one after the other are the record, with the rest as it was
-pub record-stored : (kind n : ℕ) (cs : List ℤ) (b : List ℕ) → size cs ≤ length b → sets (sets b 0 (headerOf kind (width cs) n (length cs))) 10 (body (width cs) cs) ≡ recordOf kind n cs ++ drop (size cs) b
+pub record-stored : (kind n : ℕ) (cs : List ℤ) (b : List ℕ) → size cs ≤ length b →
+    sets (sets b 0 (headerOf kind (width cs) n (length cs))) 10 (body (width cs) cs) ≡ recordOf kind n cs ++ drop (size cs) b
 unfolding recordOf
 record-stored kind n cs b s =
     let h = headerOf kind (width cs) n (length cs) in
@@ -91,7 +94,8 @@ record-stored kind n cs b s =
     let whole : sets b 0 (h ++ r) ≡ sets (sets b 0 h) 10 r = rw (sets-append, length-header) in
     sym whole ∙ sets-eq (h ++ r) b 0 (omega arith) ∙ rw (long, zero-add)
 
-pub record-made : (kind n w : ℕ) (cs : List ℤ) (b b₁ b₂ : List ℕ) → w ≡ width cs → size cs ≤ length b → b₁ ≡ sets b 0 (headerOf kind w n (length cs)) → b₂ ≡ sets b₁ 10 (body w cs) → b₂ ≡ recordOf kind n cs ++ drop (size cs) b
+pub record-made : (kind n w : ℕ) (cs : List ℤ) (b b₁ b₂ : List ℕ) → w ≡ width cs → size cs ≤ length b →
+    b₁ ≡ sets b 0 (headerOf kind w n (length cs)) → b₂ ≡ sets b₁ 10 (body w cs) → b₂ ≡ recordOf kind n cs ++ drop (size cs) b
 record-made kind n w cs b b₁ b₂ e s e₁ e₂ = rw (e₂, e₁, e) (record-stored kind n cs b s)
 
 pub size-made : (cs : List ℤ) (w : ℕ) → w ≡ width cs → 10 + length cs * w ≡ size cs
