@@ -81,7 +81,8 @@ pub(crate) fn header_code(bytes: &[u8]) -> u64
 // Reading past a right header, at the degree of its kind and index, which the caller has worked out.
 pub(crate) fn read_with(bytes: &[u8], degree: u64, coeffs: &mut [i64]) -> Record
     requires { ⌜ (headerCode (now bytes) ≡ DONE) × (degree ≤ 65535) ⌝ }
-    ensures { λ r. ⌜ (r ≡ readAnswer degree (now (bytes .entry)) (length (now (coeffs .entry)))) × (now (coeffs .exit) ≡ readLeaves degree (now (bytes .entry)) (now (coeffs .entry))) ⌝ }
+    ensures answer { λ r. ⌜ r ≡ readAnswer degree (now (bytes .entry)) (length (now (coeffs .entry))) ⌝ }
+    ensures leaves { λ r. ⌜ now (coeffs .exit) ≡ readLeaves degree (now (bytes .entry)) (now (coeffs .entry)) ⌝ }
 {
     let w = field(bytes, 3) as usize;
     let count = count_in(bytes) as usize;

@@ -44,7 +44,8 @@ pub(crate) fn write_with(
     bytes: &mut [u8],
 ) -> Written
     requires { ⌜ degree ≤ 65535 ⌝ }
-    ensures { λ r. ⌜ (r ≡ writeAnswer degree kind n (now (coeffs .entry)) (length (now (bytes .entry)))) × (now (bytes .exit) ≡ writeLeaves degree kind n (now (coeffs .entry)) (now (bytes .entry))) ⌝ }
+    ensures answer { λ r. ⌜ r ≡ writeAnswer degree kind n (now (coeffs .entry)) (length (now (bytes .entry))) ⌝ }
+    ensures leaves { λ r. ⌜ now (bytes .exit) ≡ writeLeaves degree kind n (now (coeffs .entry)) (now (bytes .entry)) ⌝ }
 {
     if !is_kind(kind) {
         return Written {
