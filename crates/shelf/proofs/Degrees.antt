@@ -56,7 +56,8 @@ module _ (kind n d : ℕ) (told : d ≡ cond (ltb 65535 n) 0 (degree kind n)) wh
   pub same-leaves : (cs : List ℤ) (bytes : List ℕ) → writeLeaves d kind n cs bytes ≡ writeLeaves (degree kind n) kind n cs bytes
   unfolding writeLeaves writeAnswer writeTells
   same-leaves cs bytes =
-      let e : writeCode d kind n cs (length bytes) ≡ writeCode (degree kind n) kind n cs (length bytes) = ap (λ (r : Written). r .code) (same-answer cs (length bytes)) in
+      let e : writeCode d kind n cs (length bytes) ≡ writeCode (degree kind n) kind n cs (length bytes) = ap (λ (r : Written). r .code)
+      (same-answer cs (length bytes)) in
       rw e
 
 -- the degree of a header, as the reader has it

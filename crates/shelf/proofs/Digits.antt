@@ -91,7 +91,13 @@ coefficients-body w (c ∷ cs) rest h t =
     let tail = body w cs ++ rest in
     let long = length-bytesOf w z in
     let first : signedOf w (number (bytesOf w z)) ≡ c = ap (signedOf w) (number-bytes w z (twos-less w c h tall)) ∙ signed-twos w c h tall in
-    rw (append-assoc (bytesOf w z) (body w cs) rest, take-at (bytesOf w z) tail w long, drop-at (bytesOf w z) tail w long, first, coefficients-body w cs rest h others)
+    rw (
+      append-assoc (bytesOf w z) (body w cs) rest,
+      take-at (bytesOf w z) tail w long,
+      drop-at (bytesOf w z) tail w long,
+      first,
+      coefficients-body w cs rest h others,
+    )
 
 pub body-coefficients : (w k : ℕ) (bs : List ℕ) → k * w ≤ length bs → Bytes bs → body w (coefficientsAt w k bs) ≡ take (k * w) bs
 unfolding coefficientsAt body
@@ -101,7 +107,9 @@ body-coefficients w (suc k) bs h p =
     let one = take w bs in
     let long : length one ≡ w = length-take-le w bs (omega arith) in
     let bytes = bytes-take w bs p in
-    let first : bytesOf w (twos w (signedOf w (number one))) ≡ one = ap (bytesOf w) (twos-signed w (number one) (number-less w one long bytes)) ∙ bytes-number w one long bytes in
-    let others : body w (coefficientsAt w k (drop w bs)) ≡ take (k * w) (drop w bs) = body-coefficients w k (drop w bs) (rw length-drop (omega arith)) (bytes-drop w bs p) in
+    let first : bytesOf w (twos w (signedOf w (number one))) ≡ one = ap (bytesOf w) (twos-signed w (number one) (number-less w one long bytes))
+    ∙ bytes-number w one long bytes in
+    let others : body w (coefficientsAt w k (drop w bs)) ≡ take (k * w) (drop w bs) = body-coefficients w k (drop w bs)
+    (rw length-drop (omega arith)) (bytes-drop w bs p) in
     let sum : suc k * w ≡ w + k * w = omega (arith, suc-mul k w) in
     rw (first, others, sum, take-add w (k * w) bs)

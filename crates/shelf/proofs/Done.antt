@@ -25,7 +25,8 @@ pub record Written-right (d kind n : ℕ) (cs : List ℤ) (room : ℕ) : Type 0 
 
 pub written-right : (d kind n : ℕ) (cs : List ℤ) (room : ℕ) → writeCode d kind n cs room ≡ DONE → Written-right d kind n cs room
 unfolding writeCode
-written-right d kind n cs room = go (isKind kind) refl (eqb n 0) refl (ltb 65535 n) refl (eqb (length cs) (d + 1)) refl (ltb largest (heightOf cs)) refl (ltb room (size cs)) refl
+written-right d kind n cs room = go (isKind kind) refl (eqb n 0) refl (ltb 65535 n) refl (eqb (length cs) (d + 1)) refl
+    (ltb largest (heightOf cs)) refl (ltb room (size cs)) refl
   where
     wrong : {k : ℕ} → suc k ≡ 0 → Written-right d kind n cs room
     wrong e = absurd (omega arith)
@@ -41,7 +42,14 @@ written-right d kind n cs room = go (isKind kind) refl (eqb n 0) refl (ltb 65535
     go true ek false ez false ea true em true eo s es e = wrong e
     go true ek false ez false ea true em false eo true es e = wrong e
     go true ek false ez false ea true em false eo false es e =
-        record { kinds = ek; low = eqb-false n 0 ez; high = ltb-false 65535 n ea; count = eqb-true (length cs) (d + 1) em; within = eo; fits = ltb-false room (size cs) es }
+        record {
+          kinds = ek;
+          low = eqb-false n 0 ez;
+          high = ltb-false 65535 n ea;
+          count = eqb-true (length cs) (d + 1) em;
+          within = eo;
+          fits = ltb-false room (size cs) es;
+        }
 
 -- what a reader that refuses nothing was given
 pub record Read-right (d : ℕ) (bs : List ℕ) (room : ℕ) : Type 0 where
@@ -53,7 +61,8 @@ pub record Read-right (d : ℕ) (bs : List ℕ) (room : ℕ) : Type 0 where
 
 pub read-right : (d : ℕ) (bs : List ℕ) (room : ℕ) → readCode d bs room ≡ DONE → Read-right d bs room
 unfolding readCode
-read-right d bs room = go (headerCode bs) refl (eqb (countIn bs) (d + 1)) refl (ltb (length bs) (sizeIn bs)) refl (ltb room (countIn bs)) refl (eqb (width (coefficientsIn bs)) (widthIn bs)) refl
+read-right d bs room = go (headerCode bs) refl (eqb (countIn bs) (d + 1)) refl (ltb (length bs) (sizeIn bs)) refl (ltb room (countIn bs)) refl
+    (eqb (width (coefficientsIn bs)) (widthIn bs)) refl
   where
     wrong : {k : ℕ} → suc k ≡ 0 → Read-right d bs room
     wrong e = absurd (omega arith)
@@ -67,4 +76,10 @@ read-right d bs room = go (headerCode bs) refl (eqb (countIn bs) (d + 1)) refl (
     go zero eh true em false es true er w ew e = wrong e
     go zero eh true em false es false er false ew e = wrong e
     go zero eh true em false es false er true ew e =
-        record { header = eh; count = eqb-true (countIn bs) (d + 1) em; long = ltb-false (length bs) (sizeIn bs) es; fits = ltb-false room (countIn bs) er; wide = eqb-true (width (coefficientsIn bs)) (widthIn bs) ew }
+        record {
+          header = eh;
+          count = eqb-true (countIn bs) (d + 1) em;
+          long = ltb-false (length bs) (sizeIn bs) es;
+          fits = ltb-false room (countIn bs) er;
+          wide = eqb-true (width (coefficientsIn bs)) (widthIn bs) ew;
+        }

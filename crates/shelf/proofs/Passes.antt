@@ -87,7 +87,8 @@ pub body-turn : (w : ℕ) (cs : List ℤ) (b : List ℕ) (at i : ℕ) → i < le
 body-turn w cs b at i l =
     let c = twos w (getD cs i (pos 0)) in
     let e : at + length (bytesOf w c) ≡ at + w = ap (λ (k : ℕ). at + k) (length-bytesOf w c) in
-    sym (rw (body-cons w cs i l) (sets-append b at (bytesOf w c) (body w (drop (i + 1) cs))) ∙ ap (λ (k : ℕ). sets (sets b at (bytesOf w c)) k (body w (drop (i + 1) cs))) e)
+    sym (rw (body-cons w cs i l) (sets-append b at (bytesOf w c) (body w (drop (i + 1) cs)))
+    ∙ ap (λ (k : ℕ). sets (sets b at (bytesOf w c)) k (body w (drop (i + 1) cs))) e)
 
 pub body-none : (w : ℕ) (cs : List ℤ) (b : List ℕ) (at i : ℕ) → length cs ≤ i → sets b at (body w (drop i cs)) ≡ b
 unfolding body
@@ -123,7 +124,8 @@ one-less (suc k) w h =
     rw e (omega (arith, suc-mul k w))
 
 pub look-turn : (w k at h : ℕ) (bs : List ℕ) → 0 < k →
-    max (max h (natAbs (signedOf w (number (take w (drop at bs)))))) (heightOf (coefficientsAt w (k - 1) (drop (at + w) bs))) ≡ max h (heightOf (coefficientsAt w k (drop at bs)))
+    max (max h (natAbs (signedOf w (number (take w (drop at bs)))))) (heightOf (coefficientsAt w (k - 1) (drop (at + w) bs)))
+    ≡ max h (heightOf (coefficientsAt w k (drop at bs)))
 unfolding heightOf
 look-turn w k at h bs l = rw (next-in w k at bs l) (omega arith)
 
@@ -132,7 +134,8 @@ unfolding heightOf
 look-none w k at h bs l = rw (none-in w k (drop at bs) l) (omega arith)
 
 pub fill-turn : (w k at i : ℕ) (bs : List ℕ) (cs : List ℤ) → 0 < k →
-    sets (set cs i (signedOf w (number (take w (drop at bs))))) (i + 1) (coefficientsAt w (k - 1) (drop (at + w) bs)) ≡ sets cs i (coefficientsAt w k (drop at bs))
+    sets (set cs i (signedOf w (number (take w (drop at bs))))) (i + 1) (coefficientsAt w (k - 1) (drop (at + w) bs))
+    ≡ sets cs i (coefficientsAt w k (drop at bs))
 fill-turn w k at i bs cs l = rw (next-in w k at bs l, add-one)
 
 pub fill-none : (w k at i : ℕ) (bs : List ℕ) (cs : List ℤ) → k ≤ 0 → sets cs i (coefficientsAt w k (drop at bs)) ≡ cs

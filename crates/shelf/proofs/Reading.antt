@@ -70,7 +70,13 @@ right bs = go (ltb (length bs) 10) refl (marked bs) refl (isKind (kindIn bs)) re
     go false es true em false ek w ew z ez e = wrong e
     go false es true em true ek false ew z ez e = wrong e
     go false es true em true ek true ew true ez e = wrong e
-    go false es true em true ek true ew false ez e = record { long = ltb-false (length bs) 10 es; mark = em; kind = ek; wide = ew; index = eqb-false (indexIn bs) 0 ez }
+    go false es true em true ek true ew false ez e = record {
+      long = ltb-false (length bs) 10 es;
+      mark = em;
+      kind = ek;
+      wide = ew;
+      index = eqb-false (indexIn bs) 0 ez;
+    }
 
 header-codes : (bs : List ℕ) → headerCode bs ≡ SHORT → ⊥
 unfolding headerCode
@@ -119,11 +125,23 @@ module _ (d : ℕ) (bs : List ℕ) (cs : List ℤ) where
         module _ (r : countIn bs ≤ length cs) where
           pub width-wrong : (width (coefficientsIn bs) ≡ widthIn bs → ⊥) → Answered (readTells d bs WIDTH) cs
           unfolding readCode
-          width-wrong w = by-code WIDTH (simp (h, eq-eqb (countIn bs) (d + 1) m, le-ltb (length bs) (sizeIn bs) s, le-ltb (length cs) (countIn bs) r, ne-eqb (width (coefficientsIn bs)) (widthIn bs) w))
+          width-wrong w = by-code WIDTH (simp (
+            h,
+            eq-eqb (countIn bs) (d + 1) m,
+            le-ltb (length bs) (sizeIn bs) s,
+            le-ltb (length cs) (countIn bs) r,
+            ne-eqb (width (coefficientsIn bs)) (widthIn bs) w,
+          ))
 
           pub filled : width (coefficientsIn bs) ≡ widthIn bs → Answered (readTells d bs DONE) (coefficientsIn bs ++ drop (countIn bs) cs)
           unfolding readCode
-          filled w = by-code DONE (simp (h, eq-eqb (countIn bs) (d + 1) m, le-ltb (length bs) (sizeIn bs) s, le-ltb (length cs) (countIn bs) r, eq-eqb (width (coefficientsIn bs)) (widthIn bs) w))
+          filled w = by-code DONE (simp (
+            h,
+            eq-eqb (countIn bs) (d + 1) m,
+            le-ltb (length bs) (sizeIn bs) s,
+            le-ltb (length cs) (countIn bs) r,
+            eq-eqb (width (coefficientsIn bs)) (widthIn bs) w,
+          ))
 
 pub length-at : (w k : ℕ) (bs : List ℕ) → length (coefficientsAt w k bs) ≡ k
 unfolding coefficientsAt

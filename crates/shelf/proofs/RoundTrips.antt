@@ -38,7 +38,8 @@ left-by-read bs out = readLeaves (degreeIn bs) bs out
 -- Written, then read, in a buffer with enough entries.
 module _ (kind n : ℕ) (cs : List ℤ) (b : List ℕ) (out : List ℤ) where
   pub write-read : wrote kind n cs b .code ≡ DONE → length cs ≤ length out →
-      (did-read (left-by-write kind n cs b) out ≡ record { code = DONE; degree = degree kind n; used = wrote kind n cs b .used; kind = kind; n = n }) × (left-by-read (left-by-write kind n cs b) out ≡ cs ++ drop (length cs) out)
+      (did-read (left-by-write kind n cs b) out ≡ record { code = DONE; degree = degree kind n; used = wrote kind n cs b .used; kind = kind; n = n })
+      × (left-by-read (left-by-write kind n cs b) out ≡ cs ++ drop (length cs) out)
   unfolding writeAnswer writeTells
   write-read done room =
       let d = degree kind n in
@@ -55,7 +56,9 @@ module _ (bs : List ℕ) (out : List ℤ) (done : did-read bs out .code ≡ DONE
   read-well = rw done
 
   pub read-write : ((i : ℕ) → getD bs i 0 < 256) → (b : List ℕ) → did-read bs out .used ≤ length b →
-      let r = did-read bs out in let cs = take (r .degree + 1) (left-by-read bs out) in (wrote (r .kind) (r .n) cs b ≡ record { code = DONE; degree = r .degree; used = r .used }) × (left-by-write (r .kind) (r .n) cs b ≡ take (r .used) bs ++ drop (r .used) b)
+      let r = did-read bs out in let cs = take (r .degree + 1) (left-by-read bs out) in
+      (wrote (r .kind) (r .n) cs b ≡ record { code = DONE; degree = r .degree; used = r .used })
+      × (left-by-write (r .kind) (r .n) cs b ≡ take (r .used) bs ++ drop (r .used) b)
   unfolding readAnswer readTells degreeIn
   read-write bytes b room =
       let d = degreeIn bs in

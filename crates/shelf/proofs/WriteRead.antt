@@ -66,7 +66,8 @@ module _ (d kind n : ℕ) (cs : List ℤ) (b : List ℕ) (small : d ≤ 65535) (
   left-written = rw done
 
   pub write-read-record : (out : List ℤ) → length cs ≤ length out →
-      let bs = recordOf kind n cs ++ drop (size cs) b in (readAnswer d bs (length out) ≡ record { code = DONE; degree = d; used = size cs; kind = kind; n = n }) × (readLeaves d bs out ≡ cs ++ drop (length cs) out)
+      let bs = recordOf kind n cs ++ drop (size cs) b in (readAnswer d bs (length out)
+      ≡ record { code = DONE; degree = d; used = size cs; kind = kind; n = n }) × (readLeaves d bs out ≡ cs ++ drop (length cs) out)
   unfolding readTells
   write-read-record out room =
       let rest = drop (size cs) b in
@@ -81,6 +82,7 @@ module _ (d kind n : ℕ) (cs : List ℤ) (b : List ℕ) (small : d ≤ 65535) (
       let wide = width-back kind n cs rest in
       let whole = size-back kind n cs rest few in
       let index = index-back kind n cs rest (g .high) in
-      let head = header-right bs (omega (arith, g .fits)) (marked-back kind n cs rest) (ap isKind (kind-back kind n cs rest) ∙ g .kinds) (ap (oneOf widths) wide ∙ f .one) (λ z. g .low (sym index ∙ z)) in
+      let head = header-right bs (omega (arith, g .fits)) (marked-back kind n cs rest) (ap isKind (kind-back kind n cs rest) ∙ g .kinds)
+      (ap (oneOf widths) wide ∙ f .one) (λ z. g .low (sym index ∙ z)) in
       let p = filled d bs out head (count ∙ g .count) (omega (arith, g .fits)) (omega arith) (ap width back ∙ sym wide) in
       (sym (p .0) ∙ rw (whole, kind-back kind n cs rest, index), sym (p .1) ∙ rw (back, count))

@@ -121,7 +121,8 @@ few count d w e h l =
 pub kind-small : (kind : ℕ) → isKind kind ≡ true → kind ≤ 2
 unfolding isKind
 kind-small kind k =
-    ⊎-elim (λ e. let s : kind ≡ 1 = eqb-true kind 1 e in omega arith) (λ e. let s : kind ≡ 2 = eqb-true kind 2 e in omega arith) (or-cases (eqb kind 1) (eqb kind 2) k)
+    ⊎-elim (λ e. let s : kind ≡ 1 = eqb-true kind 1 e in omega arith) (λ e. let s : kind ≡ 2 = eqb-true kind 2 e in
+    omega arith) (or-cases (eqb kind 1) (eqb kind 2) k)
 
 pub nonzero : (w : ℕ) → (w ≡ 0 → ⊥) → 0 < w
 nonzero w z = omega arith

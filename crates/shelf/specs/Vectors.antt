@@ -23,7 +23,8 @@ reads-F6 = refl
 
 -- the widths at their edges: 127, -127, 128, -128, 2^15 - 1, 2^15, 2^31 - 1, 2^31, 2^63 - 1, -2^63 and nothing
 edges :
-    map (λ (c : ℤ). width (c ∷ [])) (pos 127 ∷ negsuc 126 ∷ pos 128 ∷ negsuc 127 ∷ pos (2 ^ 15 - 1) ∷ pos (2 ^ 15) ∷ pos (2 ^ 31 - 1) ∷ pos (2 ^ 31) ∷ pos (2 ^ 63 - 1) ∷ negsuc (2 ^ 63 - 1) ∷ [])
+    map (λ (c : ℤ). width (c ∷ [])) (pos 127 ∷ negsuc 126 ∷ pos 128 ∷ negsuc 127 ∷ pos (2 ^ 15 - 1) ∷ pos (2 ^ 15) ∷ pos (2 ^ 31 - 1) ∷ pos
+    (2 ^ 31) ∷ pos (2 ^ 63 - 1) ∷ negsuc (2 ^ 63 - 1) ∷ [])
     ≡ 1 ∷ 1 ∷ 2 ∷ 2 ∷ 2 ∷ 4 ∷ 4 ∷ 8 ∷ 8 ∷ 0 ∷ []
 unfolding width leastOf top heightOf
 edges = refl
@@ -51,7 +52,8 @@ written = refl
 
 -- and by kind and index, and with one coefficient too few for the degree
 refused :
-    writeCode 2 3 6 (pos 1 ∷ []) 13 ∷ writeCode 2 1 0 (pos 1 ∷ []) 13 ∷ writeCode 2 1 65536 (pos 1 ∷ []) 13 ∷ writeCode 2 1 6 (pos 1 ∷ pos 1 ∷ []) 13 ∷ []
+    writeCode 2 3 6 (pos 1 ∷ []) 13 ∷ writeCode 2 1 0 (pos 1 ∷ []) 13 ∷ writeCode 2 1 65536 (pos 1 ∷ []) 13 ∷ writeCode 2 1 6
+    (pos 1 ∷ pos 1 ∷ []) 13 ∷ []
     ≡ KIND ∷ INDEX ∷ INDEX ∷ FIELD ∷ []
 unfolding writeCode isKind size width leastOf top heightOf
 refused = refl

@@ -17,7 +17,8 @@ refused-requires c κs = search needs
 returns : tie.Need-returns
 returns c =
     let a = c .before .before .before .before .args in
-    let p = header-wrong (degreeIn (a .bytes .now)) (a .bytes .now) (a .coeffs .now) _ (c .before .before .header-code .ensures) (c .before .if1 .taken) in
+    let p = header-wrong (degreeIn (a .bytes .now)) (a .bytes .now) (a .coeffs .now) _ (c .before .before .header-code .ensures)
+    (c .before .if1 .taken) in
     (c .refused .ensures ∙ p .0, p .1)
 
 field-requires : tie.Need-field-requires
@@ -30,7 +31,10 @@ degree-of-requires : tie.Need-degree-of-requires
 degree-of-requires c κs = search needs
 
 read-with-requires : tie.Need-read-with-requires
-read-with-requires c κs = (sym (c .before .before .before .before .before .header-code .ensures) ∙ c .before .before .before .before .if1 .left, told-small (c .before .before .before .field .result) (c .before .before .index-in .result) _ (c .before .degree-of .ensures))
+read-with-requires c κs = (
+  sym (c .before .before .before .before .before .header-code .ensures) ∙ c .before .before .before .before .if1 .left,
+  told-small (c .before .before .before .field .result) (c .before .before .index-in .result) _ (c .before .degree-of .ensures),
+)
 
 same-length : tie.Need-same-length
 same-length c = search needs
@@ -40,7 +44,9 @@ unfolding kindIn
 returns-2 c =
     let a = c .before .before .before .before .before .before .before .before .before .args in
     let r = c .before .read-with .ensures in
-    let d = degree-in (a .bytes .now) _ _ _ (c .before .before .before .before .before .field .ensures) (c .before .before .before .before .index-in .ensures .0) (c .before .before .before .before .index-in .ensures .1) (c .before .before .before .degree-of .ensures) in
+    let d = degree-in (a .bytes .now) _ _ _ (c .before .before .before .before .before .field .ensures)
+    (c .before .before .before .before .index-in .ensures .0) (c .before .before .before .before .index-in .ensures .1)
+    (c .before .before .before .degree-of .ensures) in
     (rw (← d) (r .0), rw (← d) (r .1))
 
 pub read-spec : {M : Type 1} → statement M

@@ -21,8 +21,10 @@ returns : tie.Need-returns
 returns c =
     let a = c .before .before .before .before .before .before .args in
     let told = c .before .before .before .before .degree-of .ensures in
-    let w = c .before .before .write-with .ensures in
-    (w .0 ∙ same-answer (a .kind) (a .n) _ told (a .coeffs .now) (length (a .bytes .now)), w .1 ∙ same-leaves (a .kind) (a .n) _ told (a .coeffs .now) (a .bytes .now))
+    let w = c .before .before .write-with .ensures in (
+      w .0 ∙ same-answer (a .kind) (a .n) _ told (a .coeffs .now) (length (a .bytes .now)),
+      w .1 ∙ same-leaves (a .kind) (a .n) _ told (a .coeffs .now) (a .bytes .now),
+    )
 
 pub write-spec : {M : Type 1} → statement M
 write-spec = tie.close (tie.spec degree-of-requires write-with-requires same-length returns)

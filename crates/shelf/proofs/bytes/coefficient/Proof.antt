@@ -14,7 +14,8 @@ signed-of-requires c κs = search needs
 
 returns : tie.Need-returns
 returns c =
-    passed (c .signed-of .result) (c .signed-of .ok) ∙ c .signed-of .ensures ∙ ap (signedOf (c .before .before .before .args .w)) (c .before .get .ensures .0)
+    passed (c .signed-of .result) (c .signed-of .ok) ∙ c .signed-of .ensures
+    ∙ ap (signedOf (c .before .before .before .args .w)) (c .before .get .ensures .0)
 
 pub coefficient-spec : {M : Type 1} → statement M
 coefficient-spec = tie.close (tie.spec get-requires signed-of-requires returns)

@@ -11,7 +11,9 @@ use Rattle.shelf.proofs.bytes.fill.Statement.{statement}
 use Rattle.shelf.proofs.bytes.fill.Tie as tie
 
 abbrev Inv-loop : tie.InvT-loop
-Inv-loop bytes w k coeffs₀ left₀ at₀ i₀ coeffs left at i = (sets coeffs i (coefficientsAt w left (drop at bytes)) ≡ sets coeffs₀ 0 (coefficientsAt w k (drop 10 bytes))) × (at + left * w ≤ length bytes) × (i + left ≤ length coeffs) × (length coeffs ≡ length coeffs₀)
+Inv-loop bytes w k coeffs₀ left₀ at₀ i₀ coeffs left at i = (sets coeffs i (coefficientsAt w left (drop at bytes))
+    ≡ sets coeffs₀ 0 (coefficientsAt w k (drop 10 bytes))) × (at + left * w ≤ length bytes) × (i + left ≤ length coeffs)
+    × (length coeffs ≡ length coeffs₀)
 
 abbrev μ-loop : tie.MeasureT-loop
 μ-loop bytes w k coeffs₀ left₀ at₀ i₀ coeffs left at i = left
@@ -64,7 +66,8 @@ returns : tie.Need-returns Inv-loop μ-loop
 returns c =
     let loop = c .before in
     let a = loop .before .before .args in
-    sym (fill-none (a .w) (loop .loop .left) (loop .loop .at) (loop .loop .i) (a .bytes .now) (loop .loop .coeffs) (c .loop-test .left)) ∙ loop .loop .inv .0
+    sym (fill-none (a .w) (loop .loop .left) (loop .loop .at) (loop .loop .i) (a .bytes .now) (loop .loop .coeffs) (c .loop-test .left))
+    ∙ loop .loop .inv .0
 
 pub fill-spec : {M : Type 1} → statement M
 fill-spec =

@@ -42,7 +42,11 @@ wide-requires c κs = search needs
 add-v : tie.Need-add-v Inv-loop μ-loop
 add-v c =
     let loop = c .before .before .before in
-    omega (arith, got-room _ _ _ _ _ (c .before .before .loop-test .taken) (loop .before .before .pre .1) (loop .loop .inv .0), c .before .shared-slice-known2 .given (loop .before .before .args .at + (loop .loop .left - 1)))
+    omega (
+      arith,
+      got-room _ _ _ _ _ (c .before .before .loop-test .taken) (loop .before .before .pre .1) (loop .loop .inv .0),
+      c .before .shared-slice-known2 .given (loop .before .before .args .at + (loop .loop .left - 1)),
+    )
 
 -- src/bytes.rt:46:5
 loop-less : tie.Need-loop-less Inv-loop μ-loop
@@ -51,8 +55,11 @@ loop-less c = omega arith
 -- src/bytes.rt:46:5
 loop-again : tie.Need-loop-again Inv-loop μ-loop
 loop-again c =
-    let loop = c .before .before .before in
-    (get-turn _ _ _ _ _ _ (c .before .before .loop-test .taken) (loop .loop .inv .1) (loop .before .before .pre .0) (c .wide .ensures) (omega (arith, c .before .shared-slice-known2 .given (loop .before .before .args .at + (loop .loop .left - 1)))) (loop .loop .inv .0), omega arith)
+    let loop = c .before .before .before in (
+      get-turn _ _ _ _ _ _ (c .before .before .loop-test .taken) (loop .loop .inv .1) (loop .before .before .pre .0) (c .wide .ensures)
+          (omega (arith, c .before .shared-slice-known2 .given (loop .before .before .args .at + (loop .loop .left - 1)))) (loop .loop .inv .0),
+      omega arith,
+    )
 
 -- src/bytes.rt:40:1
 returns : tie.Need-returns Inv-loop μ-loop

@@ -49,8 +49,11 @@ loop-less c = omega arith
 loop-again : tie.Need-loop-again Inv-loop μ-loop
 loop-again c =
     let loop = c .before .before .before .before in
-    let x = getD (loop .before .args .coeffs .now) (loop .loop .i) (pos 0) in
-    (rw (c .larger .ensures, c .before .magnitude .ensures, passed x (c .before .before .magnitude-arg .given)) (height-turn _ _ _ (c .before .before .before .loop-test .taken) ∙ loop .loop .inv .0), omega arith)
+    let x = getD (loop .before .args .coeffs .now) (loop .loop .i) (pos 0) in (
+      rw (c .larger .ensures, c .before .magnitude .ensures, passed x (c .before .before .magnitude-arg .given))
+          (height-turn _ _ _ (c .before .before .before .loop-test .taken) ∙ loop .loop .inv .0),
+      omega arith,
+    )
 
 -- src/bytes.rt:62:1
 returns : tie.Need-returns Inv-loop μ-loop

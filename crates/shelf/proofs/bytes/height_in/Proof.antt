@@ -13,7 +13,8 @@ use Rattle.shelf.proofs.bytes.height_in.Statement.{statement}
 use Rattle.shelf.proofs.bytes.height_in.Tie as tie
 
 abbrev Inv-loop : tie.InvT-loop
-Inv-loop bytes w k h₀ left₀ at₀ h left at = (max h (heightOf (coefficientsAt w left (drop at bytes))) ≡ heightOf (coefficientsAt w k (drop 10 bytes))) × (at + left * w ≤ length bytes)
+Inv-loop bytes w k h₀ left₀ at₀ h left at = (max h (heightOf (coefficientsAt w left (drop at bytes))) ≡ heightOf (coefficientsAt w k (drop 10 bytes)))
+    × (at + left * w ≤ length bytes)
 
 abbrev μ-loop : tie.MeasureT-loop
 μ-loop bytes w k h₀ left₀ at₀ h left at = left
@@ -48,7 +49,12 @@ loop-again c =
     let loop = c .before .before .before .before in
     let a = loop .before .before .args in
     let taken = c .before .before .before .loop-test .taken in (
-      rw (c .larger .ensures, c .before .magnitude .ensures, passed (c .before .before .coefficient .result) (c .before .before .coefficient .ok), c .before .before .coefficient .ensures)
+      rw (
+        c .larger .ensures,
+        c .before .magnitude .ensures,
+        passed (c .before .before .coefficient .result) (c .before .before .coefficient .ok),
+        c .before .before .coefficient .ensures,
+      )
           (look-turn (a .w) (loop .loop .left) (loop .loop .at) (loop .loop .h) (a .bytes .now) taken ∙ loop .loop .inv .0),
       omega (arith, one-less (loop .loop .left) (a .w) taken),
     )

@@ -10,7 +10,8 @@ use Rattle.shelf.proofs.bytes.put.Statement.{statement}
 use Rattle.shelf.proofs.bytes.put.Tie as tie
 
 abbrev Inv-loop : tie.InvT-loop
-Inv-loop bytes₀ at w v i₀ left₀ rest₀ bytes i left rest = (sets bytes i (bytesOf left rest) ≡ sets bytes₀ at (bytesOf w v)) × (i + left ≡ at + w) × (length bytes ≡ length bytes₀)
+Inv-loop bytes₀ at w v i₀ left₀ rest₀ bytes i left rest = (sets bytes i (bytesOf left rest) ≡ sets bytes₀ at (bytesOf w v)) × (i + left ≡ at + w)
+    × (length bytes ≡ length bytes₀)
 
 abbrev μ-loop : tie.MeasureT-loop
 μ-loop bytes₀ at w v i₀ left₀ rest₀ bytes i left rest = left

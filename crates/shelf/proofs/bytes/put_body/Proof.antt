@@ -13,7 +13,9 @@ use Rattle.shelf.proofs.bytes.put_body.Statement.{statement}
 use Rattle.shelf.proofs.bytes.put_body.Tie as tie
 
 abbrev Inv-loop : tie.InvT-loop
-Inv-loop coeffs w bytes₀ i₀ at₀ bytes i at = (sets bytes at (body w (drop i coeffs)) ≡ sets bytes₀ 10 (body w coeffs)) × (at + length (body w (drop i coeffs)) ≤ length bytes) × (heightOf (drop i coeffs) ≤ top w) × (length bytes ≡ length bytes₀) × (i ≤ length coeffs)
+Inv-loop coeffs w bytes₀ i₀ at₀ bytes i at = (sets bytes at (body w (drop i coeffs)) ≡ sets bytes₀ 10 (body w coeffs))
+    × (at + length (body w (drop i coeffs)) ≤ length bytes) × (heightOf (drop i coeffs) ≤ top w) × (length bytes ≡ length bytes₀)
+    × (i ≤ length coeffs)
 
 abbrev μ-loop : tie.MeasureT-loop
 μ-loop coeffs w bytes₀ i₀ at₀ bytes i at = length coeffs - i
@@ -31,8 +33,15 @@ twos-of-requires : tie.Need-twos-of-requires Inv-loop μ-loop
 twos-of-requires c κs =
     let loop = c .before .before .before in
     let start = loop .before .before in
-    let x = getD (start .args .coeffs .now) (loop .loop .i) (pos 0) in
-    (start .pre .0, start .pre .1, omega (arith, ap natAbs (passed x (c .twos-of-arg .given)), height-left (start .args .coeffs .now) (loop .loop .i) (c .before .before .loop-test .taken)))
+    let x = getD (start .args .coeffs .now) (loop .loop .i) (pos 0) in (
+      start .pre .0,
+      start .pre .1,
+      omega (
+        arith,
+        ap natAbs (passed x (c .twos-of-arg .given)),
+        height-left (start .args .coeffs .now) (loop .loop .i) (c .before .before .loop-test .taken),
+      ),
+    )
 
 put-requires : tie.Need-put-requires Inv-loop μ-loop
 put-requires c κs =
@@ -58,7 +67,11 @@ loop-again c =
     let a = loop .before .before .args in
     let taken = c .before .before .before .before .before .before .loop-test .taken in
     let x = getD (a .coeffs .now) (loop .loop .i) (pos 0) in (
-      rw (c .before .before .put .ensures, c .before .before .before .twos-of .ensures, passed x (c .before .before .before .before .twos-of-arg .given))
+      rw (
+        c .before .before .put .ensures,
+        c .before .before .before .twos-of .ensures,
+        passed x (c .before .before .before .before .twos-of-arg .given),
+      )
           (body-turn (a .w) (a .coeffs .now) (loop .loop .bytes) (loop .loop .at) (loop .loop .i) taken ∙ loop .loop .inv .0),
       omega (arith, body-left (a .w) (a .coeffs .now) (loop .loop .i) taken, c .before .before .put .kept .0),
       omega (arith, height-left (a .coeffs .now) (loop .loop .i) taken),

@@ -18,11 +18,21 @@ returns-3 c = simp (lt-leb _ _ (c .before .before .if1 .left), lt-leb _ _ (c .be
 
 returns-4 : tie.Need-returns-4
 unfolding leastOf top
-returns-4 c = simp (lt-leb _ _ (c .before .before .before .if1 .left), lt-leb _ _ (c .before .before .if2 .left), lt-leb _ _ (c .before .if3 .left), le-leb _ _ (c .if4 .taken))
+returns-4 c = simp (
+  lt-leb _ _ (c .before .before .before .if1 .left),
+  lt-leb _ _ (c .before .before .if2 .left),
+  lt-leb _ _ (c .before .if3 .left),
+  le-leb _ _ (c .if4 .taken),
+)
 
 returns-5 : tie.Need-returns-5
 unfolding leastOf top
-returns-5 c = simp (lt-leb _ _ (c .before .before .before .if1 .left), lt-leb _ _ (c .before .before .if2 .left), lt-leb _ _ (c .before .if3 .left), lt-leb _ _ (c .if4 .left))
+returns-5 c = simp (
+  lt-leb _ _ (c .before .before .before .if1 .left),
+  lt-leb _ _ (c .before .before .if2 .left),
+  lt-leb _ _ (c .before .if3 .left),
+  lt-leb _ _ (c .if4 .left),
+)
 
 pub least-width-spec : {M : Type 1} → statement M
 least-width-spec = tie.close (tie.spec returns returns-2 returns-3 returns-4 returns-5)

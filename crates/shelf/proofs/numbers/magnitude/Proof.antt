@@ -20,8 +20,11 @@ cast-result-2 c = casts (plain (c .before .args .x) (c .before .fits .x) (c .if1
 
 returns : tie.Need-returns
 returns c =
-    omega
-    (arith, ap natAbs (turned (c .before .args .x) (c .before .fits .x) (c .if1 .taken)), natAbs-below (c .before .args .x) (c .before .fits .x) (c .if1 .taken))
+    omega (
+      arith,
+      ap natAbs (turned (c .before .args .x) (c .before .fits .x) (c .if1 .taken)),
+      natAbs-below (c .before .args .x) (c .before .fits .x) (c .if1 .taken),
+    )
 
 returns-2 : tie.Need-returns-2
 returns-2 c = search needs

@@ -40,13 +40,19 @@ returns c =
     let start = c .before .before in
     let x = start .args .x in
     let fit = start .fits .x in
-    omega
-    (arith, ap natAbs (turned x fit (c .if1 .taken)), natAbs-below x fit (c .if1 .taken), twos-below x fit (c .if1 .taken) (start .args .w), full (start .args .w) (start .pre .0))
+    omega (
+      arith,
+      ap natAbs (turned x fit (c .if1 .taken)),
+      natAbs-below x fit (c .if1 .taken),
+      twos-below x fit (c .if1 .taken) (start .args .w),
+      full (start .args .w) (start .pre .0),
+    )
 
 returns-2 : tie.Need-returns-2
 returns-2 c =
     let start = c .before .before in
-    ap natAbs (plain (start .args .x) (start .fits .x) (c .if1 .left)) ∙ sym (twos-above (start .args .x) (start .fits .x) (c .if1 .left) (start .args .w))
+    ap natAbs (plain (start .args .x) (start .fits .x) (c .if1 .left)) ∙ sym
+    (twos-above (start .args .x) (start .fits .x) (c .if1 .left) (start .args .w))
 
 pub twos-of-spec : {M : Type 1} → statement M
 twos-of-spec =

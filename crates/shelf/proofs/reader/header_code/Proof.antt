@@ -56,7 +56,8 @@ returns-3 : tie.Need-returns-3
 unfolding kindIn
 returns-3 c =
     let e = c .before .before .before in
-    sym (header-kind _ (long e) (mark-ok e) (sym (c .before .is-kind .ensures ∙ ap isKind (c .before .before .field .ensures)) ∙ not-true _ (c .if3 .taken)))
+    sym (header-kind _ (long e) (mark-ok e) (sym (c .before .is-kind .ensures ∙ ap isKind (c .before .before .field .ensures))
+    ∙ not-true _ (c .if3 .taken)))
 
 field-requires-2 : tie.Need-field-requires-2
 field-requires-2 c κs = search needs
@@ -69,7 +70,8 @@ unfolding widthIn
 returns-4 c =
     let k = c .before .before .before in
     let e = k .before .before .before in
-    sym (header-width _ (long e) (mark-ok e) (kind-ok k) (sym (c .before .is-width .ensures ∙ ap (oneOf widths) (c .before .before .field2 .ensures)) ∙ not-true _ (c .if4 .taken)))
+    sym (header-width _ (long e) (mark-ok e) (kind-ok k) (sym (c .before .is-width .ensures ∙ ap (oneOf widths) (c .before .before .field2 .ensures))
+    ∙ not-true _ (c .if4 .taken)))
 
 index-in-requires : tie.Need-index-in-requires
 index-in-requires c κs = search needs

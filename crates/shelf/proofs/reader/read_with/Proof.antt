@@ -64,7 +64,8 @@ returns : tie.Need-returns
 unfolding readTells
 returns c =
     let start = c .before .before .before .before .before in
-    let p = count-wrong (start .args .degree) (start .args .bytes .now) (start .args .coeffs .now) (start .pre .0) (λ m. c .before .if1 .taken (c .before .before .count-in .ensures ∙ m)) in
+    let p = count-wrong (start .args .degree) (start .args .bytes .now) (start .args .coeffs .now) (start .pre .0)
+    (λ m. c .before .if1 .taken (c .before .before .count-in .ensures ∙ m)) in
     (c .refused .ensures ∙ p .0, p .1)
 
 mul-size : tie.Need-mul-size
@@ -92,7 +93,8 @@ unfolding readTells
 returns-3 c =
     let e = c .before .before .before in
     let start = from e in
-    let p = no-room (start .args .degree) (bytes e) (start .args .coeffs .now) (start .pre .0) (count-ok e) (omega (arith, whole e)) (omega (arith, e .before .count-in .ensures)) in
+    let p = no-room (start .args .degree) (bytes e) (start .args .coeffs .now) (start .pre .0) (count-ok e) (omega (arith, whole e))
+    (omega (arith, e .before .count-in .ensures)) in
     (c .refused3 .ensures ∙ p .0, p .1)
 
 height-in-requires : tie.Need-height-in-requires
@@ -113,7 +115,8 @@ returns-4 c =
     let e = look .before .before .before .before in
     let start = from e in
     let wrong = width-wrong (start .args .degree) (bytes e) (start .args .coeffs .now) (start .pre .0) (count-ok e) in
-    let p = wrong (omega (arith, whole e)) (omega (arith, e .before .count-in .ensures)) (λ same. c .before .if4 .taken (seen look ∙ same ∙ sym (width-is e))) in
+    let p = wrong (omega (arith, whole e)) (omega (arith, e .before .count-in .ensures))
+    (λ same. c .before .if4 .taken (seen look ∙ same ∙ sym (width-is e))) in
     (c .refused4 .ensures ∙ p .0, p .1)
 
 fill-requires : tie.Need-fill-requires
@@ -139,7 +142,8 @@ returns-5 c =
     let start = from e in
     let right = filled (start .args .degree) (bytes e) (start .args .coeffs .now) (start .pre .0) (count-ok e) in
     let p = right (omega (arith, whole e)) (omega (arith, e .before .count-in .ensures)) (sym (seen look) ∙ test .if4 .left ∙ width-is e) in
-    let left = filled-in (bytes e) _ _ (width-is e) (e .before .count-in .ensures) (start .args .coeffs .now) _ (omega arith) (c .before .before .before .fill .ensures) in
+    let left = filled-in (bytes e) _ _ (width-is e) (e .before .count-in .ensures) (start .args .coeffs .now) _ (omega arith)
+    (c .before .before .before .fill .ensures) in
     (rw (whole e, c .before .field2 .ensures, c .index-in .ensures .0) (p .0), left ∙ p .1)
 
 pub read-with-spec : {M : Type 1} → statement M

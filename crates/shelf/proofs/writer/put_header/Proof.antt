@@ -35,7 +35,8 @@ same-length c =
 returns : tie.Need-returns
 returns c =
     let a = c .before .before .before .before .before .before .before .before .before .args in
-    header-stored (a .bytes .now) _ _ (a .kind) (a .w) (a .n) (a .count) (c .before .before .before .before .before .before .put .ensures) (c .before .before .put2 .ensures)
+    header-stored (a .bytes .now) _ _ (a .kind) (a .w) (a .n) (a .count) (c .before .before .before .before .before .before .put .ensures)
+    (c .before .before .put2 .ensures)
 
 pub put-header-spec : {M : Type 1} → statement M
 put-header-spec =

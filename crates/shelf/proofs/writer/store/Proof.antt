@@ -33,7 +33,8 @@ same-length c = search needs
 returns : tie.Need-returns
 returns c =
     let start = c .before .before .before .before .before .before .before .before .before in
-    record-made (start .args .kind) (start .args .n) (start .args .w) (start .args .coeffs .now) (start .args .bytes .now) _ _ (start .pre .1) (start .pre .3) (c .before .before .before .before .before .before .put-header .ensures) (c .before .before .put-body .ensures)
+    record-made (start .args .kind) (start .args .n) (start .args .w) (start .args .coeffs .now) (start .args .bytes .now) _ _ (start .pre .1)
+    (start .pre .3) (c .before .before .before .before .before .before .put-header .ensures) (c .before .before .put-body .ensures)
 
 pub store-spec : {M : Type 1} → statement M
 store-spec =

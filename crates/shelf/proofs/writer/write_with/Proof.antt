@@ -113,7 +113,8 @@ returns-7 c =
     let counted = over .before .before .before in
     let e = counted .before in
     let a = from5 over .args in
-    let p = stored (a .degree) (a .kind) (a .n) (a .coeffs .now) (a .bytes .now) (kind-ok (e .before .before)) (index-ok e) (counted .if4 .left) (fit over .within) (omega (arith, whole over)) in
+    let p = stored (a .degree) (a .kind) (a .n) (a .coeffs .now) (a .bytes .now) (kind-ok (e .before .before)) (index-ok e) (counted .if4 .left)
+    (fit over .within) (omega (arith, whole over)) in
     (rw (whole over) (p .0), c .before .before .store .ensures ∙ p .1)
 
 pub write-with-spec : {M : Type 1} → statement M
