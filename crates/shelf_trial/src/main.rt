@@ -168,14 +168,19 @@ fn damage_all(bytes: &mut [u8], room: usize, v: u8) {
     }
 }
 
+// The bytes to lend.
+fn lent() -> [u8; 180] {
+    [170u8; 180]
+}
+
 // Coefficients written in `room` bytes, read back into one entry more, and rewritten where they read well.
 fn run_case(kind: u64, n: u64, p: u64, count: usize, room: usize)
     requires { ⌜ count ≤ 19 ⌝ }
 {
     let mut coeffs = [0i64; 20];
-    let mut bytes = [170u8; 180];
+    let mut bytes = lent();
     let mut entries = [77i64; 20];
-    let mut again = [170u8; 180];
+    let mut again = lent();
     set_values(&mut coeffs, count, p);
     write_part(kind, n, &coeffs, count, &mut bytes, room);
     let told = read_part(&bytes, room, &mut entries, count + 1);
