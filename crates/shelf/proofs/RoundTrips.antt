@@ -13,7 +13,7 @@ use Rattle.definitions.specs.Codes.{DONE}
 use Rattle.definitions.specs.Polynomials.{degree}
 use Rattle.shelf.specs.declared.Written.{Written}
 use Rattle.shelf.specs.declared.Record.{Record}
-use Rattle.shelf.specs.Format.{recordOf, size, writeCode, writeTells, writeAnswer, writeLeaves, degreeIn, kindIn, indexIn, countIn, coefficientsIn, sizeIn, readCode, readTells, readAnswer, readLeaves}
+use Rattle.shelf.specs.Format.{recordOf, size, writeCode, writeTells, writeAnswer, writeLeaves, degreeIn, countIn, coefficientsIn, sizeIn, readCode, readTells, readAnswer, readLeaves}
 use Rattle.shelf.proofs.Writing.{length-record}
 use Rattle.shelf.proofs.Reading.{length-all}
 use Rattle.shelf.proofs.Digits.{bytes-each}
@@ -51,10 +51,6 @@ module _ (kind n : ℕ) (cs : List ℤ) (b : List ℕ) (out : List ℤ) where
 
 -- Read well, then rewritten with all that was read, in a buffer with enough bytes.
 module _ (bs : List ℕ) (out : List ℤ) (done : did-read bs out .code ≡ DONE) where
-  read-well : did-read bs out ≡ record { code = DONE; degree = degreeIn bs; used = sizeIn bs; kind = kindIn bs; n = indexIn bs }
-  unfolding readAnswer readTells
-  read-well = rw done
-
   pub read-write : ((i : ℕ) → getD bs i 0 < 256) → (b : List ℕ) → did-read bs out .used ≤ length b →
       let r = did-read bs out in let cs = take (r .degree + 1) (left-by-read bs out) in
       (wrote (r .kind) (r .n) cs b ≡ record { code = DONE; degree = r .degree; used = r .used })
