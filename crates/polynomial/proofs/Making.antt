@@ -55,7 +55,7 @@ module _ (kind n : ℕ) (a : Apart) (l : List ℤ) (R : Ready kind n a l) (above
           code = sym (ap (λ b. cond b OVER (cond (ltZ lim (pos (height kind n))) TALL DONE)) (sym (made .ran .over) ∙ o));
           leaves = e ∙ ap zeros (rest-length ∙ R .room ∙ add-one (degree kind n));
           additions = λ q. absurd (never q);
-          height = λ q. absurd (never q)
+          height = λ q. absurd (never q);
         }
       where
         never : OVER ≡ DONE → ⊥
@@ -73,7 +73,7 @@ module _ (kind n : ℕ) (a : Apart) (l : List ℤ) (R : Ready kind n a l) (above
             squarefree = r-odd-squarefree n;
             above = above;
             half = λ i b. List·getD-append m (drop (d + 1) l) 0ℤ i (omega (arith, m-length)) ∙ front-entry (halfDegree kind (rOf n) + 1) (polynomial kind (rOf n)) m m-is i b;
-            inside = λ i b. rw (sym (front-entry (halfDegree kind (rOf n) + 1) (polynomial kind (rOf n)) m m-is i b)) (made .ran .inside o i)
+            inside = λ i b. rw (sym (front-entry (halfDegree kind (rOf n) + 1) (polynomial kind (rOf n)) m m-is i b)) (made .ran .inside o i);
           }
 
       pub height-is : (x : ℕ) → x ≡ heightOf (take (d + 1) (m ++ drop (d + 1) l)) → x ≡ height kind n
@@ -87,7 +87,7 @@ module _ (kind n : ℕ) (a : Apart) (l : List ℤ) (R : Ready kind n a l) (above
             code = sym (ap₂ (λ b c. cond b OVER (cond c TALL DONE)) (sym (made .ran .over) ∙ o) t);
             leaves = e ∙ ap zeros (rest-length ∙ R .room ∙ add-one (degree kind n));
             additions = λ q. absurd (never q);
-            height = λ q. absurd (never q)
+            height = λ q. absurd (never q);
           }
         where
           never : TALL ≡ DONE → ⊥
@@ -102,5 +102,5 @@ module _ (kind n : ℕ) (a : Apart) (l : List ℤ) (R : Ready kind n a l) (above
             code = sym (ap₂ (λ b c. cond b OVER (cond c TALL DONE)) (sym (made .ran .over) ∙ o) t);
             leaves = e;
             additions = λ z. made .ran .additions o ∙ additions-all kind (rOf n);
-            height = λ z. q
+            height = λ z. q;
           }

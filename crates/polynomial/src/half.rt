@@ -13,7 +13,7 @@ ghost use Rattle.definitions.specs.Steps.{comb, accumulate, entries, largest};
 ghost use Rattle.definitions.specs.KeptHalf.{halfDegree, start, keptHalf};
 ghost use Rattle.definitions.specs.Requests.{divisorsDue};
 ghost use Rattle.step_laws.specs.Bound.{Bounded};
-ghost use Rattle.steps.specs.Sorts.{sortMeans};
+ghost use Rattle.passes.specs.Sorts.{sortMeans};
 ghost use Rattle.polynomial.specs.Halves.{Advanced, Turned, Ran, Standing, Fresh, Made};
 ghost use Rattle.polynomial.specs.Walks.{walkAt};
 

@@ -1,6 +1,6 @@
 -- `advance` meets its contract: what the step tells (Advancing).
 use borrow.Author.Needs.{needs}
-use Rattle.steps.specs.Sorts.{sortMeans}
+use Rattle.passes.specs.Sorts.{sortMeans}
 use Rattle.polynomial.proofs.Advancing.{advanced}
 use Rattle.polynomial.proofs.half.advance.Statement.{statement}
 use Rattle.polynomial.proofs.half.advance.Tie as tie
