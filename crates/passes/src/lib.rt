@@ -1,4 +1,4 @@
-// Inner: nothing here is offered to callers; each `requires` is shown by the callers `steps` and `polynomial`.
+// Inner: nothing here but `Sort` is offered to callers; each `requires` is shown by the callers `steps` and `polynomial`.
 // The passes of a step over a slice: the tested ones, whole or not at all, and the untested ones.
 
 mod pass;
