@@ -11,3 +11,4 @@ pub mod Growing
 pub mod Even
 pub mod Laying
 pub mod Making
+pub mod Limits
