@@ -12,3 +12,4 @@ pub mod Even
 pub mod Laying
 pub mod Making
 pub mod Limits
+pub mod Answering

@@ -55,7 +55,7 @@ module _ (kind n : ℕ) (a : Apart) (l : List ℤ) (R : Ready kind n a l) (above
           code = sym (ap (λ b. cond b OVER (cond (ltZ lim (pos (height kind n))) TALL DONE)) (sym (made .ran .over) ∙ o));
           leaves = e ∙ ap zeros (rest-length ∙ R .room ∙ add-one (degree kind n));
           additions = λ q. absurd (never q);
-          height = λ q. absurd (never q)
+          height = λ q. absurd (never q);
         }
       where
         never : OVER ≡ DONE → ⊥
@@ -73,7 +73,7 @@ module _ (kind n : ℕ) (a : Apart) (l : List ℤ) (R : Ready kind n a l) (above
             squarefree = r-odd-squarefree n;
             above = above;
             half = λ i b. List·getD-append m (drop (d + 1) l) 0ℤ i (omega (arith, m-length)) ∙ front-entry (halfDegree kind (rOf n) + 1) (polynomial kind (rOf n)) m m-is i b;
-            inside = λ i b. rw (sym (front-entry (halfDegree kind (rOf n) + 1) (polynomial kind (rOf n)) m m-is i b)) (made .ran .inside o i)
+            inside = λ i b. rw (sym (front-entry (halfDegree kind (rOf n) + 1) (polynomial kind (rOf n)) m m-is i b)) (made .ran .inside o i);
           }
 
       pub height-is : (x : ℕ) → x ≡ heightOf (take (d + 1) (m ++ drop (d + 1) l)) → x ≡ height kind n
@@ -87,7 +87,7 @@ module _ (kind n : ℕ) (a : Apart) (l : List ℤ) (R : Ready kind n a l) (above
             code = sym (ap₂ (λ b c. cond b OVER (cond c TALL DONE)) (sym (made .ran .over) ∙ o) t);
             leaves = e ∙ ap zeros (rest-length ∙ R .room ∙ add-one (degree kind n));
             additions = λ q. absurd (never q);
-            height = λ q. absurd (never q)
+            height = λ q. absurd (never q);
           }
         where
           never : TALL ≡ DONE → ⊥
@@ -102,7 +102,7 @@ module _ (kind n : ℕ) (a : Apart) (l : List ℤ) (R : Ready kind n a l) (above
             code = sym (ap₂ (λ b c. cond b OVER (cond c TALL DONE)) (sym (made .ran .over) ∙ o) t);
             leaves = e;
             additions = λ z. made .ran .additions o ∙ additions-all kind (rOf n);
-            height = λ z. q
+            height = λ z. q;
           }
 
 -- ---- r = 1: no step is taken, and the height is 1
@@ -115,5 +115,5 @@ laid-one kind n h x l o t e =
       code = sym (ap₂ (λ r y. cond (overAmong largest kind r (divisorsDue r)) OVER (cond (ltZ h (pos y)) TALL DONE)) o (height-one kind n l o) ∙ ap (λ b. cond b TALL DONE) t);
       leaves = e;
       additions = λ z. sym (ap (additions kind) o);
-      height = λ z. sym (height-one kind n l o)
+      height = λ z. sym (height-one kind n l o);
     }

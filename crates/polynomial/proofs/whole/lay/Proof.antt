@@ -11,7 +11,7 @@ use Rattle.polynomial.proofs.whole.lay.Statement.{statement}
 use Rattle.polynomial.proofs.whole.lay.Tie as tie
 
 finish-one-requires : tie.Need-finish-one-requires
-finish-one-requires c κs = 
+finish-one-requires c κs =
     let p = c .before .before .before in
     (p .pre .0, sym (r-is (p .args .kind) (p .args .n) (p .args .a) (p .args .b .now) (p .pre .0)) ∙ c .before .if1 .taken)
 
@@ -19,13 +19,13 @@ same-length : tie.Need-same-length
 same-length c = search needs
 
 returns : tie.Need-returns
-returns c = 
+returns c =
     let p = c .before .before .before .before .before in
     laid-one (p .args .kind) (p .args .n) (p .args .h) _ (above-zero (p .args .kind) (p .args .n) (p .args .a) (p .args .b .now) (p .pre .0))
     (sym (r-is (p .args .kind) (p .args .n) (p .args .a) (p .args .b .now) (p .pre .0)) ∙ c .before .before .before .if1 .taken) (p .pre .1) (c .before .finish-one .ensures)
 
 lay-more-requires : tie.Need-lay-more-requires
-lay-more-requires c κs = 
+lay-more-requires c κs =
     let p = c .before .before .before in
     (p .pre .0, λ e. c .before .if1 .left (r-is (p .args .kind) (p .args .n) (p .args .a) (p .args .b .now) (p .pre .0) ∙ e), rw (read-back (p .args .h) (p .fits .h .sfits)) (p .pre .1))
 
@@ -33,7 +33,7 @@ same-length-2 : tie.Need-same-length-2
 same-length-2 c = search needs
 
 returns-2 : tie.Need-returns-2
-returns-2 c = 
+returns-2 c =
     let p = c .before .before .before .before .before in
     rw (read-back (p .args .h) (p .fits .h .sfits)) at (c .before .lay-more .ensures)
 

@@ -17,7 +17,7 @@ half-of-requires : tie.Need-half-of-requires
 half-of-requires c κs = apart-free (c .args .n) (c .pre .0 .good) (c .args .a) (c .pre .0 .apart)
 
 add-part : tie.Need-add-part
-add-part c = 
+add-part c =
     let p = c .before in
     let d = c .half-of .ensures ∙ ap (halfDegree (p .args .kind)) (apart-r (p .args .n) (p .pre .0 .good) (p .args .a) (p .pre .0 .apart)) in
     let room = half-room (p .args .kind) (p .args .n) (p .args .a) (p .args .b .now) (p .pre .0) (p .pre .1) _ d in
@@ -27,21 +27,21 @@ over-requires : tie.Need-over-requires
 over-requires c κs = let p = c .before in apart-count (p .args .n) (p .pre .0 .good) (p .args .a) (p .pre .0 .apart)
 
 slice-relend-prefix-make : tie.Need-slice-relend-prefix-make
-slice-relend-prefix-make c = 
+slice-relend-prefix-make c =
     let o = c in
     let p = o .before .before in
     let d = o .before .half-of .ensures ∙ ap (halfDegree (p .args .kind)) (apart-r (p .args .n) (p .pre .0 .good) (p .args .a) (p .pre .0 .apart)) in
     half-room (p .args .kind) (p .args .n) (p .args .a) (p .args .b .now) (p .pre .0) (p .pre .1) _ d
 
 slice-aggregate-make : tie.Need-slice-aggregate-make
-slice-aggregate-make c = 
+slice-aggregate-make c =
     let o = c .before in
     let p = o .before .before in
     let d = o .before .half-of .ensures ∙ ap (halfDegree (p .args .kind)) (apart-r (p .args .n) (p .pre .0 .good) (p .args .a) (p .pre .0 .apart)) in
     sym (length-take-le _ (p .args .b .now) (half-room (p .args .kind) (p .args .n) (p .args .a) (p .args .b .now) (p .pre .0) (p .pre .1) _ d))
 
 make-requires : tie.Need-make-requires
-make-requires c κs = 
+make-requires c κs =
     let o = c .before in
     let p = o .before .before in
     let d = o .before .half-of .ensures ∙ ap (halfDegree (p .args .kind)) (apart-r (p .args .n) (p .pre .0 .good) (p .args .a) (p .pre .0 .apart)) in
@@ -56,14 +56,14 @@ same-length : tie.Need-same-length
 same-length c = search needs
 
 returns : tie.Need-returns
-returns c = 
+returns c =
     let o = c .before .before .before .before .before .before .before in
     let p = o .before .before in
     let d = o .before .half-of .ensures ∙ ap (halfDegree (p .args .kind)) (apart-r (p .args .n) (p .pre .0 .good) (p .args .a) (p .pre .0 .apart)) in
     laid-over (p .args .kind) (p .args .n) (p .args .a) (p .args .b .now) (p .pre .0) (p .pre .1) _ d _ _ (made-here (p .args .n) (p .pre .0 .good) (p .args .a) (p .pre .0 .apart) (o .over .result) (o .over .ensures) (p .args .kind) _ _ (c .before .before .before .before .before .make .ensures)) _ _ (c .before .before .before .if1 .taken) (c .before .clear .ensures)
 
 slice-reshare-prefix-height : tie.Need-slice-reshare-prefix-height
-slice-reshare-prefix-height c = 
+slice-reshare-prefix-height c =
     let o = c .before .before .before .before in
     let p = o .before .before in
     let d = o .before .half-of .ensures ∙ ap (halfDegree (p .args .kind)) (apart-r (p .args .n) (p .pre .0 .good) (p .args .a) (p .pre .0 .apart)) in
@@ -71,7 +71,7 @@ slice-reshare-prefix-height c =
     omega (arith, n, half-room (p .args .kind) (p .args .n) (p .args .a) (p .args .b .now) (p .pre .0) (p .pre .1) _ d)
 
 slice-aggregate-height : tie.Need-slice-aggregate-height
-slice-aggregate-height c = 
+slice-aggregate-height c =
     let o = c .before .before .before .before .before in
     let p = o .before .before in
     let d = o .before .half-of .ensures ∙ ap (halfDegree (p .args .kind)) (apart-r (p .args .n) (p .pre .0 .good) (p .args .a) (p .pre .0 .apart)) in
@@ -91,7 +91,7 @@ same-length-2 : tie.Need-same-length-2
 same-length-2 c = search needs
 
 returns-2 : tie.Need-returns-2
-returns-2 c = 
+returns-2 c =
     let o = c .before .before .before .before .before .before .before .before .before .before .before in
     let p = o .before .before in
     let d = o .before .half-of .ensures ∙ ap (halfDegree (p .args .kind)) (apart-r (p .args .n) (p .pre .0 .good) (p .args .a) (p .pre .0 .apart)) in
@@ -100,7 +100,7 @@ returns-2 c =
     laid-tall (p .args .kind) (p .args .n) (p .args .a) (p .args .b .now) (p .pre .0) (p .pre .1) _ d _ _ (made-here (p .args .n) (p .pre .0 .good) (p .args .a) (p .pre .0 .apart) (o .over .result) (o .over .ensures) (p .args .kind) _ _ (c .before .before .before .before .before .before .before .before .before .make .ensures)) (c .before .before .before .before .before .before .before .if1 .left) (p .args .h) _ told (c .before .clear2 .ensures)
 
 finish-requires : tie.Need-finish-requires
-finish-requires c κs = 
+finish-requires c κs =
     let o = c .before .before .before .before .before .before .before .before .before in
     let p = o .before .before in
     let d = o .before .half-of .ensures ∙ ap (halfDegree (p .args .kind)) (apart-r (p .args .n) (p .pre .0 .good) (p .args .a) (p .pre .0 .apart)) in
@@ -110,7 +110,7 @@ same-length-3 : tie.Need-same-length-3
 same-length-3 c = search needs
 
 returns-3 : tie.Need-returns-3
-returns-3 c = 
+returns-3 c =
     let o = c .before .before .before .before .before .before .before .before .before .before .before in
     let p = o .before .before in
     let d = o .before .half-of .ensures ∙ ap (halfDegree (p .args .kind)) (apart-r (p .args .n) (p .pre .0 .good) (p .args .a) (p .pre .0 .apart)) in
