@@ -13,3 +13,5 @@ pub mod Laying
 pub mod Making
 pub mod Limits
 pub mod Answering
+pub mod OneOutcome
+pub mod Between
