@@ -12,3 +12,7 @@ pub mod Growing
 pub mod Even
 pub mod Laying
 pub mod Making
+pub mod Limits
+pub mod Answering
+pub mod OneOutcome
+pub mod Between
