@@ -1,8 +1,10 @@
 // The magnitude of a number and the height of a slice: the largest magnitude among its entries, 0 for an empty one. Nothing is
 // asked beforehand: -2^63, whose magnitude is no i64, is measured too.
 ghost use mathlib.Core.Path.{_≡_};
-ghost use Prim.Native.Nat.{max};
+ghost use Prim.Native.Nat.{_≤_, _<_, max};
+ghost use lib.ListN.{length, getD, drop};
 ghost use lib.IntN.{natAbs};
+ghost use Rattle.definitions.specs.Integers.{0ℤ};
 ghost use Rattle.definitions.specs.Answer.{heightOf};
 
 // Below 0, -(m + 1) with all bits turned round is m.
@@ -12,21 +14,33 @@ pub fn magnitude(x: i64) -> u64
     if x < 0 { (!x as u64) + 1 } else { x as u64 }
 }
 
-pub fn larger(a: u64, b: u64) -> u64
-    ensures { λ r. ⌜ r ≡ max a b ⌝ }
+// The first place from `from` on with a magnitude above h, or the end. A loop that can stop is not made one of vectors, in which this
+// processor's plain instructions compare 64-bit numbers slowly.
+fn above(coeffs: &[i64], from: usize, h: u64) -> usize
+    requires { ⌜ from ≤ length (now coeffs) ⌝ }
+    ensures { λ r. ⌜ (from ≤ r) × (r ≤ length (now (coeffs .entry))) ⌝ }
+    ensures { λ r. ⌜ max h (heightOf (drop r (now (coeffs .entry)))) ≡ max h (heightOf (drop from (now (coeffs .entry)))) ⌝ }
+    ensures { λ r. ⌜ (r < length (now (coeffs .entry)) → h < natAbs (getD (now (coeffs .entry)) r 0ℤ)) ⌝ }
 {
-    if a < b { b } else { a }
+    let mut i = from;
+    while i < coeffs.len() {
+        if h < magnitude(coeffs[i]) {
+            return i;
+        }
+        i += 1;
+    }
+    i
 }
 
-// Both calls are inlined, and the loop is a reduction without a branch.
+// From one larger magnitude to the next.
 pub fn height(coeffs: &[i64]) -> u64
     ensures { λ r. ⌜ r ≡ heightOf (now (coeffs .entry)) ⌝ }
 {
     let mut h: u64 = 0;
-    let mut i = 0;
+    let mut i = above(coeffs, 0, h);
     while i < coeffs.len() {
-        h = larger(h, magnitude(coeffs[i]));
-        i += 1;
+        h = magnitude(coeffs[i]);
+        i = above(coeffs, i + 1, h);
     }
     h
 }

@@ -1,24 +1,28 @@
--- `height`: the largest so far and what is left give the height of all (Looks).
-use Prim.Native.Nat.{_≤_, _-_, max}
+-- `height`: the largest so far and what is left give the height of all, and what comes next is larger (Looks).
+use Prim.Native.Nat.{_+_, _≤_, _<_, _-_, max}
 use mathlib.Core.Path.{_≡_, ap, _∙_}
 use native.Mathlib.Omega.{arith}
 use borrow.Author.Needs.{needs}
 use lib.ListN.{length, getD, drop, drop-of-length-le}
-use lib.IntN.{pos}
+use lib.IntN.{pos, natAbs}
 use Rattle.definitions.specs.Answer.{heightOf}
-use Rattle.heights.proofs.Looks.{height-turn}
+use Rattle.heights.proofs.Looks.{height-found}
 use Rattle.heights.proofs.Signs.{passed}
 use Rattle.heights.proofs.height.Statement.{statement}
 use Rattle.heights.proofs.height.Tie as tie
 
 abbrev Inv-loop : tie.InvT-loop
-Inv-loop coeffs h₀ i₀ h i = (max h (heightOf (drop i coeffs)) ≡ heightOf coeffs) × (i ≤ length coeffs)
+Inv-loop coeffs h₀ i₀ h i =
+    (max h (heightOf (drop i coeffs)) ≡ heightOf coeffs) × (i ≤ length coeffs) × (i < length coeffs → h < natAbs (getD coeffs i (pos 0)))
 
 abbrev μ-loop : tie.MeasureT-loop
 μ-loop coeffs h₀ i₀ h i = length coeffs - i
 
+above-requires : tie.Need-above-requires Inv-loop μ-loop
+above-requires c κs = omega arith
+
 loop-holds : tie.Need-loop-holds Inv-loop μ-loop
-loop-holds c = (omega arith, omega arith)
+loop-holds c = let f = c .above .ensures in (f .1 .0 ∙ omega arith, f .0 .1, f .1 .1)
 
 mul-magnitude : tie.Need-mul-magnitude Inv-loop μ-loop
 mul-magnitude c = omega arith
@@ -29,26 +33,34 @@ shared-slice-copy-out-magnitude c = omega arith
 magnitude-requires : tie.Need-magnitude-requires Inv-loop μ-loop
 magnitude-requires c κs = search needs
 
-larger-requires : tie.Need-larger-requires Inv-loop μ-loop
-larger-requires c κs = search needs
+add-above : tie.Need-add-above Inv-loop μ-loop
+add-above c = omega arith
 
-add-i : tie.Need-add-i Inv-loop μ-loop
-add-i c = omega arith
+above-requires-2 : tie.Need-above-requires-2 Inv-loop μ-loop
+above-requires-2 c κs = omega arith
 
 loop-less : tie.Need-loop-less Inv-loop μ-loop
 loop-less c = omega arith
 
 loop-again : tie.Need-loop-again Inv-loop μ-loop
 loop-again c =
-    let loop = c .before .before .before .before in
-    let x = getD (loop .before .args .coeffs .now) (loop .loop .i) (pos 0) in
-    (rw (c .larger .ensures, c .before .magnitude .ensures, passed x (c .before .before .magnitude-arg .given)) (height-turn _ _ _ (c .before .before .before .loop-test .taken) ∙ loop .loop .inv .0), omega arith)
+    let at = c .before .before .before .before in
+    let cs = at .before .before .args .coeffs .now in
+    let i = at .loop .i in
+    let more = c .before .before .before .loop-test .taken in
+    let seen : c .before .magnitude .result ≡ natAbs (getD cs i (pos 0)) =
+    c .before .magnitude .ensures ∙ ap natAbs (passed (getD cs i (pos 0)) (c .before .before .magnitude-arg .given)) in
+    let f = c .above2 .ensures in (
+      f .1 .0 ∙ ap (λ m. max m (heightOf (drop (i + 1) cs))) seen ∙ height-found cs i (at .loop .h) more (at .loop .inv .2 more) ∙ at .loop .inv .0,
+      f .0 .1,
+      f .1 .1,
+    )
 
 returns : tie.Need-returns Inv-loop μ-loop
 unfolding heightOf
 returns c =
-    let cs = c .before .before .args .coeffs .now in
-    omega (arith, ap heightOf (drop-of-length-le cs (c .loop-test .left)))
+    let cs = c .before .before .before .args .coeffs .now in
+    omega (arith, c .before .loop .inv .0, ap heightOf (drop-of-length-le cs (c .loop-test .left)))
 
 pub height-spec : {M : Type 1} → statement M
 height-spec =
@@ -56,12 +68,13 @@ height-spec =
     (tie.spec
     Inv-loop
     μ-loop
+    above-requires
     loop-holds
     mul-magnitude
     shared-slice-copy-out-magnitude
     magnitude-requires
-    larger-requires
-    add-i
+    add-above
+    above-requires-2
     loop-less
     loop-again
     returns)
