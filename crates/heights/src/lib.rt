@@ -14,6 +14,12 @@ pub fn magnitude(x: i64) -> u64
     if x < 0 { (!x as u64) + 1 } else { x as u64 }
 }
 
+pub fn larger(a: u64, b: u64) -> u64
+    ensures { λ r. ⌜ r ≡ max a b ⌝ }
+{
+    if a < b { b } else { a }
+}
+
 // The first place from `from` on with a magnitude above h, or the end. A loop that can stop is not made one of vectors, in which this
 // processor's plain instructions compare 64-bit numbers slowly.
 fn above(coeffs: &[i64], from: usize, h: u64) -> usize
