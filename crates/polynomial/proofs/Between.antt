@@ -89,7 +89,7 @@ kept-step : (kind r j : ℕ) → j < divisorsDue r → Bounded largest (entries 
 unfolding overAt divisorsDue
 kept-step kind r j h b o k =
     subst (λ l. natAbs (entries l k) ≤ largest) (step-kept kind r j h (divisor-in r j h .0))
-    (stays-inside (sortOf kind r (nextDivisor r j)) (nextDivisor r j) largest (keptHalf kind r j) b (NatL.le-refl largest) o k)
+    (stays-inside (sortOf kind r (nextDivisor r j)) (nextDivisor r j) (keptHalf kind r j) b o k)
 
 kept-inside : (kind r j : ℕ) → j ≤ divisorsDue r → overAmong largest kind r j ≡ false → Bounded largest (entries (keptHalf kind r j))
 unfolding overAmong
