@@ -9,6 +9,7 @@ ghost use lib.ListN.{length};
 ghost use Rattle.definitions.specs.Polynomials.{degree};
 ghost use Rattle.definitions.specs.Steps.{comb, accumulate, largest, stepCode, stepCount, stepLeaves};
 ghost use Rattle.answers.specs.Partial as Partial;
+ghost use Rattle.steps.specs.Sorts.{sortMeans};
 ghost use Rattle.shelf.specs.Format.{degreeIn, writeAnswer, writeLeaves, readAnswer, readLeaves};
 ghost use Rattle.bonvedrick.specs.Same.{sameStop, sameWritten, sameRecord};
 
@@ -55,6 +56,16 @@ pub extern "C" fn bv_partial(kind: u64, n: u64, j: u64, buf: &mut [i64]) -> BvSt
     same::stop(polynomial::partial(kind, n, j, buf))
 }
 
+// A step of either sort on its own.
+fn step_of(sort: Sort, size: u64, buf: &mut [i64]) -> BvStep
+    ensures code { λ r. ⌜ r .code ≡ stepCode largest (sortMeans sort) size (now (buf .entry)) ⌝ }
+    ensures count { λ r. ⌜ r .count ≡ stepCount largest (sortMeans sort) size (now (buf .entry)) ⌝ }
+    ensures leaves { λ _. ⌜ now (buf .exit) ≡ stepLeaves largest (sortMeans sort) size (now (buf .entry)) ⌝ }
+{
+    let step = Step { sort, size };
+    same::step(step.apply(buf))
+}
+
 // A comb on its own.
 #[no_mangle]
 pub extern "C" fn bv_comb(size: u64, buf: &mut [i64]) -> BvStep
@@ -62,11 +73,7 @@ pub extern "C" fn bv_comb(size: u64, buf: &mut [i64]) -> BvStep
     ensures count { λ r. ⌜ r .count ≡ stepCount largest comb size (now (buf .entry)) ⌝ }
     ensures leaves { λ _. ⌜ now (buf .exit) ≡ stepLeaves largest comb size (now (buf .entry)) ⌝ }
 {
-    let step = Step {
-        sort: Sort::Comb,
-        size,
-    };
-    same::step(step.apply(buf))
+    step_of(Sort::Comb, size, buf)
 }
 
 // An accumulate on its own.
@@ -76,11 +83,7 @@ pub extern "C" fn bv_accumulate(size: u64, buf: &mut [i64]) -> BvStep
     ensures count { λ r. ⌜ r .count ≡ stepCount largest accumulate size (now (buf .entry)) ⌝ }
     ensures leaves { λ _. ⌜ now (buf .exit) ≡ stepLeaves largest accumulate size (now (buf .entry)) ⌝ }
 {
-    let step = Step {
-        sort: Sort::Accumulate,
-        size,
-    };
-    same::step(step.apply(buf))
+    step_of(Sort::Accumulate, size, buf)
 }
 
 // The record of some coefficients, in the bytes lent.
