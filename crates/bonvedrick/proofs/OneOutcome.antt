@@ -6,6 +6,9 @@ use borrow.Fn.Kinds.{endedOf}
 use borrow.Fn.World.{ArgsD, ResD}
 use denote.Triple.Clauses.{AtExit}
 use denote.Ref.{now}
+use Rattle.bonvedrick.proofs.bv_polynomial as polynomial
+use Rattle.bonvedrick.proofs.bv_polynomial.Kinds as polynomial-kinds
+use Rattle.bonvedrick.proofs.bv_polynomial.Reads as polynomial-reads
 use Rattle.bonvedrick.proofs.bv_partial as partial
 use Rattle.bonvedrick.proofs.bv_partial.Kinds as partial-kinds
 use Rattle.bonvedrick.proofs.bv_partial.Reads as partial-reads
@@ -21,6 +24,11 @@ use Rattle.bonvedrick.proofs.bv_comb.Reads as comb-reads
 use Rattle.bonvedrick.proofs.bv_accumulate as accumulate
 use Rattle.bonvedrick.proofs.bv_accumulate.Kinds as accumulate-kinds
 use Rattle.bonvedrick.proofs.bv_accumulate.Reads as accumulate-reads
+
+pub polynomial-one :
+    (κs : Lfts 1) (a : ArgsD polynomial.signature κs) (z z′ : ResD polynomial.signature κs) (e e′ : AtExit (endedOf 1 polynomial-kinds.ps polynomial-kinds.r) κs) →
+    polynomial-reads.Post κs a z e → polynomial-reads.Post κs a z′ e′ → (z ≡ z′) × (now (e .1 .1 .1 .0) ≡ now (e′ .1 .1 .1 .0))
+polynomial-one κs a z z′ e e′ p p′ = (p .0 ∙ sym (p′ .0), p .1 ∙ sym (p′ .1))
 
 pub partial-one :
     (κs : Lfts 1) (a : ArgsD partial.signature κs) (z z′ : ResD partial.signature κs) (e e′ : AtExit (endedOf 1 partial-kinds.ps partial-kinds.r) κs) →

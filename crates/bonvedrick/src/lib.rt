@@ -8,10 +8,21 @@ ghost use mathlib.Core.Path.{_≡_};
 ghost use lib.ListN.{length};
 ghost use Rattle.definitions.specs.Polynomials.{degree};
 ghost use Rattle.definitions.specs.Steps.{comb, accumulate, largest, stepCode, stepCount, stepLeaves};
+ghost use Rattle.answers.specs.Polynomial as Polynomial;
 ghost use Rattle.answers.specs.Partial as Partial;
 ghost use Rattle.steps.specs.Sorts.{sortMeans};
 ghost use Rattle.shelf.specs.Format.{degreeIn, writeAnswer, writeLeaves, readAnswer, readLeaves};
-ghost use Rattle.bonvedrick.specs.Same.{sameStop, sameWritten, sameRecord};
+ghost use Rattle.bonvedrick.specs.Same.{sameAnswer, sameStop, sameWritten, sameRecord};
+
+// What a polynomial request answers.
+#[repr(C)]
+pub struct BvAnswer {
+    pub code: u64,
+    pub degree: u64,
+    pub additions: u64,
+    pub height: u64,
+    pub gain: u64,
+}
 
 // What a partial request answers.
 #[repr(C)]
@@ -45,6 +56,15 @@ pub struct BvRecord {
     pub used: u64,
     pub kind: u64,
     pub n: u64,
+}
+
+// The polynomial of a kind and an index, no taller than h.
+#[no_mangle]
+pub extern "C" fn bv_polynomial(kind: u64, n: u64, h: i64, buf: &mut [i64]) -> BvAnswer
+    ensures answer { λ r. ⌜ r ≡ sameAnswer (Polynomial.answer kind n h (length (now (buf .entry)))) ⌝ }
+    ensures leaves { λ _. ⌜ now (buf .exit) ≡ Polynomial.leaves kind n h (now (buf .entry)) ⌝ }
+{
+    same::answer(polynomial::polynomial(kind, n, h, buf))
 }
 
 // The kept half for n's r after the first j divisors' steps.

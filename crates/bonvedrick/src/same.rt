@@ -1,14 +1,28 @@
 // The requests' answers in the structs that C sees: field by field, the same numbers in the same order.
+use super::BvAnswer;
 use super::BvRecord;
 use super::BvStep;
 use super::BvStop;
 use super::BvWritten;
+use answers::Answer;
 use answers::Stop;
 use shelf::Record;
 use shelf::Written;
 use steps::Stepped;
 ghost use mathlib.Core.Path.{_≡_};
-ghost use Rattle.bonvedrick.specs.Same.{sameStop, sameStep, sameWritten, sameRecord};
+ghost use Rattle.bonvedrick.specs.Same.{sameAnswer, sameStop, sameStep, sameWritten, sameRecord};
+
+pub(crate) fn answer(a: Answer) -> BvAnswer
+    ensures { λ r. ⌜ r ≡ sameAnswer a ⌝ }
+{
+    BvAnswer {
+        code: a.code,
+        degree: a.degree,
+        additions: a.additions,
+        height: a.height,
+        gain: a.gain,
+    }
+}
 
 pub(crate) fn stop(a: Stop) -> BvStop
     ensures { λ r. ⌜ r ≡ sameStop a ⌝ }
