@@ -1,4 +1,4 @@
-//! A safe wrapper: slices for pointers and lengths, an enum of the refusals, and a `Result`. Nothing here can panic or allocates.
+//! A safe wrapper: slices for pointers and lengths, an enum of the refusals, and a `Result`. Nothing here allocates.
 //! Copy this file, and link with `-l static=bonvedrick`. What each function does and refuses is told in include/bonvedrick.h.
 
 /// The C functions and their answers, as include/bonvedrick.h has them.

@@ -8,22 +8,21 @@ const RATE: u64 = 750;
 const MAINS: u64 = 50;
 const N: u64 = RATE / MAINS;
 
-/// The polynomial in a buffer as long as it needs.
-fn stage(kind: Kind, n: u64, h: i64) -> Result<Vec<i64>, Refusal> {
-    let mut buf = match polynomial(kind, n, h, &mut []) {
-        Err(Refusal::Short { degree }) => vec![0; degree + 1],
-        Err(other) => return Err(other),
-        Ok(_) => unreachable!("a polynomial has a coefficient"),
-    };
-    polynomial(kind, n, h, &mut buf)?;
-    Ok(buf)
+/// How many entries the polynomial needs: lent none, the library refuses and tells the degree.
+fn entries(kind: Kind, n: u64) -> Result<usize, Refusal> {
+    match polynomial(kind, n, i64::MAX, &mut []) {
+        Err(Refusal::Short { degree }) => Ok(degree + 1),
+        Err(other) => Err(other),
+        Ok(p) => Ok(p.coeffs.len()),
+    }
 }
 
 fn main() -> Result<(), Refusal> {
     println!("notch for {MAINS} Hz at {RATE} samples a second: F({N})");
     println!("in 8 entries: {:?}", polynomial(Kind::F, N, 1, &mut [0; 8]).map(|p| p.gain));
-    let f = stage(Kind::F, N, 1)?;
-    println!("in {} entries: {f:?}", f.len());
+    let mut room = vec![0; entries(Kind::F, N)?];
+    let f = polynomial(Kind::F, N, 1, &mut room)?;
+    println!("in {} entries: {:?}, {} additions, height {}, gain {}", f.coeffs.len(), f.coeffs, f.additions, f.height, f.gain);
 
     for j in 0.. {
         let mut half = [0; 8];
@@ -41,13 +40,13 @@ fn main() -> Result<(), Refusal> {
     println!("comb 1:       {:?}, entries now: {:?}", comb(1, &mut hum), &hum[..4]);
 
     let mut bytes = [0; 32];
-    let record = write(Kind::F, N, &f, &mut bytes)?;
+    let record = write(Kind::F, N, f.coeffs, &mut bytes)?;
     println!("record: {record:02X?}");
     let mut again = [0; 16];
     let r = read(record, &mut again)?;
-    println!("read: {:?}({}), {} bytes, the same coefficients: {}", r.kind, r.n, r.used, r.coeffs == f);
+    println!("read: {:?}({}), {} bytes, the same coefficients: {}", r.kind, r.n, r.used, r.coeffs == f.coeffs);
     record[0] = 0;
     println!("damaged: {:?}", read(record, &mut again).map(|r| r.n));
-    println!("F(65536): {:?}", stage(Kind::F, 65536, 1));
+    println!("F(65536): {:?}", entries(Kind::F, 65536));
     Ok(())
 }
