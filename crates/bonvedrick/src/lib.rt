@@ -10,7 +10,7 @@ ghost use Rattle.definitions.specs.Polynomials.{degree};
 ghost use Rattle.definitions.specs.Steps.{comb, accumulate, largest, stepCode, stepCount, stepLeaves};
 ghost use Rattle.answers.specs.Polynomial as Polynomial;
 ghost use Rattle.answers.specs.Partial as Partial;
-ghost use Rattle.steps.specs.Sorts.{sortMeans};
+ghost use Rattle.passes.specs.Sorts.{sortMeans};
 ghost use Rattle.shelf.specs.Format.{degreeIn, writeAnswer, writeLeaves, readAnswer, readLeaves};
 ghost use Rattle.bonvedrick.specs.Same.{sameAnswer, sameStop, sameWritten, sameRecord};
 

@@ -59,12 +59,6 @@ get-turn bs at w left v b h l room e small (same, less) =
       omega (arith, full-suc (w - left)),
     )
 
--- the look, over the coefficients of a slice
-pub height-turn : (cs : List ℤ) (i h : ℕ) → i < length cs →
-    max (max h (natAbs (getD cs i (pos 0)))) (heightOf (drop (i + 1) cs)) ≡ max h (heightOf (drop i cs))
-unfolding heightOf
-height-turn cs i h l = rw (drop-cons cs i (pos 0), add-one) (omega arith)
-
 -- the store, of a slice's coefficients
 pub sets-append : {A : Type 0} (l : List A) (i : ℕ) (xs ys : List A) → sets l i (xs ++ ys) ≡ sets (sets l i xs) (i + length xs) ys
 sets-append l i [] ys = rw add-zero
@@ -97,11 +91,6 @@ body-none w cs b at i h = rw (drop-of-length-le cs h)
 -- what is left keeps within its bounds
 pub body-left : (w : ℕ) (cs : List ℤ) (i : ℕ) → i < length cs → length (body w (drop i cs)) ≡ w + length (body w (drop (i + 1) cs))
 body-left w cs i l = rw (body-cons w cs i l, length-append, length-bytesOf)
-
-pub height-left : (cs : List ℤ) (i : ℕ) → i < length cs →
-    heightOf (drop i cs) ≡ max (natAbs (getD cs i (pos 0))) (heightOf (drop (i + 1) cs))
-unfolding heightOf
-height-left cs i l = rw (drop-cons cs i (pos 0), add-one)
 
 -- both passes over the coefficients in some bytes
 pub next-in : (w k at : ℕ) (bs : List ℕ) → 0 < k →

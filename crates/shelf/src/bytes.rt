@@ -1,5 +1,4 @@
 // Numbers in bytes, and the passes over the coefficients: one that looks and one that stores, for the writer and the reader.
-use super::numbers::magnitude;
 use super::numbers::signed_of;
 use super::numbers::twos_of;
 ghost use mathlib.Core.Path.{_≡_};
@@ -13,12 +12,6 @@ pub(crate) fn wide(b: u8) -> u64
     ensures { λ r. ⌜ r ≡ b ⌝ }
 {
     b as u64
-}
-
-fn larger(a: u64, b: u64) -> u64
-    ensures { λ r. ⌜ r ≡ max a b ⌝ }
-{
-    if a < b { b } else { a }
 }
 
 // v in w bytes, from `at` on.
@@ -59,19 +52,6 @@ fn coefficient(bytes: &[u8], at: usize, w: usize) -> i64
     signed_of(get(bytes, at, w), w)
 }
 
-// Writing, the look: the height of the coefficients.
-pub(crate) fn height(coeffs: &[i64]) -> u64
-    ensures { λ r. ⌜ r ≡ heightOf (now (coeffs .entry)) ⌝ }
-{
-    let mut h: u64 = 0;
-    let mut i = 0;
-    while i < coeffs.len() {
-        h = larger(h, magnitude(coeffs[i]));
-        i += 1;
-    }
-    h
-}
-
 // Writing, the store: each coefficient in w bytes, after the header.
 pub(crate) fn put_body(coeffs: &[i64], w: usize, bytes: &mut [u8])
     requires { ⌜ (0 < w) × (w ≤ 8) × (heightOf (now coeffs) ≤ top w) × (10 + length (body w (now coeffs)) ≤ length (now bytes)) ⌝ }
@@ -95,7 +75,7 @@ pub(crate) fn height_in(bytes: &[u8], w: usize, k: usize) -> u64
     let mut left = k;
     let mut at = 10;
     while 0 < left {
-        h = larger(h, magnitude(coefficient(bytes, at, w)));
+        h = heights::larger(h, heights::magnitude(coefficient(bytes, at, w)));
         at += w;
         left -= 1;
     }

@@ -30,7 +30,7 @@ pub fn write(kind: u64, n: u64, coeffs: &[i64], bytes: &mut [u8]) -> Written
     ensures answer { λ r. ⌜ r ≡ writeAnswer (degree kind n) kind n (now (coeffs .entry)) (length (now (bytes .entry))) ⌝ }
     ensures leaves { λ r. ⌜ now (bytes .exit) ≡ writeLeaves (degree kind n) kind n (now (coeffs .entry)) (now (bytes .entry)) ⌝ }
 {
-    writer::write_with(kind, n, degrees::degree_of(kind, n), coeffs, bytes)
+    writer::write_with(kind, n, polynomial::degree_of(kind, n), coeffs, bytes)
 }
 
 // The coefficients of the record that some bytes start with, in the entries lent.
@@ -42,6 +42,6 @@ pub fn read(bytes: &[u8], coeffs: &mut [i64]) -> Record
     if code != 0 {
         return reader::refused(code, 0);
     }
-    let degree = degrees::degree_of(reader::field(bytes, 2), reader::index_in(bytes));
+    let degree = polynomial::degree_of(reader::field(bytes, 2), reader::index_in(bytes));
     reader::read_with(bytes, degree, coeffs)
 }

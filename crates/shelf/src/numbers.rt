@@ -17,13 +17,6 @@ pub(crate) fn whole_of(below: bool, m: u64) -> i64
     if below { !(m as i64) } else { m as i64 }
 }
 
-// The magnitude of x; that of -2^63 fits too. Below 0, -(m + 1) with all bits turned round is m.
-pub(crate) fn magnitude(x: i64) -> u64
-    ensures { λ r. ⌜ r ≡ natAbs x ⌝ }
-{
-    if x < 0 { (!x as u64) + 1 } else { x as u64 }
-}
-
 // The largest height that w bytes take.
 pub(crate) fn top_of(w: usize) -> u64
     requires { ⌜ (0 < w) × (w ≤ 8) ⌝ }

@@ -1,6 +1,5 @@
 // The writer: looks at everything, then stores.
 use super::Written;
-use super::bytes::height;
 use super::bytes::put;
 use super::bytes::put_body;
 use super::numbers::is_kind;
@@ -76,7 +75,7 @@ pub(crate) fn write_with(
             used: 0,
         };
     }
-    let w = least_width(height(coeffs));
+    let w = least_width(heights::height(coeffs));
     if w == 0 {
         return Written {
             code: 5,

@@ -2,7 +2,7 @@
 use mathlib.Core.Path.{_∙_, ap}
 use borrow.Author.Needs.{needs}
 use Rattle.shelf.specs.Numbers.{signedOf}
-use Rattle.shelf.proofs.Signs.{passed}
+use Rattle.heights.proofs.Signs.{passed}
 use Rattle.shelf.proofs.bytes.coefficient.Statement.{statement}
 use Rattle.shelf.proofs.bytes.coefficient.Tie as tie
 

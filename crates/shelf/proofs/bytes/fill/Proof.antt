@@ -5,7 +5,7 @@ use native.Mathlib.Omega.{arith}
 use lib.ListN.{length, drop, length-set}
 use lib.Seq.{sets}
 use Rattle.shelf.specs.Numbers.{coefficientsAt}
-use Rattle.shelf.proofs.Signs.{passed}
+use Rattle.heights.proofs.Signs.{passed}
 use Rattle.shelf.proofs.Passes.{fill-turn, fill-none, one-less}
 use Rattle.shelf.proofs.bytes.fill.Statement.{statement}
 use Rattle.shelf.proofs.bytes.fill.Tie as tie

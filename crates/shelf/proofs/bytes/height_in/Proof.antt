@@ -7,7 +7,7 @@ use borrow.Author.Needs.{needs}
 use lib.ListN.{length, drop}
 use Rattle.definitions.specs.Answer.{heightOf}
 use Rattle.shelf.specs.Numbers.{coefficientsAt}
-use Rattle.shelf.proofs.Signs.{passed}
+use Rattle.heights.proofs.Signs.{passed}
 use Rattle.shelf.proofs.Passes.{look-turn, look-none, one-less}
 use Rattle.shelf.proofs.bytes.height_in.Statement.{statement}
 use Rattle.shelf.proofs.bytes.height_in.Tie as tie

@@ -7,8 +7,9 @@ use lib.Seq.{sets}
 use lib.IntN.{pos, natAbs}
 use Rattle.definitions.specs.Answer.{heightOf}
 use Rattle.shelf.specs.Numbers.{body, top}
-use Rattle.shelf.proofs.Signs.{passed}
-use Rattle.shelf.proofs.Passes.{body-turn, body-none, body-left, height-left}
+use Rattle.heights.proofs.Signs.{passed}
+use Rattle.shelf.proofs.Passes.{body-turn, body-none, body-left}
+use Rattle.heights.proofs.Looks.{height-left}
 use Rattle.shelf.proofs.bytes.put_body.Statement.{statement}
 use Rattle.shelf.proofs.bytes.put_body.Tie as tie
 

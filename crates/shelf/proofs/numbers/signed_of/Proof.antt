@@ -4,7 +4,7 @@ use borrow.Author.Needs.{needs}
 use native.Mathlib.Omega.{arith}
 use Rattle.shelf.proofs.numbers.signed_of.Statement.{statement}
 use Rattle.shelf.proofs.numbers.signed_of.Tie as tie
-use Rattle.shelf.proofs.Signs.{passed}
+use Rattle.heights.proofs.Signs.{passed}
 use Rattle.shelf.proofs.Widths.{full, top-small, signed-low, signed-high}
 
 top-of-requires : tie.Need-top-of-requires

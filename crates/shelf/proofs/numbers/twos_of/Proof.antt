@@ -5,7 +5,8 @@ use native.Mathlib.Omega.{arith}
 use lib.IntN.{natAbs}
 use Rattle.shelf.proofs.numbers.twos_of.Statement.{statement}
 use Rattle.shelf.proofs.numbers.twos_of.Tie as tie
-use Rattle.shelf.proofs.Signs.{casts, turned, natAbs-below, twos-below, plain, twos-above}
+use Rattle.heights.proofs.Signs.{casts, turned, natAbs-below, plain}
+use Rattle.shelf.proofs.Signs.{twos-below, twos-above}
 use Rattle.shelf.proofs.Widths.{full, top-small}
 
 top-of-requires : tie.Need-top-of-requires
