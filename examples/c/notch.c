@@ -1,0 +1,65 @@
+/*
+ * A mains notch in C. At 5250 samples a second 50 Hz is one turn in 105 samples, so F(105) as a filter stops 50 Hz (and 100, 200, 400 Hz
+ * and the other multiples k * 50 Hz where k shares no factor with 105), and lets a steady level through times its gain.
+ * It asks for the stage, filters a level with a hum on it, writes the stage as a record and reads it back.
+ */
+#include <inttypes.h>
+#include <math.h>
+#include <stdio.h>
+#include <string.h>
+
+#include "bonvedrick.h"
+
+enum { RATE = 5250, MAINS = 50, N = RATE / MAINS, ROOM = 64, BYTES = 128 };
+
+static const double PI = 3.14159265358979323846;
+
+static const char *name(uint64_t code) {
+    static const char *const names[] = {"DONE", "KIND", "INDEX", "LIMIT", "SHORT", "OVER", "TALL", "STEP", "CUT", "MARK", "FIELD", "WIDTH"};
+    return code <= BV_WIDTH ? names[code] : "?";
+}
+
+/* What comes out of the stage at sample t: a level of 1000 with a hum of 300 went in. */
+static double out(const int64_t *stage, uint64_t degree, int t) {
+    double sum = 0;
+    for (uint64_t i = 0; i <= degree; i++)
+        sum += (double)stage[i] * (1000 + 300 * sin(2 * PI * MAINS * (t - (double)i) / RATE));
+    return sum;
+}
+
+int main(void) {
+    int64_t stage[ROOM] = {0}, again[ROOM] = {0};
+    uint8_t bytes[BYTES] = {0};
+
+    printf("notch for %d Hz at %d samples a second: F(%d)\n", MAINS, RATE, N);
+
+    bv_answer need = bv_polynomial(BV_KIND_F, N, 1, NULL, 0);
+    printf("no room:      %s, degree %" PRIu64 "\n", name(need.code), need.degree);
+    bv_answer tall = bv_polynomial(BV_KIND_F, N, 1, stage, ROOM);
+    printf("height 1:     %s, degree %" PRIu64 "\n", name(tall.code), tall.degree);
+    bv_answer a = bv_polynomial(BV_KIND_F, N, 2, stage, ROOM);
+    printf("height 2:     %s, degree %" PRIu64 ", %" PRIu64 " additions, height %" PRIu64 ", gain %" PRIu64 "\n", name(a.code), a.degree,
+           a.additions, a.height, a.gain);
+    if (a.code != BV_DONE)
+        return 1;
+
+    double low = out(stage, a.degree, 0), high = low;
+    for (int t = 1; t < RATE; t++) {
+        low = fmin(low, out(stage, a.degree, t));
+        high = fmax(high, out(stage, a.degree, t));
+    }
+    printf("level 1000 with a hum of 300 comes out from %.6f to %.6f\n", low, high);
+
+    bv_written w = bv_write(BV_KIND_F, N, stage, a.degree + 1, bytes, BYTES);
+    printf("written:      %s, %" PRIu64 " bytes:", name(w.code), w.used);
+    for (uint64_t i = 0; i < 16 && i < w.used; i++)
+        printf(" %02X", (unsigned)bytes[i]);
+    printf(" ..\n");
+
+    bv_record cut = bv_read(bytes, w.used - 1, again, ROOM);
+    printf("a byte short: %s\n", name(cut.code));
+    bv_record r = bv_read(bytes, w.used, again, ROOM);
+    printf("read:         %s, %s(%" PRIu64 "), degree %" PRIu64 ", %s\n", name(r.code), r.kind == BV_KIND_F ? "F" : "I", r.n, r.degree,
+           memcmp(stage, again, sizeof stage) == 0 ? "the same coefficients" : "OTHER COEFFICIENTS");
+    return r.code != BV_DONE;
+}

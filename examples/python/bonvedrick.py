@@ -1,0 +1,95 @@
+"""The library for Python, by ctypes over a shared object made from the archive (examples/Makefile makes it).
+
+Lists go in and lists come out. A refusal is the exception Refused, with its code, its name and the degree told.
+What each function does and refuses is told in include/bonvedrick.h.
+"""
+
+import ctypes
+from ctypes import POINTER, c_int64, c_size_t, c_uint8, c_uint64
+
+F, I = 1, 2
+NAMES = "DONE KIND INDEX LIMIT SHORT OVER TALL STEP CUT MARK FIELD WIDTH".split()
+
+
+def struct(name, fields):
+    """A C struct of 64-bit numbers."""
+    return type(name, (ctypes.Structure,), {"_fields_": [(f, c_uint64) for f in fields.split()]})
+
+
+Answer = struct("Answer", "code degree additions height gain")
+Stop = struct("Stop", "code degree additions due")
+Step = struct("Step", "code count")
+Written = struct("Written", "code degree used")
+Record = struct("Record", "code degree used kind n")
+
+WORDS = (POINTER(c_int64), c_size_t)
+BYTES = (POINTER(c_uint8), c_size_t)
+
+
+class Refused(Exception):
+    def __init__(self, answer):
+        self.code = answer.code
+        self.degree = getattr(answer, "degree", 0)
+        self.name = NAMES[self.code] if self.code < len(NAMES) else "?"
+        super().__init__(f"{self.name} ({self.code}), degree {self.degree}")
+
+
+class Bonvedrick:
+    def __init__(self, path):
+        lib = ctypes.CDLL(path)
+
+        def function(name, result, *arguments):
+            f = getattr(lib, name)
+            f.restype, f.argtypes = result, arguments
+
+            def call(*values):
+                answer = f(*values)
+                if answer.code != 0:
+                    raise Refused(answer)
+                return answer
+
+            return call
+
+        self._polynomial = function("bv_polynomial", Answer, c_uint64, c_uint64, c_int64, *WORDS)
+        self._partial = function("bv_partial", Stop, c_uint64, c_uint64, c_uint64, *WORDS)
+        self._comb = function("bv_comb", Step, c_uint64, *WORDS)
+        self._accumulate = function("bv_accumulate", Step, c_uint64, *WORDS)
+        self._write = function("bv_write", Written, c_uint64, c_uint64, *WORDS, *BYTES)
+        self._read = function("bv_read", Record, *BYTES, *WORDS)
+
+    def polynomial(self, kind, n, h=2**63 - 1, room=65536):
+        """The coefficients, lowest degree first, and the answer."""
+        buf = (c_int64 * room)()
+        a = self._polynomial(kind, n, h, buf, room)
+        return buf[: a.degree + 1], a
+
+    def partial(self, kind, n, j, room=32768):
+        """The kept half after j divisors, and the answer."""
+        buf = (c_int64 * room)()
+        a = self._partial(kind, n, j, buf, room)
+        return buf[: a.degree + 1], a
+
+    def comb(self, size, entries):
+        """The entries times 1 - z^size, as many as there were."""
+        buf = (c_int64 * len(entries))(*entries)
+        self._comb(size, buf, len(buf))
+        return buf[:]
+
+    def accumulate(self, size, entries):
+        """The entries divided by 1 - z^size."""
+        buf = (c_int64 * len(entries))(*entries)
+        self._accumulate(size, buf, len(buf))
+        return buf[:]
+
+    def write(self, kind, n, coeffs):
+        """The record's bytes."""
+        words = (c_int64 * len(coeffs))(*coeffs)
+        buf = (c_uint8 * (10 + 8 * len(coeffs)))()
+        a = self._write(kind, n, words, len(words), buf, len(buf))
+        return bytes(buf[: a.used])
+
+    def read(self, data, room=65536):
+        """The kind, the index and the coefficients of the record that the bytes start with, and the bytes it uses."""
+        buf = (c_int64 * room)()
+        a = self._read((c_uint8 * len(data)).from_buffer_copy(data), len(data), buf, room)
+        return a.kind, a.n, buf[: a.degree + 1], a.used

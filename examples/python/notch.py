@@ -1,0 +1,54 @@
+"""A mains notch in Python. At 1050 samples a second 50 Hz is one turn in 21 samples, so F(21) stops it and I(21) is what it leaves over:
+the two together are the plain comb z^21 - 1. Usage: notch.py libbonvedrick.so"""
+
+import cmath
+import sys
+
+from bonvedrick import F, I, Bonvedrick, Refused
+
+RATE, MAINS = 1050, 50
+N = RATE // MAINS
+
+
+def product(a, b):
+    c = [0] * (len(a) + len(b) - 1)
+    for i, x in enumerate(a):
+        for j, y in enumerate(b):
+            c[i + j] += x * y
+    return c
+
+
+def response(coeffs, hz):
+    """How much of a frequency comes through."""
+    z = cmath.exp(-2j * cmath.pi * hz / RATE)
+    return abs(sum(c * z**i for i, c in enumerate(coeffs)))
+
+
+def told(ask, *arguments):
+    try:
+        return ask(*arguments)
+    except Refused as refusal:
+        return refusal
+
+
+bv = Bonvedrick(sys.argv[1])
+f, a = bv.polynomial(F, N)
+print(f"notch for {MAINS} Hz at {RATE} samples a second: F({N}), {a.additions} additions, height {a.height}, gain {a.gain}")
+print(*f)
+for hz in 0, 50, 100, 150, 200:
+    print(f"{hz:4} Hz: {response(f, hz):.3f}")
+i, _ = bv.polynomial(I, N)
+print(f"F({N}) I({N}) = z^{N} - 1:", product(f, i) == [-1] + [0] * (N - 1) + [1])
+half, stop = bv.partial(F, N, 1)
+print(f"lower half after 1 divisor, {stop.due} due:", *half)
+print("comb of size 2:      ", *bv.comb(2, [1, 2, 3, 4, 5]))
+print("accumulate of size 2:", *bv.accumulate(2, bv.comb(2, [1, 2, 3, 4, 5])))
+record = bv.write(F, N, f)
+print("record:", record.hex(" "))
+print("read back:", bv.read(record) == (F, N, f, len(record)))
+print("kind 3:", told(bv.polynomial, 3, N))
+print("F(0):", told(bv.polynomial, F, 0))
+print("F(105) of height 1:", told(bv.polynomial, F, 105, 1))
+print("a step of size 0:", told(bv.comb, 0, []))
+print("a comb on nothing:", bv.comb(1, []))
+print("half a record:", told(bv.read, record[:15]))

@@ -1,0 +1,167 @@
+//! A safe wrapper: slices for pointers and lengths, an enum of the refusals, and a `Result`. Nothing here allocates.
+//! Copy this file, and link with `-l static=bonvedrick`. What each function does and refuses is told in include/bonvedrick.h.
+
+/// The C functions and their answers, as include/bonvedrick.h has them.
+mod c {
+    #[repr(C)]
+    pub struct Answer {
+        pub code: u64,
+        pub degree: u64,
+        pub additions: u64,
+        pub height: u64,
+        pub gain: u64,
+    }
+
+    #[repr(C)]
+    pub struct Stop {
+        pub code: u64,
+        pub degree: u64,
+        pub additions: u64,
+        pub due: u64,
+    }
+
+    #[repr(C)]
+    pub struct Step {
+        pub code: u64,
+        pub count: u64,
+    }
+
+    #[repr(C)]
+    pub struct Written {
+        pub code: u64,
+        pub degree: u64,
+        pub used: u64,
+    }
+
+    #[repr(C)]
+    pub struct Record {
+        pub code: u64,
+        pub degree: u64,
+        pub used: u64,
+        pub kind: u64,
+        pub n: u64,
+    }
+
+    extern "C" {
+        pub fn bv_polynomial(kind: u64, n: u64, h: i64, buf: *mut i64, len: usize) -> Answer;
+        pub fn bv_partial(kind: u64, n: u64, j: u64, buf: *mut i64, len: usize) -> Stop;
+        pub fn bv_comb(size: u64, buf: *mut i64, len: usize) -> Step;
+        pub fn bv_accumulate(size: u64, buf: *mut i64, len: usize) -> Step;
+        pub fn bv_write(kind: u64, n: u64, coeffs: *const i64, count: usize, bytes: *mut u8, len: usize) -> Written;
+        pub fn bv_read(bytes: *const u8, len: usize, coeffs: *mut i64, count: usize) -> Record;
+    }
+}
+
+/// Which polynomial: F(n), or I(n) with F(n) I(n) = z^n - 1.
+#[derive(Clone, Copy, Debug, PartialEq, Eq)]
+pub enum Kind {
+    F = 1,
+    I = 2,
+}
+
+/// Why nothing was delivered. The degree stands where the library tells it: of the polynomial, and for `partial` of its lower half.
+#[derive(Clone, Copy, Debug, PartialEq, Eq)]
+pub enum Refusal {
+    Kind,
+    Index,
+    Limit,
+    Short { degree: usize },
+    Over { degree: usize },
+    Tall { degree: usize },
+    Step,
+    Cut,
+    Mark,
+    Field,
+    Width,
+    /// A code that this wrapper doesn't know: a later library.
+    Unknown(u64),
+}
+
+fn refused(code: u64, degree: u64) -> Refusal {
+    let degree = degree as usize;
+    match code {
+        1 => Refusal::Kind,
+        2 => Refusal::Index,
+        3 => Refusal::Limit,
+        4 => Refusal::Short { degree },
+        5 => Refusal::Over { degree },
+        6 => Refusal::Tall { degree },
+        7 => Refusal::Step,
+        8 => Refusal::Cut,
+        9 => Refusal::Mark,
+        10 => Refusal::Field,
+        11 => Refusal::Width,
+        other => Refusal::Unknown(other),
+    }
+}
+
+/// `value` on code 0, else the refusal.
+fn outcome<T>(code: u64, degree: u64, value: T) -> Result<T, Refusal> {
+    if code == 0 { Ok(value) } else { Err(refused(code, degree)) }
+}
+
+/// A delivered polynomial: its coefficients, a part of the buffer that was lent, and what the library tells of it.
+#[derive(Debug)]
+pub struct Polynomial<'a> {
+    pub coeffs: &'a mut [i64],
+    pub additions: u64,
+    pub height: u64,
+    pub gain: u64,
+}
+
+/// A half-built polynomial.
+#[derive(Debug)]
+pub struct Partial<'a> {
+    pub half: &'a mut [i64],
+    pub additions: u64,
+    pub due: usize,
+}
+
+/// A record that was read, and the bytes it used.
+#[derive(Debug)]
+pub struct Record<'a> {
+    pub kind: Kind,
+    pub n: u64,
+    pub coeffs: &'a mut [i64],
+    pub used: usize,
+}
+
+// SAFETY of each call below: a Rust slice is what the library asks of a pointer and a length, and `&mut` is alone.
+
+pub fn polynomial(kind: Kind, n: u64, h: i64, buf: &mut [i64]) -> Result<Polynomial<'_>, Refusal> {
+    let a = unsafe { c::bv_polynomial(kind as u64, n, h, buf.as_mut_ptr(), buf.len()) };
+    outcome(a.code, a.degree, ())?;
+    Ok(Polynomial { coeffs: &mut buf[..=a.degree as usize], additions: a.additions, height: a.height, gain: a.gain })
+}
+
+pub fn partial(kind: Kind, n: u64, j: u64, buf: &mut [i64]) -> Result<Partial<'_>, Refusal> {
+    let a = unsafe { c::bv_partial(kind as u64, n, j, buf.as_mut_ptr(), buf.len()) };
+    outcome(a.code, a.degree, ())?;
+    Ok(Partial { half: &mut buf[..=a.degree as usize], additions: a.additions, due: a.due as usize })
+}
+
+/// Multiplies by 1 - z^size, and answers how many subtractions that took.
+pub fn comb(size: u64, buf: &mut [i64]) -> Result<u64, Refusal> {
+    let a = unsafe { c::bv_comb(size, buf.as_mut_ptr(), buf.len()) };
+    outcome(a.code, 0, a.count)
+}
+
+/// Divides by 1 - z^size, and answers how many additions that took.
+pub fn accumulate(size: u64, buf: &mut [i64]) -> Result<u64, Refusal> {
+    let a = unsafe { c::bv_accumulate(size, buf.as_mut_ptr(), buf.len()) };
+    outcome(a.code, 0, a.count)
+}
+
+/// Writes a record, and answers its bytes.
+pub fn write<'a>(kind: Kind, n: u64, coeffs: &[i64], bytes: &'a mut [u8]) -> Result<&'a mut [u8], Refusal> {
+    let a = unsafe { c::bv_write(kind as u64, n, coeffs.as_ptr(), coeffs.len(), bytes.as_mut_ptr(), bytes.len()) };
+    outcome(a.code, a.degree, ())?;
+    Ok(&mut bytes[..a.used as usize])
+}
+
+pub fn read<'a>(bytes: &[u8], coeffs: &'a mut [i64]) -> Result<Record<'a>, Refusal> {
+    let a = unsafe { c::bv_read(bytes.as_ptr(), bytes.len(), coeffs.as_mut_ptr(), coeffs.len()) };
+    outcome(a.code, a.degree, ())?;
+    let kind = if a.kind == 1 { Kind::F } else { Kind::I };
+    Ok(Record { kind, n: a.n, coeffs: &mut coeffs[..=a.degree as usize], used: a.used as usize })
+}

@@ -1,0 +1,196 @@
+/*
+ * bonvedrick.h: exact cyclotomic polynomials, ready to be used as filter stages.
+ *
+ *   F(n)  the cyclotomic polynomial: the product of F(d) over all divisors d of n is z^n - 1.
+ *   I(n)  the inverse one: F(n) times I(n) is z^n - 1.
+ *
+ * for n from 1 to 65535, with whole 64-bit coefficients, lowest degree first: coeffs[i] belongs to z^i.
+ *
+ * Link with libbonvedrick.a (`rt staticlib bonvedrick` writes target/staticlib/libbonvedrick.a, for x86-64).
+ *
+ * WHAT HOLDS FOR EVERY FUNCTION
+ *
+ *   Any number may be passed for any number: nothing is asked beforehand. Each call answers a struct whose `code` is BV_DONE (0), and then
+ *   everything that was asked for is there; or it is one of the refusals below, and then every other field is 0, but for the `degree`
+ *   where it says so. Where several refusals apply, the first in the order told at the function is given.
+ *
+ *   A slice is a pointer and the number of its elements (not of its bytes). The number may be 0, and then the pointer may be NULL: an empty
+ *   slice. Otherwise the pointer must be aligned, as C has it, and point to that many elements, of any contents, that nobody else writes
+ *   during the call and, where the pointer is not const, nobody else reads: so the two slices of one call must not overlap.
+ *   This is all that is asked, and no callee in C could test it.
+ *
+ *   An element past the part that a function says it writes is never changed, and what a function says is untouched is not written at all
+ *   or stands again as it was when the call returns.
+ *
+ *   No memory is allocated, no file or clock is looked at, nothing is kept between calls, there is no setting up: the answer and the
+ *   contents of the slices follow from the arguments alone. Calls from several threads at once are fine, each on its own slices.
+ *   Every call ends.
+ *
+ * The answers and the contents are proved of the library's code, for every input (the contracts in crates/bonvedrick/src/lib.rt).
+ */
+#ifndef BONVEDRICK_H
+#define BONVEDRICK_H
+
+#include <stddef.h>
+#include <stdint.h>
+
+#ifdef __cplusplus
+extern "C" {
+#endif
+
+/* The two kinds of polynomial. */
+#define BV_KIND_F UINT64_C(1) /* F(n); its degree is phi(n), the count of numbers from 1 to n that share no factor with n */
+#define BV_KIND_I UINT64_C(2) /* I(n); its degree is n - phi(n) */
+
+/* The largest index, and the largest size of a step. */
+#define BV_MOST UINT64_C(65535)
+
+/*
+ * The codes. A delivered coefficient lies from -(2^63 - 1) to 2^63 - 1, here called the range: each one can be negated.
+ */
+#define BV_DONE UINT64_C(0)   /* done: all that was asked for is there */
+#define BV_KIND UINT64_C(1)   /* kind is not 1 or 2 */
+#define BV_INDEX UINT64_C(2)  /* n is 0 or above 65535; bv_partial: also where n has no odd prime factor */
+#define BV_LIMIT UINT64_C(3)  /* the height limit h is below 1 */
+#define BV_SHORT UINT64_C(4)  /* the slice to be filled is too short */
+#define BV_OVER UINT64_C(5)   /* a value would be outside the range; bv_write: a coefficient is -2^63 */
+#define BV_TALL UINT64_C(6)   /* a coefficient is larger in magnitude than h */
+#define BV_STEP UINT64_C(7)   /* size is 0 or above 65535; bv_partial: there are fewer than j divisors */
+#define BV_CUT UINT64_C(8)    /* bv_read: the record ends early */
+#define BV_MARK UINT64_C(9)   /* bv_read: the first two bytes are not those of a record */
+#define BV_FIELD UINT64_C(10) /* bv_read: a number in the header is wrong; bv_write: count is not degree + 1 */
+#define BV_WIDTH UINT64_C(11) /* bv_read: the coefficients are not stored in the least width that holds them */
+
+/* Every field of every answer is 64 bits, in this order. */
+
+typedef struct bv_answer {
+    uint64_t code;
+    uint64_t degree;    /* of the polynomial: degree + 1 entries are needed, and filled */
+    uint64_t additions; /* how many additions and subtractions made it */
+    uint64_t height;    /* the largest magnitude among its coefficients */
+    uint64_t gain;      /* the stage's scale at zero frequency, by this rule. F: 0 for n = 1, n where n is prime, else 1;
+                           I: 1 for n = 1, else 0. (The sum of the coefficients, but for F at n = 4, 8, 9, ..: a higher power
+                           of a prime, where the sum is that prime and the rule says 1.) */
+} bv_answer;
+
+typedef struct bv_stop {
+    uint64_t code;
+    uint64_t degree;    /* D, the last place of the kept half: D + 1 entries are needed, and filled */
+    uint64_t additions; /* how many additions and subtractions the j steps took */
+    uint64_t due;       /* how many divisors are still to come */
+} bv_stop;
+
+typedef struct bv_step {
+    uint64_t code;
+    uint64_t count; /* how many additions or subtractions it took: len - size, or 0 where size >= len */
+} bv_step;
+
+typedef struct bv_written {
+    uint64_t code;
+    uint64_t degree; /* of the polynomial: count is degree + 1 */
+    uint64_t used;   /* the bytes of the record */
+} bv_written;
+
+typedef struct bv_record {
+    uint64_t code;
+    uint64_t degree; /* of the polynomial: degree + 1 entries are needed, and filled */
+    uint64_t used;   /* the bytes of the record: the next one, if any, starts there */
+    uint64_t kind;   /* of the record: 1 or 2 */
+    uint64_t n;      /* of the record: 1 to 65535 */
+} bv_record;
+
+/*
+ * The polynomial of a kind and an index n, unless a coefficient is larger in magnitude than h (pass INT64_MAX for no limit).
+ * 65536 entries have room for every polynomial.
+ *
+ *   code      given where                                degree told   buf
+ *   BV_DONE   nothing below applies                      yes           entries 0 to degree: the polynomial
+ *   BV_KIND   kind is not 1 or 2                         0             untouched
+ *   BV_INDEX  n is 0 or above 65535                      0             untouched
+ *   BV_LIMIT  h is below 1                               0             untouched
+ *   BV_SHORT  len is below degree + 1                    yes           untouched
+ *   BV_OVER   a step would leave the range (no index     yes           entries 0 to degree: 0
+ *             up to 65535 does; see bv_comb)
+ *   BV_TALL   the height is above h                      yes           entries 0 to degree: 0
+ *
+ * The order is that of the table. On refusal additions, height and gain are 0. So a call with len 0 asks how many entries are needed:
+ * it answers BV_SHORT and the degree.
+ */
+bv_answer bv_polynomial(uint64_t kind, uint64_t n, int64_t h, int64_t *buf, size_t len);
+
+/*
+ * The polynomial half-built, to watch it grow. Let r be the product of the distinct odd primes of n, and D half the degree for r, rounded
+ * down. The lower half of the polynomial of r, entries 0 to D, starts as 1, 0, 0, .. for F and as -1, 0, 0, .. for I. Then each divisor d
+ * of r with d < r takes its turn, in ascending order, with one step of size d: for F a comb where r/d is a product of an even number of
+ * primes and an accumulate where of an odd number; for I the other way round. This shows what stands there after the first j divisors;
+ * j = 0 shows the start, and after all of them it is the lower half of the polynomial of r.
+ *
+ *   code      given where                                degree told   buf
+ *   BV_DONE   nothing below applies                      D             entries 0 to D: the half-built polynomial
+ *   BV_KIND   kind is not 1 or 2                         0             untouched
+ *   BV_INDEX  n is 0, above 65535 or a power of two      0             untouched
+ *   BV_STEP   j is above the number of divisors          0             untouched
+ *   BV_SHORT  len is below D + 1                         D             untouched
+ *   BV_OVER   one of the j steps would leave the range   D             entries 0 to D: 0
+ *
+ * The order is that of the table. On refusal additions and due are 0.
+ */
+bv_stop bv_partial(uint64_t kind, uint64_t n, uint64_t j, int64_t *buf, size_t len);
+
+/*
+ * One step on any slice. A comb of size d multiplies by 1 - z^d: each entry i from d on becomes the old entry i minus the old entry i - d.
+ * An accumulate divides by it: each entry i from d on becomes the old entry i plus the new entry i - d. Entries below d stay as they are.
+ * A comb and an accumulate of one size undo each other.
+ *
+ *   code      given where                                                       buf
+ *   BV_DONE   nothing below applies                                             the step is taken
+ *   BV_STEP   size is 0 or above 65535                                          untouched
+ *   BV_OVER   a new value, at a place from d on, would be outside the range     untouched
+ *
+ * The order is that of the table. On refusal count is 0. A size of len or more changes nothing and is BV_DONE with count 0.
+ */
+bv_step bv_comb(uint64_t size, int64_t *buf, size_t len);
+bv_step bv_accumulate(uint64_t size, int64_t *buf, size_t len);
+
+/*
+ * Writes a record: C9 50; the kind in 1 byte; the width w in 1 byte; n in 2 bytes; the number of coefficients in 4 bytes; then each
+ * coefficient in w bytes, two's complement; all little-endian. w is the least of 1, 2, 4 and 8 for which no coefficient is larger in
+ * magnitude than 2^(8w-1) - 1. So it has 10 + count * w bytes. The coefficients may be any numbers: the record tells what was stored
+ * and doesn't vouch for them. F(6) is C9 50 01 01 06 00 03 00 00 00 01 FF 01.
+ *
+ *   code      given where                                degree told   bytes
+ *   BV_DONE   nothing below applies                      yes           bytes 0 to used - 1: the record
+ *   BV_KIND   kind is not 1 or 2                         0             untouched
+ *   BV_INDEX  n is 0 or above 65535                      0             untouched
+ *   BV_FIELD  count is not degree + 1                    0             untouched
+ *   BV_OVER   a coefficient is -2^63                     yes           untouched
+ *   BV_SHORT  len is below the size of the record        yes           untouched
+ *
+ * The order is that of the table. On refusal used is 0. coeffs is only read.
+ */
+bv_written bv_write(uint64_t kind, uint64_t n, const int64_t *coeffs, size_t count, uint8_t *bytes, size_t len);
+
+/*
+ * Reads the record that the bytes start with; what follows it is not looked at. Here `count` is the number of entries lent. Any bytes get
+ * their answer.
+ *
+ *   code      given where                                           degree told   coeffs
+ *   BV_DONE   nothing below applies                                 yes           entries 0 to degree: the coefficients
+ *   BV_CUT    len is below 10                                       0             untouched
+ *   BV_MARK   the first two bytes are not C9 50                     0             untouched
+ *   BV_FIELD  the kind is not 1 or 2, the width not 1, 2, 4 or 8,   0             untouched
+ *             n is 0, or the number of coefficients is not the
+ *             degree of that kind at that n, plus 1
+ *   BV_CUT    len is below the size of the record                   0             untouched
+ *   BV_SHORT  count is below the number of coefficients             yes           untouched
+ *   BV_WIDTH  a lesser width would do; or a coefficient is -2^63    0             untouched
+ *
+ * The order is that of the table. On refusal used, kind and n are 0. bytes is only read.
+ */
+bv_record bv_read(const uint8_t *bytes, size_t len, int64_t *coeffs, size_t count);
+
+#ifdef __cplusplus
+}
+#endif
+
+#endif
