@@ -1,0 +1,58 @@
+"""Makes every stored file anew, byte for byte: python3 second/make.py (some minutes; nothing else is needed).
+
+The files are what the trial programs of crates/ must print, and the table of indices that one of them holds.
+"""
+
+import os
+
+import choice
+import refusals
+from lines import partial_line, polynomial_line
+from answers import polynomial
+from whole import divisors_below
+
+CRATES = os.path.join(os.path.dirname(os.path.abspath(__file__)), "..", "crates")
+
+
+def indices():
+    chosen = choice.choice()
+    head = (
+        "// The indices above 400 that the table asks for, chosen by second/choice.py and written by second/make.py.\n"
+        "pub const CHOSEN: usize = %d;\n\npub const CHOICE: [u64; %d] = [\n" % (len(chosen), len(chosen))
+    )
+    return head + "".join("    %d,\n" % n for n in chosen) + "];\n"
+
+
+def table():
+    for n in choice.table():
+        for kind in (1, 2):
+            yield polynomial_line(kind, n, choice.LARGEST_LIMIT, 512 if n <= choice.ALL_TO else 65536)
+
+
+def partials():
+    for r in choice.PARTIAL_ORDERS:
+        for kind in (1, 2):
+            for j in range(len(divisors_below(r)) + 2):
+                yield partial_line(kind, r, j, refusals.ROOM)
+
+
+def refused():
+    for asked in refusals.POLYNOMIALS:
+        yield polynomial_line(*asked)
+    for asked in refusals.PARTIALS:
+        yield partial_line(*asked)
+    yield "".join("%d " % c for c in polynomial(1, 105, 2, 49)[1]) + "\n"
+
+
+def store(path, parts):
+    with open(os.path.join(CRATES, path), "w", newline="\n") as file:
+        for part in parts:
+            file.write(part)
+    print("made", path)
+
+
+if __name__ == "__main__":
+    store("trial_table/src/choice.rt", [indices()])
+    store("trial_refusals/stdout", refused())
+    store("trial_partial/stdout", partials())
+    store("trial_table/stdout", table())
