@@ -7,6 +7,7 @@ checksum over those entries, which notices order, sign and number.
 
 from answers import partial, polynomial
 
+
 def residue(c):
     return c % 65521 if c >= 0 else 65521 + (-1 - c) % 65521
 

@@ -10,6 +10,7 @@ pub mod Counts
 pub mod Phi
 pub mod Products
 pub mod Apart
+pub mod PhiApart
 pub mod HowMany
 pub mod AtMostFive
 pub mod Lists

@@ -106,40 +106,60 @@ fn subtract_at(a: &mut [i64], i: usize, d: usize)
     a[i] = a[i] - a[i - d];
 }
 
-// The comb's pass, downward, so that the entry d before is still the old one. It stops where the next value is out of range
-// and answers how far down it came.
+// Where a pass over the entries from d to n - 1 works in its turn: a comb from the top down, so that the entry d before is still the old one; an
+// accumulate from the bottom up, so that it is already the new one.
+fn from_top(turn: usize, d: usize, n: usize) -> usize
+    requires { ⌜ turn + d < n ⌝ }
+    ensures { λ r. ⌜ r ≡ n - 1 - turn ⌝ }
+{
+    n - 1 - turn
+}
+
+fn from_bottom(turn: usize, d: usize, n: usize) -> usize
+    requires { ⌜ turn + d < n ⌝ }
+    ensures { λ r. ⌜ r ≡ d + turn ⌝ }
+{
+    d + turn
+}
+
+// The comb's pass. It stops where the next value is out of range, and answers how far down it came.
 fn comb_down(a: &mut [i64], d: usize) -> usize
     requires { ⌜ (1 ≤ d) × (d ≤ length (now a)) ⌝ }
     ensures { λ r. ⌜ CombedTo d (now (a .entry)) (now (a .exit)) r ⌝ }
     ensures { λ r. ⌜ (d < r → inRange largest (combed d (entries (now (a .entry))) (r - 1)) ≡ false) ⌝ }
 {
-    let mut i = a.len();
-    while d < i {
-        let k = i - 1;
+    let n = a.len();
+    let turns = n - d;
+    let mut t = 0;
+    while t < turns {
+        let k = from_top(t, d, n);
         if !difference_fits_at(a, k, d) {
-            return i;
+            return k + 1;
         }
         subtract_at(a, k, d);
-        i = k;
+        t += 1;
     }
-    i
+    d
 }
 
-// The accumulate's pass, upward, so that the entry d before is already the new one.
+// The accumulate's pass, likewise: how far up it came.
 fn accumulate_up(a: &mut [i64], d: usize) -> usize
     requires { ⌜ (1 ≤ d) × (d ≤ length (now a)) ⌝ }
     ensures { λ r. ⌜ AccumulatedTo d (now (a .entry)) (now (a .exit)) r ⌝ }
     ensures { λ r. ⌜ (r < length (now (a .entry)) → inRange largest (accumulated d (entries (now (a .entry))) r) ≡ false) ⌝ }
 {
-    let mut i = d;
-    while i < a.len() {
-        if !sum_fits_at(a, i, d) {
-            return i;
+    let n = a.len();
+    let turns = n - d;
+    let mut t = 0;
+    while t < turns {
+        let k = from_bottom(t, d, n);
+        if !sum_fits_at(a, k, d) {
+            return k;
         }
-        add_at(a, i, d);
-        i += 1;
+        add_at(a, k, d);
+        t += 1;
     }
-    i
+    n
 }
 
 // Adds upward from `from` on, untested: it undoes a comb that came down to there.

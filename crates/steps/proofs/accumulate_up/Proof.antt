@@ -1,7 +1,8 @@
--- `steps::accumulate_up` meets its contract. The loop's invariant is its contract's first clause, at the i that it has come to.
-use mathlib.Core.Path.{_≡_, sym, _∙_, ap}
+-- `steps::accumulate_up` meets its contract. The loop's invariant is its contract's first clause: after t turns the pass has come up to d + t.
+use mathlib.Core.Path.{_≡_, sym, _∙_, ap, subst}
 use mathlib.Core.Bool.{true}
-use Prim.Native.Nat.{_-_, _<_}
+use Prim.Native.Nat.{_+_, _-_, _≤_}
+use native.Mathlib.Nat.{lt-irrefl}
 use native.Mathlib.Omega.{arith}
 use borrow.Author.Tests.{not-true, not-false}
 use lib.ListN.{length}
@@ -13,59 +14,73 @@ use Rattle.steps.proofs.accumulate_up.Statement.{statement}
 use Rattle.steps.proofs.accumulate_up.Tie as tie
 
 abbrev Inv-loop : tie.InvT-loop
-Inv-loop a₀ d i₀ a i = AccumulatedTo d a₀ a i
+Inv-loop a₀ d n turns t₀ a t = (t ≤ length a₀ - d) × AccumulatedTo d a₀ a (d + t)
 
 abbrev μ-loop : tie.MeasureT-loop
-μ-loop a₀ d i₀ a i = length a₀ - i
+μ-loop a₀ d n turns t₀ a t = length a₀ - t
+
+sub-turns : tie.Need-sub-turns Inv-loop μ-loop
+sub-turns c = c .pre .1
 
 loop-holds : tie.Need-loop-holds Inv-loop μ-loop
-loop-holds c = up-start (c .args .d) (c .args .a .now) (c .pre .1)
+loop-holds c = (omega arith, up-start (c .args .d) (c .args .a .now) (c .pre .1) _ (omega arith))
+
+from-bottom-requires : tie.Need-from-bottom-requires Inv-loop μ-loop
+from-bottom-requires c κs = omega arith
 
 sum-fits-at-requires : tie.Need-sum-fits-at-requires Inv-loop μ-loop
-sum-fits-at-requires c κs = (c .before .before .loop .inv .from, c .before .loop-test .taken)
+sum-fits-at-requires c κs = omega arith
 
 same-length : tie.Need-same-length Inv-loop μ-loop
-same-length c = c .before .before .before .before .loop .inv .split .len
+same-length c = c .before .before .before .before .before .loop .inv .1 .split .len
 
 returns : tie.Need-returns Inv-loop μ-loop
 returns c =
-    let t = c .before .before .before .before .loop .inv in
-    (t, λ b. ap (inRange largest) (sym (up-value t (c .before .before .before .before .before .pre .0) b)) ∙ sym (c .before .sum-fits-at .ensures .0) ∙ not-true _ (c .if1 .taken))
+    let q = c .before .before .before .before .before in
+    let k = c .before .before .before .from-bottom .result in
+    let l = q .before .args .a .now in
+    let d = q .before .args .d in
+    let here : k ≡ d + q .loop .t = c .before .before .before .from-bottom .ensures in (
+      subst (AccumulatedTo d l (q .loop .a)) (sym here) (q .loop .inv .1),
+      λ short.
+          ap (inRange largest) (sym (up-value k (q .before .pre .0) (omega arith) (omega arith) (q .loop .inv .1) here))
+          ∙ sym (c .before .sum-fits-at .ensures .0)
+          ∙ not-true _ (c .if1 .taken),
+    )
 
 -- the test passed: the value is in range
-passed : (c : tie.Else1 Inv-loop μ-loop) → inRange largest (plusAt (c .before .before .before .before .loop .a) (c .before .before .before .before .loop .i) (c .before .before .before .before .before .args .d)) ≡ true
+passed : (c : tie.Else1 Inv-loop μ-loop) → inRange largest (plusAt (c .before .before .before .before .before .loop .a) (c .before .before .before .from-bottom .result) (c .before .before .before .before .before .before .args .d)) ≡ true
 passed c = sym (c .before .sum-fits-at .ensures .0) ∙ not-false _ (c .if1 .left)
 
 add-at-requires : tie.Need-add-at-requires Inv-loop μ-loop
-add-at-requires c κs = (
-  c .before .before .before .before .before .loop .inv .from,
-  c .before .before .before .before .loop-test .taken,
-  range-fits _ (passed (c .before)),
-)
+add-at-requires c κs = (omega arith, omega arith, range-fits _ (passed (c .before)))
 
-add-i : tie.Need-add-i Inv-loop μ-loop
-add-i c = omega arith
+add-t : tie.Need-add-t Inv-loop μ-loop
+add-t c = omega arith
 
 loop-less : tie.Need-loop-less Inv-loop μ-loop
 loop-less c = omega arith
 
 loop-again : tie.Need-loop-again Inv-loop μ-loop
 loop-again c =
-    rw (c .before .add-at .ensures)
-    (up-turn (c .before .before .before .before .before .before .before .loop .inv)
-    (c .before .before .before .before .before .before .before .before .pre .0)
-    (omega arith)
-    (passed (c .before .before .before))
-    (c .before .before .before .before .sum-fits-at .ensures .1))
+    let g = c .before .before .before in
+    let t = g .before .before .before .before .before in
+    let k = g .before .before .before .from-bottom .result in (
+      omega arith,
+      rw (c .before .add-at .ensures)
+          (up-turn k (t .before .pre .0) (omega arith) (omega arith) (t .loop .inv .1) _ (omega arith) (omega arith) (passed g) (g .before .sum-fits-at .ensures .1)),
+    )
 
 same-length-2 : tie.Need-same-length-2 Inv-loop μ-loop
-same-length-2 c = c .before .loop .inv .split .len
+same-length-2 c = c .before .loop .inv .1 .split .len
 
 returns-2 : tie.Need-returns-2 Inv-loop μ-loop
-returns-2 c = (c .before .loop .inv, λ b. absurd (ended c b))
-  where
-    ended : (c : tie.After-loop Inv-loop μ-loop) → c .before .loop .i < length (c .before .before .args .a .now) → ⊥
-    ended c b = omega arith
+returns-2 c =
+    let p = c .before .before .args in
+    let end : p .d + c .before .loop .t ≡ length (p .a .now) = omega arith in (
+      subst (AccumulatedTo (p .d) (p .a .now) (c .before .loop .a)) end (c .before .loop .inv .1),
+      λ short. absurd (lt-irrefl (length (p .a .now)) short),
+    )
 
 pub accumulate-up-spec : {M : Type 1} → statement M
 accumulate-up-spec =
@@ -73,12 +88,14 @@ accumulate-up-spec =
     (tie.spec
     Inv-loop
     μ-loop
+    sub-turns
     loop-holds
+    from-bottom-requires
     sum-fits-at-requires
     same-length
     returns
     add-at-requires
-    add-i
+    add-t
     loop-less
     loop-again
     same-length-2

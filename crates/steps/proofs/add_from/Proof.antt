@@ -1,6 +1,6 @@
 -- `steps::add_from` meets its contract: the invariant is the split at i.
 use mathlib.Core.Path.{_≡_, refl, sym}
-use Prim.Native.Nat.{_-_, _≤_}
+use Prim.Native.Nat.{_+_, _-_, _≤_}
 use native.Mathlib.Omega.{arith}
 use lib.ListN.{length}
 use Rattle.definitions.specs.Steps.{entries}
@@ -34,7 +34,7 @@ value : (c : tie.In-loop Inv-loop μ-loop) → plusAt (c .before .loop .a) (c .b
 value c =
     let p = c .before .before in
     let i = c .before .loop .i in
-    plus-turn (p .args .d) i (c .before .loop .inv .2) (p .pre .0 .0) (omega arith) (omega arith)
+    plus-turn (c .before .loop .inv .2) (p .args .d) i (p .pre .0 .0) (omega arith) (omega arith) refl
     (summed-from (p .args .d) (p .args .from) (entries (p .args .a .now)) (p .pre .0 .0) (p .pre .0 .1) i (omega arith))
 
 add-at-requires : tie.Need-add-at-requires Inv-loop μ-loop
@@ -56,7 +56,7 @@ loop-again c =
       omega arith,
       omega arith,
       rw (c .before .add-at .ensures)
-          (moved-up (t .before .loop .i) _ (t .before .loop .inv .2) (omega arith) (value t)),
+          (moved-up (t .before .loop .inv .2) (t .before .loop .i) (t .before .loop .i + 1) (omega arith) refl refl _ (value t)),
     )
 
 same-length : tie.Need-same-length Inv-loop μ-loop

@@ -34,7 +34,7 @@ value : (c : tie.In-loop Inv-loop μ-loop) → minusAt (c .before .loop .a) (c .
 value c =
     let p = c .before .before in
     let k = c .before .loop .i - 1 in
-    minus-turn (p .args .d) (c .before .loop .i) (c .before .loop .inv .2) (p .pre .0 .0) (omega arith) (omega arith)
+    minus-turn (c .before .loop .inv .2) (p .args .d) k (p .pre .0 .0) (omega arith) (omega arith) (omega arith)
     (below-end (p .args .d) (p .args .end) (entries (p .args .a .now)) k (omega arith)
     ∙ combed-from (p .args .d) (entries (p .args .a .now)) k (omega arith))
 
@@ -53,11 +53,12 @@ loop-less c = omega arith
 
 loop-again : tie.Need-loop-again Inv-loop μ-loop
 loop-again c =
-    let t = c .before .before .before in (
+    let t = c .before .before .before in
+    let k = t .before .loop .i - 1 in (
       omega arith,
       omega arith,
       rw (c .before .subtract-at .ensures)
-          (moved-down (t .before .loop .i) _ (t .before .loop .inv .2) (omega arith) (omega arith) (value t)),
+          (moved-down (t .before .loop .inv .2) k k (omega arith) (omega arith) refl _ (value t)),
     )
 
 same-length : tie.Need-same-length Inv-loop μ-loop
