@@ -4,6 +4,8 @@ The files are what the trial programs of crates/ must print, and the table of in
 """
 
 import os
+import subprocess
+import sys
 
 import choice
 import refusals
@@ -11,7 +13,8 @@ from lines import partial_line, polynomial_line
 from answers import polynomial
 from whole import divisors_below
 
-CRATES = os.path.join(os.path.dirname(os.path.abspath(__file__)), "..", "crates")
+HERE = os.path.dirname(os.path.abspath(__file__))
+CRATES = os.path.join(HERE, "..", "crates")
 
 
 def indices():
@@ -44,6 +47,12 @@ def refused():
     yield "".join("%d " % c for c in polynomial(1, 105, 2, 49)[1]) + "\n"
 
 
+def printed(script):
+    """What a script of this folder prints by itself."""
+    run = subprocess.run([sys.executable, os.path.join(HERE, script)], capture_output=True, check=True)
+    yield run.stdout.decode()
+
+
 def store(path, parts):
     with open(os.path.join(CRATES, path), "w", newline="\n") as file:
         for part in parts:
@@ -52,6 +61,9 @@ def store(path, parts):
 
 
 if __name__ == "__main__":
+    for topic in ("steps", "shelf"):
+        if os.path.exists(os.path.join(HERE, topic + ".py")):
+            store(topic + "_trial/stdout", printed(topic + ".py"))
     store("trial_table/src/choice.rt", [indices()])
     store("trial_refusals/stdout", refused())
     store("trial_partial/stdout", partials())
