@@ -6,7 +6,7 @@ use std::rc::Rc;
 
 pub const LARGEST: usize = 65535;
 
-/// Below this index polynomials are kept.
+/// Below this index polynomials are kept; above, only the last one.
 const KEPT: usize = 5000;
 
 pub struct Pair {
@@ -17,6 +17,12 @@ pub struct Pair {
 pub struct Reference {
     phi: Vec<usize>,
     pairs: HashMap<usize, Rc<Pair>>,
+    last: (usize, Rc<Pair>),
+}
+
+/// z - 1 and 1.
+fn first() -> Pair {
+    Pair { f: vec![-1, 1], i: vec![1] }
 }
 
 fn narrow(v: i32) -> i16 {
@@ -79,10 +85,13 @@ impl Reference {
                 phi[n] -= phi[d];
             }
         }
-        Reference { phi, pairs: HashMap::new() }
+        Reference { phi, pairs: HashMap::new(), last: (1, Rc::new(first())) }
     }
 
     pub fn pair(&mut self, n: usize) -> Rc<Pair> {
+        if self.last.0 == n {
+            return self.last.1.clone();
+        }
         if let Some(found) = self.pairs.get(&n) {
             return found.clone();
         }
@@ -90,12 +99,13 @@ impl Reference {
         if n < KEPT {
             self.pairs.insert(n, made.clone());
         }
+        self.last = (n, made.clone());
         made
     }
 
     fn made(&mut self, n: usize) -> Pair {
         if n == 1 {
-            return Pair { f: vec![-1, 1], i: vec![1] };
+            return first();
         }
         let p = largest_prime(n);
         let smaller = self.pair(n / p);
