@@ -8,6 +8,7 @@ import subprocess
 import sys
 
 import choice
+import listing
 import refusals
 from lines import partial_line, polynomial_line
 from answers import polynomial
@@ -54,9 +55,9 @@ def printed(script):
 
 
 def store(path, parts):
-    with open(os.path.join(CRATES, path), "w", newline="\n") as file:
+    with open(os.path.join(CRATES, path), "wb") as file:
         for part in parts:
-            file.write(part)
+            file.write(part if isinstance(part, bytes) else part.encode())
     print("made", path)
 
 
@@ -64,6 +65,9 @@ if __name__ == "__main__":
     for topic in ("steps", "shelf"):
         if os.path.exists(os.path.join(HERE, topic + ".py")):
             store(topic + "_trial/stdout", printed(topic + ".py"))
+    if os.path.isdir(os.path.join(CRATES, "list")):
+        store("list/stdin", [listing.asked()])
+        store("list/stdout", listing.listing(listing.asked()))
     store("trial_table/src/choice.rt", [indices()])
     store("trial_refusals/stdout", refused())
     store("trial_partial/stdout", partials())
