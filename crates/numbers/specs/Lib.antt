@@ -11,6 +11,7 @@ pub mod Phi
 pub mod Products
 pub mod Apart
 pub mod PhiApart
+pub mod PhiPrime
 pub mod HowMany
 pub mod AtMostFive
 pub mod Lists

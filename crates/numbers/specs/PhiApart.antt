@@ -1,4 +1,4 @@
--- phi(n) = phi(r) t: a prime that is there already multiplies phi by itself, and a first factor 2 by 1.
+-- phi(m) = phi(r) and phi(n) = phi(r) t: a prime that is there already multiplies phi by itself, and a first factor 2 by 1.
 use Prim.Native.Nat.{ℕ, _*_, _<_, _∣_}
 use mathlib.Core.Path.{_≡_, sym, ap, _∙_}
 use native.Mathlib.Nat.{dvd-trans, dvd-mul-left, dvd-mul-right-of-dvd, mul-one, mul-assoc, mul-comm}
@@ -21,7 +21,7 @@ phi-repeats m = by-primes (λ t. ((p : ℕ) → Prime p → p ∣ t → p ∣ m)
         ap phi (sym (mul-assoc m t p))
         ∙ (phi-old (m * t) p P (dvd-mul-right-of-dvd p (h p P (dvd-mul-left p t)) t) ∙ omega (arith, ap (λ x. p * x) (ih (λ q Q d. h q Q (dvd-mul-right-of-dvd q d p)))))
 
-phi-m : (n : ℕ) → phi (mOf n) ≡ phi (rOf n)
+pub phi-m : (n : ℕ) → phi (mOf n) ≡ phi (rOf n)
 phi-m n = go (decDvd 2 n)
   where
     go : Dec (2 ∣ n) → phi (mOf n) ≡ phi (rOf n)

@@ -24,11 +24,19 @@ use Rattle.step_laws.specs.Told.{Told, told-over, told-done}
 use Rattle.polynomial.specs.Halves.{Advanced}
 
 -- ---- the start
-start-later : (kind k : ℕ) → start kind (suc k) ≡ 0ℤ
+pub start-later : (kind k : ℕ) → start kind (suc k) ≡ 0ℤ
 unfolding start constant -ˢ ⊖
 start-later kind k = go (eqb kind 1)
   where
     go : (b : Bool) → cond b 𝟙 (-ˢ 𝟙) (suc k) ≡ 0ℤ
+    go true = refl
+    go false = refl
+
+pub start-first : (kind : ℕ) → natAbs (start kind 0) ≡ 1
+unfolding start constant -ˢ ⊖
+start-first kind = go (eqb kind 1)
+  where
+    go : (b : Bool) → natAbs (cond b 𝟙 (-ˢ 𝟙) 0) ≡ 1
     go true = refl
     go false = refl
 
@@ -76,8 +84,8 @@ unfolding entries
 stays-inside s d b l h u t k =
     by-order k (length l)
     (λ in′. by-order k d
-      (λ low. rw (getD-stepList-below s d l k low in′) (NatL.le-trans (h k) u))
-      (λ high. rw (getD-stepList s d l k in′) (range-in largest _ (not-over-each s d l largest t k high in′))))
+    (λ low. rw (getD-stepList-below s d l k low in′) (NatL.le-trans (h k) u))
+    (λ high. rw (getD-stepList s d l k in′) (range-in largest _ (not-over-each s d l largest t k high in′))))
     (λ out. rw (List·getD-eq-default (stepList s d l) 0ℤ {n = k} (omega (arith, length-stepList s d l))) (omega arith))
 
 -- what a step's answer tells
@@ -90,7 +98,7 @@ advanced s d b l m code one small h u e f =
       leaves = λ t. f ∙ leaves-done s d l one small (sym told ∙ t);
       bounded = λ t. rw (f ∙ leaves-done s d l one small (sym told ∙ t)) (stays-inside s d b l h u (sym told ∙ t));
       inside = NatL.le-refl largest;
-      len = ap length f ∙ leaves-length s d l
+      len = ap length f ∙ leaves-length s d l;
     }
   where
     told : not (eqb code DONE) ≡ stepOver largest s d l

@@ -4,3 +4,7 @@ pub mod Shaping
 pub mod Parts
 pub mod Spreading
 pub mod Advancing
+pub mod Turning
+pub mod Running
+pub mod Stopping
+pub mod Growing

@@ -9,17 +9,11 @@ use mir.Val.{SFits}
 use mir.Facts.{toZ-ofZ}
 use Rattle.definitions.specs.Integers.{⊖}
 use Rattle.definitions.specs.Steps.{largest}
-use Rattle.step_laws.specs.Signed.{mag-abs}
+use Rattle.step_laws.specs.Signed.{mag-abs, abs-⊖}
 use Rattle.step_laws.specs.Machine.{seen}
 
-pub abs-neg : (v : ℤ) → natAbs (⊖ v) ≡ natAbs v
-unfolding ⊖
-abs-neg (pos zero) = refl
-abs-neg (pos (suc n)) = refl
-abs-neg (negsuc n) = refl
-
 pub neg-fits : (v : ℤ) → natAbs v ≤ largest → SFits w64 (⊖ v)
-neg-fits v h = record { sfits = omega (arith, mag-abs (⊖ v), abs-neg v) }
+neg-fits v h = record { sfits = omega (arith, mag-abs (⊖ v), abs-⊖ v) }
 
 -- a machine number that was read is itself
 module _ (v : ℤ) (f : mag v < 2 ^ 63) where

@@ -8,7 +8,8 @@ use lib.ListN.{length}
 use lib.IntN.{ℤ}
 use Rattle.definitions.specs.Steps.{Sort, entries, largest, stepOver, stepList}
 use Rattle.definitions.specs.KeptHalf.{halfDegree, keptHalf, additionsAfter}
-use Rattle.definitions.specs.Requests.{divisorsDue, nextDivisor, overAt, overAmong}
+use Rattle.definitions.specs.Requests.{divisorsDue, nextDivisor, overAt, overAmong, zeros}
+use Rattle.numbers.specs.Apart.{OddSquarefree}
 use Rattle.step_laws.specs.Bound.{Bounded}
 use Rattle.polynomial.specs.Walks.{Stands, taken, walkAt}
 use Rattle.polynomial.specs.declared.walk.Walk.{Walk}
@@ -50,3 +51,15 @@ pub record Ran (kind r j : ℕ) (m : List ℤ) (h : Half) : Type 0 where
   pub additions : h .over ≡ false → h .additions ≡ additionsAfter kind r j
   pub due : h .over ≡ false → h .walk .due ≡ divisorsDue r - j
   pub len : length m ≡ halfDegree kind r + 1
+
+-- a walk that has taken nothing yet
+pub record Fresh (w : Walk) : Type 0 where
+  pub squarefree : OddSquarefree (w .r)
+  pub small : w .r ≤ 65535
+  pub above : w .r ≢ 1
+  pub here : w ≡ walkAt (w .r) 0
+
+-- the kept half after j divisors, or zeros
+pub record Made (kind r j : ℕ) (m : List ℤ) (h : Half) : Type 0 where
+  pub ran : Ran kind r j m h
+  pub zeroed : h .over ≡ true → m ≡ zeros (halfDegree kind r + 1)

@@ -11,3 +11,4 @@ pub mod Searching
 pub mod Walks
 pub mod Walking
 pub mod Halves
+pub mod Growth

@@ -9,9 +9,9 @@ use Rattle.definitions.specs.Integers.{⊖, 0ℤ}
 use Rattle.definitions.specs.Series.{Series}
 use Rattle.definitions.specs.Steps.{entries, largest}
 
--- every entry can be negated
-abbrev pub InRange : List ℤ → Type 0
-InRange l = (i : ℕ) → natAbs (entries l i) ≤ largest
+-- each of the first n entries can be negated
+abbrev pub InRange : ℕ → List ℤ → Type 0
+InRange n l = (i : ℕ) → i < n → natAbs (entries l i) ≤ largest
 
 -- the upper half of n entries mirrors the lower
 unfoldable pub mirroredUp : Bool → ℕ → Series → Series

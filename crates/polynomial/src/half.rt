@@ -3,18 +3,18 @@ use super::walk::Next;
 use super::walk::Walk;
 use steps::Sort;
 use steps::Step;
-ghost use Prim.Native.Nat.{ℕ, _+_, _≤_, _<_};
+ghost use Prim.Native.Nat.{ℕ, _+_, _-_, _≤_, _<_};
 ghost use mathlib.Core.Path.{_≡_};
 ghost use mathlib.Core.Bool.{cond, not};
 ghost use lib.Dec.{eqb};
 ghost use lib.ListN.{length};
 ghost use Rattle.definitions.specs.Series.{firsts};
 ghost use Rattle.definitions.specs.Steps.{comb, accumulate, entries, largest};
-ghost use Rattle.definitions.specs.KeptHalf.{start, keptHalf};
+ghost use Rattle.definitions.specs.KeptHalf.{halfDegree, start, keptHalf};
 ghost use Rattle.definitions.specs.Requests.{divisorsDue};
 ghost use Rattle.step_laws.specs.Bound.{Bounded};
 ghost use Rattle.steps.specs.Sorts.{sortMeans};
-ghost use Rattle.polynomial.specs.Halves.{Advanced, Turned, Ran, Standing};
+ghost use Rattle.polynomial.specs.Halves.{Advanced, Turned, Ran, Standing, Fresh, Made};
 ghost use Rattle.polynomial.specs.Walks.{walkAt};
 
 // What a step came to: a value out of range, or the bound of the magnitudes after it.
@@ -62,6 +62,13 @@ fn sort_for(kind: u64, plus: bool) -> Sort
     }
 }
 
+// The additions of a step of size d on n entries.
+fn count_of(n: u64, d: u64) -> u64
+    ensures { λ r. ⌜ r ≡ n - d ⌝ }
+{
+    if d < n { n - d } else { 0 }
+}
+
 // The next divisor's step.
 fn turn(a: &mut [i64], walk: Walk, kind: u64, bound: u64) -> Took
     requires { ⌜ Standing kind walk bound (now a) × (0 < walk .due) ⌝ }
@@ -77,7 +84,7 @@ fn turn(a: &mut [i64], walk: Walk, kind: u64, bound: u64) -> Took
             let moved = advance(a, sort, size, bound);
             Took {
                 over: moved.over,
-                count: if size < n { n - size } else { 0 },
+                count: count_of(n, size),
                 bound: moved.bound,
                 walk: after,
             }
@@ -136,4 +143,17 @@ pub(crate) fn begin(a: &mut [i64], kind: u64)
     super::shape::clear(a);
     let first = first_of(kind);
     a[0] = first;
+}
+
+// The kept half after the first j divisors, in a slice of D + 1 entries; zeros where a value would be out of range.
+pub(crate) fn make(a: &mut [i64], walk: Walk, kind: u64, j: u64) -> Half
+    requires { ⌜ Fresh walk × (length (now a) ≡ halfDegree kind (walk .r) + 1) × (j ≤ divisorsDue (walk .r)) ⌝ }
+    ensures { λ r. ⌜ Made kind (walk .r) j (now (a .exit)) r ⌝ }
+{
+    begin(a, kind);
+    let ran = run(a, walk, kind, j);
+    if ran.over {
+        super::shape::clear(a);
+    }
+    ran
 }

@@ -24,7 +24,7 @@ pub(crate) fn clear(a: &mut [i64])
 
 // The upper half from the lower: entry N - i is entry i, or its negative.
 pub(crate) fn mirror(a: &mut [i64], negate: bool)
-    requires { ⌜ InRange (now a) ⌝ }
+    requires { ⌜ InRange ((length (now a) + 1) / 2) (now a) ⌝ }
     ensures { λ _. ⌜ now (a .exit) ≡ firsts (length (now (a .entry))) (mirroredUp negate (length (now (a .entry))) (entries (now (a .entry)))) ⌝ }
 {
     let n = a.len();
@@ -64,7 +64,7 @@ fn negate_to(a: &mut [i64], k: usize, i: usize)
 
 // The entries at odd places negated.
 pub(crate) fn alternate(a: &mut [i64])
-    requires { ⌜ InRange (now a) ⌝ }
+    requires { ⌜ InRange (length (now a)) (now a) ⌝ }
     ensures { λ _. ⌜ now (a .exit) ≡ firsts (length (now (a .entry))) (alternate (entries (now (a .entry)))) ⌝ }
 {
     let n = a.len();
@@ -77,7 +77,7 @@ pub(crate) fn alternate(a: &mut [i64])
 
 // From r on, the negatives of the entries r before.
 pub(crate) fn copy_from(a: &mut [i64], r: usize)
-    requires { ⌜ InRange (now a) × (1 ≤ r) × (r ≤ length (now a)) × (length (now a) ≤ r + r) ⌝ }
+    requires { ⌜ InRange (length (now a) - r) (now a) × (1 ≤ r) × (r ≤ length (now a)) × (length (now a) ≤ r + r) ⌝ }
     ensures { λ _. ⌜ now (a .exit) ≡ firsts (length (now (a .entry))) (copiedFrom r (entries (now (a .entry)))) ⌝ }
 {
     let n = a.len();

@@ -38,6 +38,10 @@ abs-neg (pos zero) = refl
 abs-neg (pos (suc n)) = refl
 abs-neg (negsuc n) = refl
 
+pub abs-⊖ : (a : ℤ) → natAbs (⊖ a) ≡ natAbs a
+unfolding ⊖
+abs-⊖ a = abs-neg a
+
 pub abs-⊕ : (a b : ℤ) → natAbs (a ⊕ b) ≤ natAbs a + natAbs b
 unfolding _⊕_
 abs-⊕ a b = abs-sum a b

@@ -24,7 +24,7 @@ loop-holds c = (omega arith, omega arith, starts (c .args .a .now) 1 (λ k h. le
 negate-to-requires : tie.Need-negate-to-requires Inv-loop μ-loop
 negate-to-requires c κs =
     let q = c .before .before in
-    (omega arith, omega arith, rw (alternate-read (entries (q .before .args .a .now)) (q .loop .inv .2) (q .loop .inv .1) (omega arith)) (q .before .pre _))
+    (omega arith, omega arith, rw (alternate-read (entries (q .before .args .a .now)) (q .loop .inv .2) (q .loop .inv .1) (omega arith)) (q .before .pre _ (omega arith)))
 
 add-i : tie.Need-add-i Inv-loop μ-loop
 add-i c = omega arith

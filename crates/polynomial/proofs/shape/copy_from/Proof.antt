@@ -28,7 +28,7 @@ sub-negate-to c = omega arith
 negate-to-requires : tie.Need-negate-to-requires Inv-loop μ-loop
 negate-to-requires c κs =
     let q = c .before .before in
-    (omega arith, omega arith, rw (copy-read (q .before .args .r) (entries (q .before .args .a .now)) (q .loop .inv .3) (q .loop .inv .1) (omega arith) (q .before .pre .3)) (q .before .pre .0 _))
+    (omega arith, omega arith, rw (copy-read (q .before .args .r) (entries (q .before .args .a .now)) (q .loop .inv .3) (q .loop .inv .1) (omega arith) (q .before .pre .3)) (q .before .pre .0 _ (omega arith)))
 
 add-i : tie.Need-add-i Inv-loop μ-loop
 add-i c = omega arith

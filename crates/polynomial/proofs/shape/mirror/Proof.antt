@@ -34,7 +34,7 @@ sub-k-2 c = omega arith
 turn-to-requires : tie.Need-turn-to-requires Inv-loop μ-loop
 turn-to-requires c κs =
     let q = c .before .before in
-    (omega arith, omega arith, rw (mirror-read (q .before .args .negate) (entries (q .before .args .a .now)) (q .loop .inv .3) (q .loop .inv .1) (omega arith)) (q .before .pre _))
+    (omega arith, omega arith, rw (mirror-read (q .before .args .negate) (entries (q .before .args .a .now)) (q .loop .inv .3) (q .loop .inv .1) (omega arith)) (q .before .pre _ (omega arith)))
 
 add-i-2 : tie.Need-add-i-2 Inv-loop μ-loop
 add-i-2 c = omega arith
