@@ -8,3 +8,4 @@ pub mod Turning
 pub mod Running
 pub mod Stopping
 pub mod Growing
+pub mod Even

@@ -1,12 +1,13 @@
 // From the lower half for r to the polynomial of m, in place.
 use super::shape;
-ghost use Prim.Native.Nat.{ℕ, _+_, _*_, _-_, _<_, _≤_};
+ghost use Prim.Native.Nat.{ℕ, _+_, _*_, _-_, _≤_};
 ghost use mathlib.Core.Path.{_≡_};
-ghost use mathlib.Core.Bool.{cond};
-ghost use lib.Dec.{eqb};
-ghost use lib.ListN.{length, set};
+ghost use mathlib.Core.Bool.{cond, true};
+ghost use lib.ListN.{length};
 ghost use Rattle.definitions.specs.Series.{firsts, alternate};
-ghost use Rattle.definitions.specs.Polynomials.{polynomial, degree, F, I};
+ghost use Rattle.definitions.specs.Polynomials.{polynomial, degree, I};
+ghost use Rattle.definitions.specs.Numbers.{phi};
+ghost use Rattle.definitions.specs.Requests.{knownKind};
 ghost use Rattle.polynomial.specs.Growth.{Lower, FirstCopy};
 
 // r odd: the upper half mirrors the lower, for I with the sign changed.
@@ -43,4 +44,44 @@ fn even_i(a: &mut [i64], r: u64, top: usize)
 {
     turned(&mut a[..top], 2, r);
     second(a, r, top);
+}
+
+// The polynomial of m, which is r or, where n is even, 2 r.
+pub(crate) fn grow(a: &mut [i64], kind: u64, r: u64, free: u64, even: bool)
+    requires { ⌜ Lower kind r (now a) × (knownKind kind ≡ true) × (free ≡ phi r) × (r ≤ 65535) × (length (now a) ≡ degree kind (cond even (2 * r) r) + 1) ⌝ }
+    ensures { λ _. ⌜ now (a .exit) ≡ firsts (length (now (a .entry))) (polynomial kind (cond even (2 * r) r)) ⌝ }
+{
+    if !even {
+        odd(a, kind, r);
+        return;
+    }
+    if kind == 1 {
+        turned(a, kind, r);
+        return;
+    }
+    let top = (r - free + 1) as usize;
+    even_i(a, r, top);
+}
+
+// The first coefficient of F(1), F(2), I(1) and I(2).
+fn first_of(kind: u64, even: bool) -> i64
+    requires { ⌜ knownKind kind ≡ true ⌝ }
+    ensures { λ x. ⌜ x ≡ polynomial kind (cond even 2 1) 0 ⌝ }
+{
+    if kind == 1 {
+        if even { 1 } else { -1 }
+    } else {
+        if even { -1 } else { 1 }
+    }
+}
+
+// F(1), F(2), I(1) and I(2): the first coefficient, and 1 as the last.
+pub(crate) fn tiny(a: &mut [i64], kind: u64, even: bool)
+    requires { ⌜ (knownKind kind ≡ true) × (length (now a) ≡ degree kind (cond even 2 1) + 1) ⌝ }
+    ensures { λ _. ⌜ now (a .exit) ≡ firsts (length (now (a .entry))) (polynomial kind (cond even 2 1)) ⌝ }
+{
+    let last = a.len() - 1;
+    let first = first_of(kind, even);
+    a[0] = first;
+    a[last] = 1;
 }
