@@ -62,9 +62,8 @@ def store(path, parts):
 
 
 if __name__ == "__main__":
-    for topic in ("steps", "shelf"):
-        if os.path.exists(os.path.join(HERE, topic + ".py")):
-            store(topic + "_trial/stdout", printed(topic + ".py"))
+    store("steps_trial/stdout", printed("steps.py"))
+    store("shelf_trial/stdout", printed("shelf.py"))
     if os.path.isdir(os.path.join(CRATES, "list")):
         store("list/stdin", [listing.asked()])
         store("list/stdout", listing.listing(listing.asked()))

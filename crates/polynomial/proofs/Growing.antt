@@ -165,11 +165,11 @@ alternated n f l x e q =
     ∙ firsts-same n (alternate (entries l)) (alternate f) (λ i h. alternate-same (entries l) f i (front-entry n f l e i h))
 
 -- ---- the first entries of a list alone
-half-within : (kind r : ℕ) → halfDegree kind r ≤ degree kind r
+pub half-within : (kind r : ℕ) → halfDegree kind r ≤ degree kind r
 unfolding halfDegree
 half-within kind r = omega arith
 
-pub lower-front : (kind r top : ℕ) (l : List ℤ) → top ≡ degree kind r + 1 → Lower kind r l → Lower kind r (take top l)
+pub lower-front : (kind r top : ℕ) (l : List ℤ) → degree kind r + 1 ≤ top → Lower kind r l → Lower kind r (take top l)
 unfolding entries
 lower-front kind r top l e w =
     record {

@@ -9,3 +9,5 @@ pub mod Running
 pub mod Stopping
 pub mod Growing
 pub mod Even
+pub mod Laying
+pub mod Making

@@ -12,3 +12,4 @@ pub mod Walks
 pub mod Walking
 pub mod Halves
 pub mod Growth
+pub mod Wholes

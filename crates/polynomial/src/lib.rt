@@ -6,6 +6,7 @@ mod half;
 mod shape;
 mod stop;
 mod walk;
+mod whole;
 
 use answers::Stop;
 ghost use mathlib.Core.Path.{_≡_};

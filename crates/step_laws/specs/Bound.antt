@@ -1,13 +1,12 @@
 -- How far a step can make the entries grow: a comb at most doubles the largest magnitude b, and an accumulate at size d makes entry i
 -- at most b (i / d + 1). So a step whose growth stays within the range can't be OVER, and needs no test.
-use mathlib.Core.Path.{_≡_, refl, sym, _∙_, ap}
+use mathlib.Core.Path.{_≡_}
 use mathlib.Core.Bool.{true, false}
 use mathlib.Core.List.{List}
 use Prim.Native.Nat.{ℕ, zero, suc, _+_, _*_, _-_, _/_, _<_, _≤_}
 use native.Mathlib.Nat.{not-suc-le-zero, le-trans, mul-add, mul-one, mul-le-mul-left, div-eq-of-lt, div-eq-sub-div, le-div-iff-mul-le, div-mul-le-self}
 use native.Mathlib.Omega.{arith}
-use borrow.Author.Tests.{lt-ltb, le-ltb}
-use lib.ListN.{length, getD, List·getD-eq-default}
+use lib.ListN.{length, List·getD-eq-default}
 use lib.IntN.{ℤ, natAbs}
 use Rattle.definitions.specs.Integers.{0ℤ}
 use Rattle.definitions.specs.Series.{Series}

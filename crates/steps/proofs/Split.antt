@@ -1,7 +1,7 @@
 -- A pass takes one entry a turn: a store of f's value at i moves the split up, one of g's value below i moves it down.
-use mathlib.Core.Path.{_≡_, refl, sym, _∙_, ap, ap₂}
+use mathlib.Core.Path.{_≡_, sym, _∙_, ap, ap₂}
 use mathlib.Core.List.{List}
-use Prim.Native.Nat.{ℕ, zero, suc, _+_, _-_, _<_, _≤_}
+use Prim.Native.Nat.{ℕ, _+_, _-_, _<_, _≤_}
 use native.Mathlib.Decide.{ℕ-discrete}
 use native.Mathlib.Omega.{arith}
 use lib.ListN.{length, getD, set, length-set}
@@ -9,12 +9,13 @@ use lib.Seq.{getD-set-same, getD-set-other}
 use lib.IntN.{ℤ}
 use Rattle.definitions.specs.Integers.{0ℤ, _⊕_, _⊝_}
 use Rattle.definitions.specs.Series.{Series, firsts}
+use Rattle.definitions.specs.Steps.{comb, accumulate}
 use Rattle.step_laws.specs.Tests.{by-order}
 use Rattle.step_laws.specs.Firsts.{is-firsts}
-use Rattle.steps.specs.Passes.{Split, All, plusAt, minusAt}
+use Rattle.steps.specs.Passes.{Split, All, turnAt}
 
 -- an entry after a store at j: what was stored, or what stood there
-getD-set-by : (l : List ℤ) (j : ℕ) (v : ℤ) → j < length l → (k : ℕ) (x : ℤ) → (k ≡ j → v ≡ x) → ((k ≡ j → ⊥) → getD l k 0ℤ ≡ x) → getD (set l j v) k 0ℤ ≡ x
+pub getD-set-by : (l : List ℤ) (j : ℕ) (v : ℤ) → j < length l → (k : ℕ) (x : ℤ) → (k ≡ j → v ≡ x) → ((k ≡ j → ⊥) → getD l k 0ℤ ≡ x) → getD (set l j v) k 0ℤ ≡ x
 getD-set-by l j v b k x same other =
     elim (ℕ-discrete k j) [
       | yes e ↦ ap (λ m. getD (set l j v) m 0ℤ) e ∙ getD-set-same l j v 0ℤ b ∙ same e
@@ -45,13 +46,13 @@ module _ {l : List ℤ} {n i : ℕ} {f g : Series} (s : Split l n i f g) (k j : 
       never : {x : ℕ} → x ≡ k → x < j → ⊥
       never q h = omega arith
 
--- what a turn computes
+-- what a turn computes: the older entry of a sum is done already, those of a difference are both still to be done
 module _ {l : List ℤ} {n i : ℕ} {f g : Series} (s : Split l n i f g) (d k : ℕ) (one : 1 ≤ d) (h : d ≤ k) (b : k < n) where
-  pub plus-turn : k ≡ i → f k ≡ g k ⊕ f (k - d) → plusAt l k d ≡ f k
-  plus-turn here e = ap₂ _⊕_ (s .above k (omega arith) b) (s .below (k - d) (omega arith) (omega arith)) ∙ sym e
+  pub plus-turn : i ≤ k → k < i + d → f k ≡ g k ⊕ f (k - d) → turnAt accumulate d l k ≡ f k
+  plus-turn low high e = ap₂ _⊕_ (s .above k low b) (s .below (k - d) (omega arith) (omega arith)) ∙ sym e
 
-  pub minus-turn : i ≡ k + 1 → g k ≡ f k ⊝ f (k - d) → minusAt l k d ≡ g k
-  minus-turn here e = ap₂ _⊝_ (s .below k (omega arith) b) (s .below (k - d) (omega arith) (omega arith)) ∙ sym e
+  pub minus-turn : k < i → g k ≡ f k ⊝ f (k - d) → turnAt comb d l k ≡ g k
+  minus-turn low e = ap₂ _⊝_ (s .below k low b) (s .below (k - d) (omega arith) (omega arith)) ∙ sym e
 
 pub all-firsts : {l : List ℤ} {n : ℕ} {f : Series} → All l n f → l ≡ firsts n f
 all-firsts {l} {n} {f} s = is-firsts n f l (s .len) (λ k b. s .above k (omega arith) b)

@@ -2,17 +2,17 @@
 use mathlib.Core.Path.{_≡_, refl, sym, _∙_, ap, subst}
 use mathlib.Core.Bool.{true}
 use mathlib.Core.List.{List}
-use Prim.Native.Nat.{ℕ, _+_, _-_, _<_, _≤_}
+use Prim.Native.Nat.{ℕ, _+_, _<_, _≤_}
 use native.Mathlib.Omega.{arith}
 use lib.ListN.{length, set}
 use lib.IntN.{ℤ}
 use mir.Syntax.{w64}
 use mir.Val.{SFits}
-use Rattle.definitions.specs.Steps.{combed, accumulated, inRange, largest, entries}
+use Rattle.definitions.specs.Steps.{comb, accumulate, combed, accumulated, inRange, largest, entries}
 use Rattle.step_laws.specs.Step.{combed-from}
 use Rattle.step_laws.specs.Summed.{accumulated-from, accumulated-below}
 use Rattle.step_laws.specs.Tests.{by-order}
-use Rattle.steps.specs.Passes.{plusAt, minusAt, CombedTo, AccumulatedTo}
+use Rattle.steps.specs.Passes.{Split, turnAt, CombedTo, AccumulatedTo}
 use Rattle.steps.proofs.Split.{moved-up, moved-down, plus-turn, minus-turn}
 
 -- nothing lies from i on and below i
@@ -37,16 +37,16 @@ module _ (P : ℕ → Type 0) (i k j : ℕ) (here : P k) where
       same s = omega arith
 
 module _ {d : ℕ} {l m : List ℤ} {i : ℕ} (k : ℕ) (one : 1 ≤ d) (h : d ≤ k) (b : k < length l) where
-  pub up-value : AccumulatedTo d l m i → k ≡ i → plusAt m k d ≡ accumulated d (entries l) k
-  up-value t here = plus-turn (t .split) d k one h b here (accumulated-from d (entries l) k one h)
+  pub up-value : AccumulatedTo d l m i → k ≡ i → turnAt accumulate d m k ≡ accumulated d (entries l) k
+  up-value t here = plus-turn (t .split) d k one h b (omega arith) (omega arith) (accumulated-from d (entries l) k one h)
 
-  pub up-turn : AccumulatedTo d l m i → (j : ℕ) → k ≡ i → j ≡ k + 1 → inRange largest (plusAt m k d) ≡ true → SFits w64 (entries m k) → AccumulatedTo d l (set m k (plusAt m k d)) j
+  pub up-turn : AccumulatedTo d l m i → (j : ℕ) → k ≡ i → j ≡ k + 1 → inRange largest (turnAt accumulate d m k) ≡ true → SFits w64 (entries m k) → AccumulatedTo d l (set m k (turnAt accumulate d m k)) j
   unfolding entries
   up-turn t j here next r f =
       record {
         from = omega arith;
         to = omega arith;
-        split = moved-up (t .split) k j b here next (plusAt m k d) (up-value t here);
+        split = moved-up (t .split) k j b here next (turnAt accumulate d m k) (up-value t here);
         inside =
             one-up (λ x. inRange largest (accumulated d (entries l) x) ≡ true) i k j
             (ap (inRange largest) (sym (up-value t here)) ∙ r)
@@ -58,16 +58,16 @@ module _ {d : ℕ} {l m : List ℤ} {i : ℕ} (k : ℕ) (one : 1 ≤ d) (h : d �
             one-up (λ x. SFits w64 (entries l x)) i k j (rw (t .split .above k (omega arith) b) at f) here next d (t .fit);
       }
 
-  pub down-value : CombedTo d l m i → i ≡ k + 1 → minusAt m k d ≡ combed d (entries l) k
-  down-value t here = minus-turn (t .split) d k one h b here (combed-from d (entries l) k h)
+  pub down-value : CombedTo d l m i → i ≡ k + 1 → turnAt comb d m k ≡ combed d (entries l) k
+  down-value t here = minus-turn (t .split) d k one h b (omega arith) (combed-from d (entries l) k h)
 
-  pub down-turn : CombedTo d l m i → (j : ℕ) → i ≡ k + 1 → j ≡ k → inRange largest (minusAt m k d) ≡ true → SFits w64 (entries m k) → CombedTo d l (set m k (minusAt m k d)) j
+  pub down-turn : CombedTo d l m i → (j : ℕ) → i ≡ k + 1 → j ≡ k → inRange largest (turnAt comb d m k) ≡ true → SFits w64 (entries m k) → CombedTo d l (set m k (turnAt comb d m k)) j
   unfolding entries
   down-turn t j here next r f =
       record {
         from = omega arith;
         to = omega arith;
-        split = moved-down (t .split) k j b here next (minusAt m k d) (down-value t here);
+        split = moved-down (t .split) k j b here next (turnAt comb d m k) (down-value t here);
         inside =
             one-down (λ x. inRange largest (combed d (entries l) x) ≡ true) i k j
             (ap (inRange largest) (sym (down-value t here)) ∙ r)
@@ -80,25 +80,33 @@ module _ {d : ℕ} {l m : List ℤ} {i : ℕ} (k : ℕ) (one : 1 ≤ d) (h : d �
             (t .fit);
       }
 
-module _ (d : ℕ) (l : List ℤ) (h : d ≤ length l) (i : ℕ) where
-  pub up-start : i ≡ d → AccumulatedTo d l l i
+-- before the first turn
+module _ (d : ℕ) (l : List ℤ) (i : ℕ) where
+  pub split-up : i ≡ d → Split l (length l) i (accumulated d (entries l)) (entries l)
   unfolding entries
-  up-start e =
+  split-up e =
+      record { len = refl; below = λ k b s. sym (accumulated-below d (entries l) k (omega arith)); above = λ k b s. refl }
+
+  pub split-down : i ≡ length l → Split l (length l) i (entries l) (combed d (entries l))
+  unfolding entries
+  split-down e = record { len = refl; below = λ k b s. refl; above = λ k b s. none i k b (omega arith) }
+
+  pub up-start : d ≤ length l → i ≡ d → AccumulatedTo d l l i
+  up-start h e =
       record {
         from = omega arith;
         to = omega arith;
-        split = record { len = refl; below = λ k b s. sym (accumulated-below d (entries l) k (omega arith)); above = λ k b s. refl };
+        split = split-up e;
         inside = λ k b s. none d k b (omega arith);
         fit = λ k b s. none d k b (omega arith);
       }
 
-  pub down-start : i ≡ length l → CombedTo d l l i
-  unfolding entries
-  down-start e =
+  pub down-start : d ≤ length l → i ≡ length l → CombedTo d l l i
+  down-start h e =
       record {
         from = omega arith;
         to = omega arith;
-        split = record { len = refl; below = λ k b s. refl; above = λ k b s. none i k b (omega arith) };
+        split = split-down e;
         inside = λ k b s. none i k b (omega arith);
         fit = λ k b s. none i k b (omega arith);
       }

@@ -20,7 +20,7 @@ slice-aggregate-turned c = let p = c .before in sym (length-take-le (p .args .to
 turned-requires : tie.Need-turned-requires
 turned-requires c κs =
     let p = c .before in
-    (lower-front 2 (p .args .r) (p .args .top) (p .args .a .now) (p .pre .1) (p .pre .0), length-take-le (p .args .top) (p .args .a .now) (omega arith) ∙ p .pre .1)
+    (lower-front 2 (p .args .r) (p .args .top) (p .args .a .now) (omega arith) (p .pre .0), length-take-le (p .args .top) (p .args .a .now) (omega arith) ∙ p .pre .1)
 
 second-requires : tie.Need-second-requires
 second-requires c κs =
