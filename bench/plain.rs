@@ -60,8 +60,8 @@ fn walk(primes: &[usize]) -> Vec<(usize, bool)> {
     found
 }
 
-/// The lower half, then the upper; answers the additions.
-fn squarefree(inverse: bool, primes: &[usize], a: &mut [i64]) -> Result<u64, Overflow> {
+/// The lower half, then the upper; answers the additions and the height, which is the lower half's.
+fn squarefree(inverse: bool, primes: &[usize], a: &mut [i64]) -> Result<(u64, u64), Overflow> {
     let top = a.len() - 1;
     let half = top / 2 + 1;
     a[..half].fill(0);
@@ -82,7 +82,11 @@ fn squarefree(inverse: bool, primes: &[usize], a: &mut [i64]) -> Result<u64, Ove
     } else {
         high.iter_mut().zip(turned).for_each(|(h, l)| *h = *l);
     }
-    Ok(additions)
+    Ok((additions, height(low)))
+}
+
+fn height(a: &[i64]) -> u64 {
+    a.iter().map(|c| c.unsigned_abs()).max().unwrap_or(0)
 }
 
 fn spread(a: &mut [i64], top: usize, t: usize) {
@@ -114,7 +118,7 @@ fn made(kind: u64, n: u64, h: i64, buf: &mut [i64]) -> Result<Answer, Refused> {
         return Err(Refused(4, top));
     }
     let a = &mut buf[..top + 1];
-    let additions = if r == 1 {
+    let (additions, height) = if r == 1 {
         let two: &[i64] = match (inverse, m) {
             (false, 1) => &[-1, 1],
             (false, _) => &[1, 1],
@@ -122,10 +126,10 @@ fn made(kind: u64, n: u64, h: i64, buf: &mut [i64]) -> Result<Answer, Refused> {
             (true, _) => &[-1, 1],
         };
         a[..two.len()].copy_from_slice(two);
-        0
+        (0, 1)
     } else {
         let own = if inverse { r - phi } else { phi };
-        let Ok(additions) = squarefree(inverse, &primes, &mut a[..own + 1]) else {
+        let Ok(told) = squarefree(inverse, &primes, &mut a[..own + 1]) else {
             a.fill(0);
             return Err(Refused(5, top));
         };
@@ -138,12 +142,11 @@ fn made(kind: u64, n: u64, h: i64, buf: &mut [i64]) -> Result<Answer, Refused> {
                 }
             }
         }
-        additions
+        told
     };
     if t > 1 {
         spread(a, degree, t);
     }
-    let height = a.iter().map(|c| c.unsigned_abs()).max().unwrap_or(0);
     if height > h as u64 {
         a.fill(0);
         return Err(Refused(6, top));
