@@ -11,3 +11,5 @@ pub mod Growing
 pub mod Even
 pub mod Laying
 pub mod Making
+pub mod Limits
+pub mod Answering

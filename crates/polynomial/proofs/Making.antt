@@ -15,16 +15,16 @@ use lib.Signed.{ltZ}
 use Rattle.definitions.specs.Integers.{0ℤ}
 use Rattle.definitions.specs.Codes.{DONE, OVER, TALL}
 use Rattle.definitions.specs.Series.{firsts}
-use Rattle.definitions.specs.Numbers.{rOf, mOf, phi, divisorsBelow}
+use Rattle.definitions.specs.Numbers.{rOf, listTo, divisorsBelow}
 use Rattle.definitions.specs.Polynomials.{polynomial, degree}
 use Rattle.definitions.specs.Steps.{entries, largest}
-use Rattle.definitions.specs.KeptHalf.{halfDegree, keptHalf, additionsAfter, additions}
+use Rattle.definitions.specs.KeptHalf.{halfDegree, keptHalf, additionsAfter, additions, sumOf}
 use Rattle.definitions.specs.Requests.{divisorsDue, overAmong, zeros}
 use Rattle.definitions.specs.Answer.{coefficients, heightOf, height, additionsFor}
 use Rattle.numbers.specs.Apart.{r-odd-squarefree}
 use Rattle.numbers.specs.Below.{additions-all}
 use Rattle.cyclotomic.specs.Kept.{kept-all}
-use Rattle.cyclotomic.specs.Heights.{height-half}
+use Rattle.cyclotomic.specs.Heights.{height-half, height-one}
 use Rattle.polynomial.specs.Halves.{Made}
 use Rattle.polynomial.specs.Growth.{Lower}
 use Rattle.polynomial.specs.Wholes.{Ready, Laid, layCode}
@@ -55,7 +55,7 @@ module _ (kind n : ℕ) (a : Apart) (l : List ℤ) (R : Ready kind n a l) (above
           code = sym (ap (λ b. cond b OVER (cond (ltZ lim (pos (height kind n))) TALL DONE)) (sym (made .ran .over) ∙ o));
           leaves = e ∙ ap zeros (rest-length ∙ R .room ∙ add-one (degree kind n));
           additions = λ q. absurd (never q);
-          height = λ q. absurd (never q)
+          height = λ q. absurd (never q);
         }
       where
         never : OVER ≡ DONE → ⊥
@@ -73,7 +73,7 @@ module _ (kind n : ℕ) (a : Apart) (l : List ℤ) (R : Ready kind n a l) (above
             squarefree = r-odd-squarefree n;
             above = above;
             half = λ i b. List·getD-append m (drop (d + 1) l) 0ℤ i (omega (arith, m-length)) ∙ front-entry (halfDegree kind (rOf n) + 1) (polynomial kind (rOf n)) m m-is i b;
-            inside = λ i b. rw (sym (front-entry (halfDegree kind (rOf n) + 1) (polynomial kind (rOf n)) m m-is i b)) (made .ran .inside o i)
+            inside = λ i b. rw (sym (front-entry (halfDegree kind (rOf n) + 1) (polynomial kind (rOf n)) m m-is i b)) (made .ran .inside o i);
           }
 
       pub height-is : (x : ℕ) → x ≡ heightOf (take (d + 1) (m ++ drop (d + 1) l)) → x ≡ height kind n
@@ -87,7 +87,7 @@ module _ (kind n : ℕ) (a : Apart) (l : List ℤ) (R : Ready kind n a l) (above
             code = sym (ap₂ (λ b c. cond b OVER (cond c TALL DONE)) (sym (made .ran .over) ∙ o) t);
             leaves = e ∙ ap zeros (rest-length ∙ R .room ∙ add-one (degree kind n));
             additions = λ q. absurd (never q);
-            height = λ q. absurd (never q)
+            height = λ q. absurd (never q);
           }
         where
           never : TALL ≡ DONE → ⊥
@@ -102,5 +102,18 @@ module _ (kind n : ℕ) (a : Apart) (l : List ℤ) (R : Ready kind n a l) (above
             code = sym (ap₂ (λ b c. cond b OVER (cond c TALL DONE)) (sym (made .ran .over) ∙ o) t);
             leaves = e;
             additions = λ z. made .ran .additions o ∙ additions-all kind (rOf n);
-            height = λ z. q
+            height = λ z. q;
           }
+
+-- ---- r = 1: no step is taken, and the height is 1
+pub laid-one :
+    (kind n : ℕ) (h : ℤ) (x : List ℤ) → 0 < n → rOf n ≡ 1 → ltZ h (pos 1) ≡ false → x ≡ coefficients kind n
+    → Laid kind n h x (record { code = DONE; additions = 0; height = 1 })
+unfolding layCode additionsFor divisorsDue divisorsBelow listTo overAmong additions sumOf
+laid-one kind n h x l o t e =
+    record {
+      code = sym (ap₂ (λ r y. cond (overAmong largest kind r (divisorsDue r)) OVER (cond (ltZ h (pos y)) TALL DONE)) o (height-one kind n l o) ∙ ap (λ b. cond b TALL DONE) t);
+      leaves = e;
+      additions = λ z. sym (ap (additions kind) o);
+      height = λ z. sym (height-one kind n l o);
+    }

@@ -180,3 +180,9 @@ module _
       where
         stop-same : {x y z x′ y′ z′ : ℕ} → x ≡ x′ → y ≡ y′ → z ≡ z′ → _≡_ {A = Stop} (record { code = DONE; degree = x; additions = y; due = z }) (record { code = DONE; degree = x′; additions = y′; due = z′ })
         stop-same p q r i = record { code = DONE; degree = p i; additions = q i; due = r i }
+
+-- what was made by the whole walk, for r
+pub made-here :
+    (n : ℕ) (g : goodIndex n ≡ true) (x : Apart) (e : x ≡ apartOf n) (w : Walk) (o : w ≡ overApart x) (kind : ℕ) (m : List ℤ) (h : Half)
+    → Made kind (w .r) (w .due) m h → Made kind (rOf n) (divisorsDue (rOf n)) m h
+made-here n g x e w o kind m h t = rw (walk-r n g x e w o, walk-due n g x e w o) at t

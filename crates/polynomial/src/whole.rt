@@ -8,7 +8,7 @@ use super::walk::Walk;
 use answers::Answer;
 ghost use Prim.Native.Nat.{ℕ, _+_, _*_, _-_, _≤_, _<_};
 ghost use mathlib.Core.Path.{_≡_};
-ghost use mathlib.Core.Bool.{false};
+ghost use mathlib.Core.Bool.{true, false};
 ghost use mathlib.Core.Logic.{_≢_};
 ghost use lib.ListN.{length};
 ghost use lib.IntN.{pos};
@@ -16,6 +16,9 @@ ghost use lib.Signed.{ltZ};
 ghost use Rattle.definitions.specs.Series.{firsts, spread};
 ghost use Rattle.definitions.specs.Steps.{entries};
 ghost use Rattle.definitions.specs.Numbers.{rOf};
+ghost use Rattle.definitions.specs.Requests.{knownKind, goodIndex};
+ghost use Rattle.polynomial.specs.Held.{apartOf};
+ghost use Rattle.answers.specs.Polynomial as Polynomial;
 ghost use Rattle.polynomial.specs.Wholes.{Ready, Laid};
 ghost use Rattle.polynomial.specs.Growth.{Lower};
 ghost use Rattle.definitions.specs.Answer.{coefficients};
@@ -130,4 +133,29 @@ pub(crate) fn lay(b: &mut [i64], kind: u64, n: u64, a: Apart, h: i64) -> Layout
         };
     }
     lay_more(b, kind, n, a, h)
+}
+
+// The request, once kind, index and limit are good.
+pub(crate) fn answer_in(kind: u64, n: u64, a: Apart, h: i64, buf: &mut [i64]) -> Answer
+    requires { ⌜ (a ≡ apartOf n) × (knownKind kind ≡ true) × (goodIndex n ≡ true) × (ltZ h (pos 1) ≡ false) ⌝ }
+    ensures { λ r. ⌜ r ≡ Polynomial.answer kind n h (length (now (buf .entry))) ⌝ }
+    ensures { λ _. ⌜ now (buf .exit) ≡ Polynomial.leaves kind n h (now (buf .entry)) ⌝ }
+{
+    let degree = super::apart::degree(kind, n, a.phi);
+    if buf.len() as u64 <= degree {
+        return refused(answers::SHORT, degree);
+    }
+    let size = degree as usize + 1;
+    let laid = lay(&mut buf[..size], kind, n, a, h);
+    if laid.code != answers::DONE {
+        return refused(laid.code, degree);
+    }
+    let gain = super::gain::gain_of(kind, n, a.phi);
+    Answer {
+        code: answers::DONE,
+        degree,
+        additions: laid.additions,
+        height: laid.height,
+        gain,
+    }
 }

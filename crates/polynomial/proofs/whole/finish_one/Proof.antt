@@ -13,7 +13,7 @@ degree-requires : tie.Need-degree-requires
 degree-requires c κs = free-le (c .args .kind) (c .args .n) (c .args .a) (c .args .b .now) (c .pre .0)
 
 add-size : tie.Need-add-size
-add-size c = 
+add-size c =
     let p = c .before in
     let t = top-room (p .args .kind) (p .args .n) (p .args .a) (p .args .b .now) (p .pre .0) (c .degree .result) (c .degree .ensures) in
     omega arith
@@ -25,13 +25,13 @@ slice-aggregate-tiny : tie.Need-slice-aggregate-tiny
 slice-aggregate-tiny c = let p = c .before .before in sym (part-length (p .args .kind) (p .args .n) (p .args .a) (p .args .b .now) (p .pre .0) (c .before .degree .result) (c .before .degree .ensures))
 
 tiny-requires : tie.Need-tiny-requires
-tiny-requires c κs = 
+tiny-requires c κs =
     let q = c .before in
     let p = q .before in
     (p .pre .0 .known, part-length (p .args .kind) (p .args .n) (p .args .a) (p .args .b .now) (p .pre .0) (q .degree .result) (q .degree .ensures) ∙ ap (λ d. d + 1) (top-is (p .args .kind) (p .args .n) (p .args .a) (p .args .b .now) (p .pre .0) (q .degree .result) (q .degree .ensures) ∙ ap (degree (p .args .kind)) (sym (tiny-m (p .args .kind) (p .args .n) (p .args .a) (p .args .b .now) (p .pre .0) (p .pre .1)))))
 
 space-requires : tie.Need-space-requires
-space-requires c κs = 
+space-requires c κs =
     let q = c .before .before .before .before in
     let p = q .before in
     (t-pos (p .args .kind) (p .args .n) (p .args .a) (p .args .b .now) (p .pre .0), spaced-length (p .args .kind) (p .args .n) (p .args .a) (p .args .b .now) (p .pre .0) (q .degree .result) (q .degree .ensures) _ (tiny-is (p .args .kind) (p .args .n) (p .args .a) (p .args .b .now) (p .pre .0) (q .degree .result) (q .degree .ensures) (p .pre .1) _ (c .before .before .tiny .ensures)))
@@ -40,7 +40,7 @@ same-length : tie.Need-same-length
 same-length c = search needs
 
 returns : tie.Need-returns
-returns c = 
+returns c =
     let q = c .before .before .before .before .before .before in
     let p = q .before in
     spaced (p .args .kind) (p .args .n) (p .args .a) (p .args .b .now) (p .pre .0) (q .degree .result) (q .degree .ensures) _ (tiny-is (p .args .kind) (p .args .n) (p .args .a) (p .args .b .now) (p .pre .0) (q .degree .result) (q .degree .ensures) (p .pre .1) _ (c .before .before .before .before .tiny .ensures)) _ (c .before .space .ensures)

@@ -10,7 +10,7 @@ use Rattle.polynomial.proofs.whole.space.Statement.{statement}
 use Rattle.polynomial.proofs.whole.space.Tie as tie
 
 returns : tie.Need-returns
-returns c = 
+returns c =
     let l = c .before .args .b .now in
     sym (ap (λ t. firsts (length l) (spread t (entries l))) (c .if1 .taken) ∙ ap (firsts (length l)) (spread-one (entries l)) ∙ firsts-entries l)
 
