@@ -18,13 +18,33 @@ HERE = os.path.dirname(os.path.abspath(__file__))
 CRATES = os.path.join(HERE, "..", "crates")
 
 
+def constant(name, kind, values):
+    """A table of a Rattle program, laid out as its formatter does."""
+    return "\npub const %s: [%s; %d] = [\n" % (name, kind, len(values)) + "".join("    %d,\n" % v for v in values) + "];\n"
+
+
+def counted(name, values):
+    return "pub const %s: usize = %d;\n" % (name, len(values))
+
+
 def indices():
-    chosen = choice.choice()
-    head = (
-        "// The indices above 400 that the table asks for, chosen by second/choice.py and written by second/make.py.\n"
-        "pub const CHOSEN: usize = %d;\n\npub const CHOICE: [u64; %d] = [\n" % (len(chosen), len(chosen))
-    )
-    return head + "".join("    %d,\n" % n for n in chosen) + "];\n"
+    yield "// The indices above 400 that the table asks for, chosen by second/choice.py and written by second/make.py.\n"
+    yield counted("CHOSEN", choice.choice())
+    yield constant("CHOICE", "u64", choice.choice())
+
+
+def columns(prefix, names, rows):
+    for (name, kind), values in zip(names, zip(*rows)):
+        yield constant(prefix + name, kind, values)
+
+
+def asked():
+    yield "// The requests of second/refusals.py, a table for each argument, written by second/make.py.\n"
+    yield counted("ASKED", refusals.POLYNOMIALS)
+    yield from columns("", [("KINDS", "u64"), ("INDICES", "u64"), ("LIMITS", "i64"), ("ROOMS", "usize")], refusals.POLYNOMIALS)
+    yield "\n" + counted("STOPPED", refusals.PARTIALS)
+    names = [("KINDS", "u64"), ("INDICES", "u64"), ("AFTER", "u64"), ("ROOMS", "usize")]
+    yield from columns("STOPPED_", names, refusals.PARTIALS)
 
 
 def table():
@@ -67,7 +87,8 @@ if __name__ == "__main__":
     if os.path.isdir(os.path.join(CRATES, "list")):
         store("list/stdin", [listing.asked()])
         store("list/stdout", listing.listing(listing.asked()))
-    store("trial_table/src/choice.rt", [indices()])
+    store("trial_table/src/choice.rt", indices())
+    store("trial_refusals/src/asked.rt", asked())
     store("trial_refusals/stdout", refused())
     store("trial_partial/stdout", partials())
     store("trial_table/stdout", table())
