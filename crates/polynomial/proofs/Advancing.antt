@@ -79,24 +79,24 @@ leaves-length s d l = go (eqb (stepCode largest s d l) DONE)
     go false = refl
 
 -- what is in range stays so where no value leaves it
-pub stays-inside : (s : Sort) (d b : ℕ) (l : List ℤ) → Bounded b (entries l) → b ≤ largest → stepOver largest s d l ≡ false → Bounded largest (entries (stepList s d l))
+pub stays-inside : (s : Sort) (d : ℕ) (l : List ℤ) → Bounded largest (entries l) → stepOver largest s d l ≡ false → Bounded largest (entries (stepList s d l))
 unfolding entries
-stays-inside s d b l h u t k =
+stays-inside s d l h t k =
     by-order k (length l)
     (λ in′. by-order k d
-    (λ low. rw (getD-stepList-below s d l k low in′) (NatL.le-trans (h k) u))
+    (λ low. rw (getD-stepList-below s d l k low in′) (h k))
     (λ high. rw (getD-stepList s d l k in′) (range-in largest _ (not-over-each s d l largest t k high in′))))
     (λ out. rw (List·getD-eq-default (stepList s d l) 0ℤ {n = k} (omega (arith, length-stepList s d l))) (omega arith))
 
 -- what a step's answer tells
 pub advanced :
-    (s : Sort) (d b : ℕ) (l m : List ℤ) (code : ℕ) → 1 ≤ d → d ≤ 65535 → Bounded b (entries l) → b ≤ largest
+    (s : Sort) (d : ℕ) (l m : List ℤ) (code : ℕ) → 1 ≤ d → d ≤ 65535 → Bounded largest (entries l)
     → code ≡ stepCode largest s d l → m ≡ stepLeaves largest s d l → Advanced s d l m (record { over = not (eqb code DONE); bound = largest })
-advanced s d b l m code one small h u e f =
+advanced s d l m code one small h e f =
     record {
       over = told;
       leaves = λ t. f ∙ leaves-done s d l one small (sym told ∙ t);
-      bounded = λ t. rw (f ∙ leaves-done s d l one small (sym told ∙ t)) (stays-inside s d b l h u (sym told ∙ t));
+      bounded = λ t. rw (f ∙ leaves-done s d l one small (sym told ∙ t)) (stays-inside s d l h (sym told ∙ t));
       inside = NatL.le-refl largest;
       len = ap length f ∙ leaves-length s d l;
     }

@@ -4,6 +4,7 @@ pub mod Shaping
 pub mod Parts
 pub mod Spreading
 pub mod Advancing
+pub mod Untested
 pub mod Turning
 pub mod Running
 pub mod Stopping
@@ -13,3 +14,5 @@ pub mod Laying
 pub mod Making
 pub mod Limits
 pub mod Answering
+pub mod OneOutcome
+pub mod Between

@@ -179,7 +179,7 @@ start-at-most : (kind k : ℕ) → natAbs (start kind k) ≤ 1
 start-at-most kind zero = rw (start-first kind) (omega arith)
 start-at-most kind (suc k) = rw (start-later kind k) (omega arith)
 
-start-bounded : (kind n : ℕ) → Bounded 1 (entries (firsts n (start kind)))
+pub start-bounded : (kind n : ℕ) → Bounded 1 (entries (firsts n (start kind)))
 unfolding entries
 start-bounded kind n k =
     by-order k n (λ h. rw (getD-firsts n (start kind) k h) (start-at-most kind k))

@@ -13,8 +13,8 @@ use Rattle.definitions.specs.Series.{Series, tail, firsts, alternate}
 use Rattle.definitions.specs.Steps.{entries, largest}
 use Rattle.definitions.specs.Requests.{zeros}
 use Rattle.series.specs.Maps.{alternate-even, alternate-odd}
-use Rattle.steps.specs.Passes.{Split, All}
-use Rattle.steps.proofs.Split.{moved-up, all-firsts}
+use Rattle.passes.specs.Passes.{Split, All}
+use Rattle.passes.proofs.Split.{moved-up, all-firsts}
 use Rattle.polynomial.specs.Shapes.{mirroredUp, copiedFrom}
 
 -- ---- zeros

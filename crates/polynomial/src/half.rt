@@ -1,19 +1,20 @@
 // The kept half: its start, and one step after the other as the walk hands out the divisors.
 use super::walk::Next;
 use super::walk::Walk;
-use steps::Sort;
+use passes::Sort;
+use passes::step_under;
 use steps::Step;
-ghost use Prim.Native.Nat.{ℕ, _+_, _-_, _≤_, _<_};
+ghost use Prim.Native.Nat.{ℕ, _+_, _*_, _-_, _≤_, _<_};
 ghost use mathlib.Core.Path.{_≡_};
-ghost use mathlib.Core.Bool.{cond, not};
+ghost use mathlib.Core.Bool.{false, cond, not};
 ghost use lib.Dec.{eqb};
 ghost use lib.ListN.{length};
 ghost use Rattle.definitions.specs.Series.{firsts};
-ghost use Rattle.definitions.specs.Steps.{comb, accumulate, entries, largest};
+ghost use Rattle.definitions.specs.Steps.{comb, accumulate, entries, largest, stepOver, stepList};
 ghost use Rattle.definitions.specs.KeptHalf.{halfDegree, start, keptHalf};
 ghost use Rattle.definitions.specs.Requests.{divisorsDue};
-ghost use Rattle.step_laws.specs.Bound.{Bounded};
-ghost use Rattle.steps.specs.Sorts.{sortMeans};
+ghost use Rattle.step_laws.specs.Bound.{Bounded, growth};
+ghost use Rattle.passes.specs.Sorts.{sortMeans};
 ghost use Rattle.polynomial.specs.Halves.{Advanced, Turned, Ran, Standing, Fresh, Made};
 ghost use Rattle.polynomial.specs.Walks.{walkAt};
 
@@ -38,17 +39,60 @@ pub(crate) struct Half {
     pub walk: Walk,
 }
 
-// One step on entries of magnitude at most `bound`.
-fn advance(a: &mut [i64], sort: Sort, d: u64, bound: u64) -> Moved
-    requires { ⌜ (1 ≤ d) × (d ≤ 65535) × Bounded bound (entries (now a)) × (bound ≤ largest) ⌝ }
+// The largest magnitude that is in range.
+const TOP: u64 = 9223372036854775807;
+
+// How often a step of size d can add the largest magnitude of n entries to itself.
+fn more(sort: Sort, d: u64, n: u64) -> u64
+    requires { ⌜ (1 ≤ d) × (d ≤ n) ⌝ }
+    ensures { λ r. ⌜ (1 ≤ r) × ((b : ℕ) → growth (sortMeans sort) d n b ≡ b * r + b) ⌝ }
+{
+    match sort {
+        Sort::Comb => 1,
+        Sort::Accumulate => n / d,
+    }
+}
+
+// A step of which it is known that no value leaves the range, and how large the magnitudes are at most after it.
+fn untested(a: &mut [i64], sort: Sort, d: u64, grown: u64) -> Moved
+    requires { ⌜ (1 ≤ d) × (stepOver largest (sortMeans sort) d (now a) ≡ false) ⌝ }
+    requires { ⌜ Bounded grown (entries (stepList (sortMeans sort) d (now a))) × (grown ≤ largest) ⌝ }
+    ensures { λ r. ⌜ Advanced (sortMeans sort) d (now (a .entry)) (now (a .exit)) r ⌝ }
+{
+    step_under(sort, a, d as usize);
+    Moved {
+        over: false,
+        bound: grown,
+    }
+}
+
+// A step that looks at each value.
+fn tested(a: &mut [i64], sort: Sort, d: u64) -> Moved
+    requires { ⌜ (1 ≤ d) × (d ≤ 65535) × Bounded largest (entries (now a)) ⌝ }
     ensures { λ r. ⌜ Advanced (sortMeans sort) d (now (a .entry)) (now (a .exit)) r ⌝ }
 {
     let step = Step { sort, size: d };
     let done = step.apply(a);
     Moved {
         over: done.code != 0,
-        bound: 9223372036854775807,
+        bound: TOP,
     }
+}
+
+// One step on entries of magnitude at most `bound`: untested where these can't grow out of range.
+fn advance(a: &mut [i64], sort: Sort, d: u64, bound: u64) -> Moved
+    requires { ⌜ (1 ≤ d) × (d ≤ 65535) × Bounded bound (entries (now a)) × (bound ≤ largest) ⌝ }
+    ensures { λ r. ⌜ Advanced (sortMeans sort) d (now (a .entry)) (now (a .exit)) r ⌝ }
+{
+    let n = a.len() as u64;
+    if n <= d {
+        return Moved { over: false, bound };
+    }
+    let times = more(sort, d, n);
+    if bound <= (TOP - bound) / times {
+        return untested(a, sort, d, bound * times + bound);
+    }
+    tested(a, sort, d)
 }
 
 // A comb where mu(r/d) is +1, for F; for I the other way round.

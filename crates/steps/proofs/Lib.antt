@@ -1,8 +1,2 @@
--- Laws that the functions' proofs share.
-pub mod Split
-pub mod Below
-pub mod Turns
-pub mod Whole
+-- That the contract leaves one outcome.
 pub mod OneOutcome
-pub mod Fours
-pub mod Rest

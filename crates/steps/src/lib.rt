@@ -1,14 +1,10 @@
 // One step on a lent slice: a comb or an accumulate, in place, in one pass, whole or not at all.
 
-mod pass;
-mod range;
-mod turn;
-mod under;
-
 ghost use mathlib.Core.Path.{_≡_};
 ghost use Rattle.definitions.specs.Steps.{largest, stepCode, stepCount, stepLeaves};
-ghost use Rattle.steps.specs.Sorts.{sortMeans};
-use pass::taken;
+ghost use Rattle.passes.specs.Sorts.{sortMeans};
+pub use passes::Sort;
+use passes::taken;
 
 // Document 01's codes.
 const DONE: u64 = 0;
@@ -16,11 +12,6 @@ const DONE: u64 = 0;
 const OVER: u64 = 5;
 
 const STEP: u64 = 7;
-
-pub enum Sort {
-    Comb,
-    Accumulate,
-}
 
 pub struct Step {
     pub sort: Sort,

@@ -1,21 +1,78 @@
--- `advance` meets its contract: what the step tells (Advancing).
+-- `advance` meets its contract: a step that is too long changes nothing, and one whose growth stays within the range needs no test (Untested).
 use borrow.Author.Needs.{needs}
-use Rattle.steps.specs.Sorts.{sortMeans}
-use Rattle.polynomial.proofs.Advancing.{advanced}
+use Prim.Native.Nat.{_+_, _*_, _≤_}
+use native.Mathlib.Nat.{le-trans}
+use native.Mathlib.Omega.{arith}
+use Rattle.definitions.specs.Steps.{largest}
+use Rattle.passes.specs.Sorts.{sortMeans}
+use Rattle.polynomial.proofs.Untested.{within, grown, long}
 use Rattle.polynomial.proofs.half.advance.Statement.{statement}
 use Rattle.polynomial.proofs.half.advance.Tie as tie
 
-apply-requires : tie.Need-apply-requires
-apply-requires c κs = search needs
+-- the growth is in range where the test held
+module _ (c : tie.Then2) where
+  abbrev start : tie.Start
+  start = c .before .before .before
+
+  small : start .args .bound * c .before .more .result + start .args .bound ≤ largest
+  small = within (c .before .more .ensures .0) (start .pre .3) (c .if2 .taken)
+
+returns : tie.Need-returns
+returns c =
+    let p = c .before in
+    long (sortMeans (p .args .sort)) (p .args .d) (p .args .a .now) (c .if1 .taken) (p .pre .2) (p .pre .3)
+
+more-requires : tie.Need-more-requires
+more-requires c κs = search needs
+
+sub-if2 : tie.Need-sub-if2
+sub-if2 c = search needs
+
+div-if2 : tie.Need-div-if2
+div-if2 c = search needs
+
+mul-untested : tie.Need-mul-untested
+mul-untested c = omega (arith, small (c .before))
+
+add-untested : tie.Need-add-untested
+add-untested c = omega (arith, small (c .before))
+
+untested-requires : tie.Need-untested-requires
+untested-requires c κs =
+    let p = start (c .before) in
+    let f = grown (sortMeans (p .args .sort)) (p .args .d) (p .args .bound) (p .pre .0) (p .args .a .now) (p .pre .2) (c .before .before .more .ensures .1 (p .args .bound)) (small (c .before)) in
+    ((p .pre .0, f .0), (f .1, small (c .before)))
 
 same-length : tie.Need-same-length
 same-length c = search needs
 
-returns : tie.Need-returns
-returns c =
+returns-2 : tie.Need-returns-2
+returns-2 c = search needs
+
+tested-requires : tie.Need-tested-requires
+tested-requires c κs =
     let p = c .before .before .before .before in
-    let f = c .before .before .apply .ensures in
-    advanced (sortMeans (p .args .sort)) (p .args .d) (p .args .bound) (p .args .a .now) _ (c .before .before .apply .result .code) (p .pre .0) (p .pre .1) (p .pre .2) (p .pre .3) (f .0) (f .1 .1)
+    (p .pre .0, p .pre .1, λ k. le-trans (p .pre .2 k) (p .pre .3))
+
+same-length-2 : tie.Need-same-length-2
+same-length-2 c = search needs
+
+returns-3 : tie.Need-returns-3
+returns-3 c = search needs
 
 pub advance-spec : {M : Type 1} → statement M
-advance-spec = tie.close (tie.spec apply-requires same-length returns)
+advance-spec =
+    tie.close
+    (tie.spec
+    returns
+    more-requires
+    sub-if2
+    div-if2
+    mul-untested
+    add-untested
+    untested-requires
+    same-length
+    returns-2
+    tested-requires
+    same-length-2
+    returns-3)

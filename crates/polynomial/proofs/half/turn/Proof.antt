@@ -1,6 +1,6 @@
 -- `turn` meets its contract: the walk hands out the divisor at its place, and the step on the kept half there is the next kept half (Turning).
 use mathlib.Core.Path.{_≡_, _∙_, sym, ap}
-use Rattle.steps.specs.Sorts.{sortMeans}
+use Rattle.passes.specs.Sorts.{sortMeans}
 use Rattle.polynomial.proofs.Turning.{size-good, turned, not-nothing}
 use borrow.Author.Needs.{needs}
 use Rattle.polynomial.proofs.half.turn.Statement.{statement}

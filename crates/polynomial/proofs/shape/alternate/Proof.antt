@@ -6,8 +6,8 @@ use lib.ListN.{length}
 use Rattle.definitions.specs.Series.{alternate}
 use Rattle.definitions.specs.Steps.{entries}
 use Rattle.series.specs.Maps.{alternate-even}
-use Rattle.steps.specs.Passes.{Split}
-use Rattle.steps.proofs.Split.{all-below, all-firsts}
+use Rattle.passes.specs.Passes.{Split}
+use Rattle.passes.proofs.Split.{all-below, all-firsts}
 use Rattle.polynomial.proofs.Shaping.{starts, alternate-read, alternate-turn}
 use Rattle.polynomial.proofs.shape.alternate.Statement.{statement}
 use Rattle.polynomial.proofs.shape.alternate.Tie as tie

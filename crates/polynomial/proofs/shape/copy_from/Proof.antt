@@ -4,8 +4,8 @@ use mathlib.Core.Path.{_≡_}
 use native.Mathlib.Omega.{arith}
 use lib.ListN.{length}
 use Rattle.definitions.specs.Steps.{entries}
-use Rattle.steps.specs.Passes.{Split}
-use Rattle.steps.proofs.Split.{all-below, all-firsts}
+use Rattle.passes.specs.Passes.{Split}
+use Rattle.passes.proofs.Split.{all-below, all-firsts}
 use Rattle.polynomial.specs.Shapes.{copiedFrom}
 use Rattle.polynomial.proofs.Shaping.{starts, copied-low, copy-read, copy-turn}
 use Rattle.polynomial.proofs.shape.copy_from.Statement.{statement}

@@ -4,8 +4,8 @@ use mathlib.Core.Path.{_≡_}
 use native.Mathlib.Omega.{arith}
 use lib.ListN.{length}
 use Rattle.definitions.specs.Steps.{entries}
-use Rattle.steps.specs.Passes.{Split}
-use Rattle.steps.proofs.Split.{all-below, all-firsts}
+use Rattle.passes.specs.Passes.{Split}
+use Rattle.passes.proofs.Split.{all-below, all-firsts}
 use Rattle.polynomial.specs.Shapes.{mirroredUp}
 use Rattle.polynomial.proofs.Shaping.{starts, mirrored-low, mirror-read, mirror-turn}
 use Rattle.polynomial.proofs.shape.mirror.Statement.{statement}

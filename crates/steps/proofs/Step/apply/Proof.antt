@@ -11,7 +11,7 @@ use Rattle.definitions.specs.Codes.{DONE, OVER}
 use Rattle.definitions.specs.Steps.{Sort, largest, stepCode, stepCount, stepLeaves, stepList}
 use Rattle.step_laws.specs.Step.{length-stepList}
 use Rattle.step_laws.specs.Told.{Told, told-zero, told-large, told-over, told-done, told-long}
-use Rattle.steps.specs.Passes.{Taken}
+use Rattle.passes.specs.Passes.{Taken}
 use Rattle.steps.proofs.Step.apply.Statement.{statement}
 use Rattle.steps.proofs.Step.apply.Tie as tie
 

@@ -1,0 +1,3 @@
+-- What the contracts of `passes` cite beside document 01's definitions.
+pub mod Sorts
+pub mod Passes

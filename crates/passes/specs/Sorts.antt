@@ -1,0 +1,8 @@
+-- What the code's `Sort` means: document 01's sort of step.
+use Rattle.passes.specs.declared.Sort as declared
+use Rattle.passes.specs.declared.Sort.the-variants.{Comb, Accumulate}
+use Rattle.definitions.specs.Steps.{Sort, comb, accumulate}
+
+abbrev pub sortMeans : declared.Sort → Sort
+sortMeans Comb = comb
+sortMeans Accumulate = accumulate

@@ -1,0 +1,20 @@
+-- `untested` meets its contract: the step, within the given bound (Untested).
+use borrow.Author.Needs.{needs}
+use Rattle.passes.specs.Sorts.{sortMeans}
+use Rattle.polynomial.proofs.Untested.{under}
+use Rattle.polynomial.proofs.half.untested.Statement.{statement}
+use Rattle.polynomial.proofs.half.untested.Tie as tie
+
+step-under-requires : tie.Need-step-under-requires
+step-under-requires c κs = search needs
+
+same-length : tie.Need-same-length
+same-length c = search needs
+
+returns : tie.Need-returns
+returns c =
+    let p = c .before .before .before in
+    under (sortMeans (p .args .sort)) (p .args .d) (p .args .a .now) (p .pre .0 .1) (c .before .step-under .ensures) (p .pre .1 .0) (p .pre .1 .1)
+
+pub untested-spec : {M : Type 1} → statement M
+untested-spec = tie.close (tie.spec step-under-requires same-length returns)

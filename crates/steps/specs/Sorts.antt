@@ -1,8 +1,0 @@
--- What the code's `Sort` means: document 01's sort of step.
-use Rattle.steps.specs.declared.Sort as declared
-use Rattle.steps.specs.declared.Sort.the-variants.{Comb, Accumulate}
-use Rattle.definitions.specs.Steps.{Sort, comb, accumulate}
-
-abbrev pub sortMeans : declared.Sort → Sort
-sortMeans Comb = comb
-sortMeans Accumulate = accumulate
