@@ -1,0 +1,39 @@
+// Both kinds of every index to 400 and of a broad choice above (choice.rt, made by second/), in buffers longer than needed.
+mod choice;
+
+use choice::CHOICE;
+use choice::CHOSEN;
+
+// The largest limit there is.
+const NO_LIMIT: i64 = 9223372036854775807;
+
+fn both(n: u64, room: usize, buf: &mut [i64]) {
+    trials::polynomial(1, n, NO_LIMIT, room, buf);
+    trials::polynomial(2, n, NO_LIMIT, room, buf);
+}
+
+fn small() {
+    let mut space = [0i64; 512];
+    let buf: &mut [i64] = &mut space;
+    let mut n: u64 = 1;
+    while n <= 400 {
+        both(n, 512, buf);
+        n += 1;
+    }
+}
+
+fn chosen() {
+    let mut space = [0i64; 65536];
+    let buf: &mut [i64] = &mut space;
+    let table = CHOICE;
+    let mut i = 0;
+    while i < CHOSEN {
+        both(table[i], 65536, buf);
+        i += 1;
+    }
+}
+
+fn main() {
+    small();
+    chosen();
+}

@@ -1,0 +1,62 @@
+"""What each request answers and writes, refusals too, read off document 01.
+
+A request gives its answer and the list of entries that it writes at the start of the buffer;
+an empty list is an untouched buffer.
+"""
+
+from cyclotomic import polynomial as made
+from kept import additions, degree, half_degree, over_after, stops
+from polynomials import height
+from whole import divisors_below, is_prime, odd_part
+
+DONE, KIND, INDEX, LIMIT, SHORT, OVER, TALL, STEP = range(8)
+MOST_INDEX = 65535
+
+
+def gain(kind, n):
+    if kind == 2:
+        return 1 if n == 1 else 0
+    if n == 1:
+        return 0
+    return n if is_prime(n) else 1
+
+
+def polynomial(kind, n, h, room):
+    """(code, degree, additions, height, gain), entries."""
+    if kind not in (1, 2):
+        return (KIND, 0, 0, 0, 0), []
+    if not 1 <= n <= MOST_INDEX:
+        return (INDEX, 0, 0, 0, 0), []
+    if h < 1:
+        return (LIMIT, 0, 0, 0, 0), []
+    top = degree(kind, n)
+    if room < top + 1:
+        return (SHORT, top, 0, 0, 0), []
+    r = odd_part(n)
+    if over_after(kind, r) is not None:
+        return (OVER, top, 0, 0, 0), [0] * (top + 1)
+    coefficients = made(kind, n)
+    assert len(coefficients) == top + 1
+    if height(coefficients) > h:
+        return (TALL, top, 0, 0, 0), [0] * (top + 1)
+    count = additions(kind, r, len(divisors_below(r)))
+    return (DONE, top, count, height(coefficients), gain(kind, n)), coefficients
+
+
+def partial(kind, n, j, room):
+    """(code, degree, additions, divisors due), entries."""
+    if kind not in (1, 2):
+        return (KIND, 0, 0, 0), []
+    if not 1 <= n <= MOST_INDEX or odd_part(n) == 1:
+        return (INDEX, 0, 0, 0), []
+    r = odd_part(n)
+    divisors = divisors_below(r)
+    if j > len(divisors):
+        return (STEP, 0, 0, 0), []
+    top = half_degree(kind, r)
+    if room < top + 1:
+        return (SHORT, top, 0, 0), []
+    taken = over_after(kind, r)
+    if taken is not None and taken < j:
+        return (OVER, top, 0, 0), [0] * (top + 1)
+    return (DONE, top, additions(kind, r, j), len(divisors) - j), stops(kind, r)[j]

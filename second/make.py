@@ -1,0 +1,94 @@
+"""Makes every stored file anew, byte for byte: python3 second/make.py (some minutes; nothing else is needed).
+
+The files are what the trial programs of crates/ must print, and the table of indices that one of them holds.
+"""
+
+import os
+import subprocess
+import sys
+
+import choice
+import listing
+import refusals
+from lines import partial_line, polynomial_line
+from answers import polynomial
+from whole import divisors_below
+
+HERE = os.path.dirname(os.path.abspath(__file__))
+CRATES = os.path.join(HERE, "..", "crates")
+
+
+def constant(name, kind, values):
+    """A table of a Rattle program, laid out as its formatter does."""
+    return "\npub const %s: [%s; %d] = [\n" % (name, kind, len(values)) + "".join("    %d,\n" % v for v in values) + "];\n"
+
+
+def counted(name, values):
+    return "pub const %s: usize = %d;\n" % (name, len(values))
+
+
+def indices():
+    yield "// The indices above 400 that the table asks for, chosen by second/choice.py and written by second/make.py.\n"
+    yield counted("CHOSEN", choice.choice())
+    yield constant("CHOICE", "u64", choice.choice())
+
+
+def columns(prefix, names, rows):
+    for (name, kind), values in zip(names, zip(*rows)):
+        yield constant(prefix + name, kind, values)
+
+
+def asked():
+    yield "// The requests of second/refusals.py, a table for each argument, written by second/make.py.\n"
+    yield counted("ASKED", refusals.POLYNOMIALS)
+    yield from columns("", [("KINDS", "u64"), ("INDICES", "u64"), ("LIMITS", "i64"), ("ROOMS", "usize")], refusals.POLYNOMIALS)
+    yield "\n" + counted("STOPPED", refusals.PARTIALS)
+    names = [("KINDS", "u64"), ("INDICES", "u64"), ("AFTER", "u64"), ("ROOMS", "usize")]
+    yield from columns("STOPPED_", names, refusals.PARTIALS)
+
+
+def table():
+    for n in choice.table():
+        for kind in (1, 2):
+            yield polynomial_line(kind, n, choice.LARGEST_LIMIT, 512 if n <= choice.ALL_TO else 65536)
+
+
+def partials():
+    for r in choice.PARTIAL_ORDERS:
+        for kind in (1, 2):
+            for j in range(len(divisors_below(r)) + 2):
+                yield partial_line(kind, r, j, refusals.ROOM)
+
+
+def refused():
+    for asked in refusals.POLYNOMIALS:
+        yield polynomial_line(*asked)
+    for asked in refusals.PARTIALS:
+        yield partial_line(*asked)
+    yield "".join("%d " % c for c in polynomial(1, 105, 2, 49)[1]) + "\n"
+
+
+def printed(script):
+    """What a script of this folder prints by itself."""
+    run = subprocess.run([sys.executable, os.path.join(HERE, script)], capture_output=True, check=True)
+    yield run.stdout.decode()
+
+
+def store(path, parts):
+    with open(os.path.join(CRATES, path), "wb") as file:
+        for part in parts:
+            file.write(part if isinstance(part, bytes) else part.encode())
+    print("made", path)
+
+
+if __name__ == "__main__":
+    store("steps_trial/stdout", printed("steps.py"))
+    store("shelf_trial/stdout", printed("shelf.py"))
+    if os.path.isdir(os.path.join(CRATES, "list")):
+        store("list/stdin", [listing.asked()])
+        store("list/stdout", listing.listing(listing.asked()))
+    store("trial_table/src/choice.rt", indices())
+    store("trial_refusals/src/asked.rt", asked())
+    store("trial_refusals/stdout", refused())
+    store("trial_partial/stdout", partials())
+    store("trial_table/stdout", table())

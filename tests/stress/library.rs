@@ -1,0 +1,84 @@
+//! The compiled library, as C sees it, with slices. An empty slice goes over as a null pointer.
+
+use std::ptr;
+
+#[repr(C)]
+#[derive(Debug, PartialEq, Clone, Copy, Default)]
+pub struct Answer {
+    pub code: u64,
+    pub degree: u64,
+    pub additions: u64,
+    pub height: u64,
+    pub gain: u64,
+}
+
+#[repr(C)]
+#[derive(Debug, PartialEq, Clone, Copy, Default)]
+pub struct Stop {
+    pub code: u64,
+    pub degree: u64,
+    pub additions: u64,
+    pub due: u64,
+}
+
+#[repr(C)]
+#[derive(Debug, PartialEq, Clone, Copy, Default)]
+pub struct Step {
+    pub code: u64,
+    pub count: u64,
+}
+
+#[repr(C)]
+#[derive(Debug, PartialEq, Clone, Copy, Default)]
+pub struct Written {
+    pub code: u64,
+    pub degree: u64,
+    pub used: u64,
+}
+
+#[repr(C)]
+#[derive(Debug, PartialEq, Clone, Copy, Default)]
+pub struct Record {
+    pub code: u64,
+    pub degree: u64,
+    pub used: u64,
+    pub kind: u64,
+    pub n: u64,
+}
+
+extern "C" {
+    fn bv_polynomial(kind: u64, n: u64, h: i64, buf: *mut i64, len: usize) -> Answer;
+    fn bv_partial(kind: u64, n: u64, j: u64, buf: *mut i64, len: usize) -> Stop;
+    fn bv_comb(size: u64, buf: *mut i64, len: usize) -> Step;
+    fn bv_accumulate(size: u64, buf: *mut i64, len: usize) -> Step;
+    fn bv_write(kind: u64, n: u64, coeffs: *const i64, count: usize, bytes: *mut u8, len: usize) -> Written;
+    fn bv_read(bytes: *const u8, len: usize, coeffs: *mut i64, count: usize) -> Record;
+}
+
+fn lent<T>(a: &mut [T]) -> *mut T {
+    if a.is_empty() { ptr::null_mut() } else { a.as_mut_ptr() }
+}
+
+fn shown<T>(a: &[T]) -> *const T {
+    if a.is_empty() { ptr::null() } else { a.as_ptr() }
+}
+
+pub fn polynomial(kind: u64, n: u64, h: i64, buf: &mut [i64]) -> Answer {
+    unsafe { bv_polynomial(kind, n, h, lent(buf), buf.len()) }
+}
+
+pub fn partial(kind: u64, n: u64, j: u64, buf: &mut [i64]) -> Stop {
+    unsafe { bv_partial(kind, n, j, lent(buf), buf.len()) }
+}
+
+pub fn step(comb: bool, size: u64, buf: &mut [i64]) -> Step {
+    unsafe { if comb { bv_comb(size, lent(buf), buf.len()) } else { bv_accumulate(size, lent(buf), buf.len()) } }
+}
+
+pub fn write(kind: u64, n: u64, coeffs: &[i64], bytes: &mut [u8]) -> Written {
+    unsafe { bv_write(kind, n, shown(coeffs), coeffs.len(), lent(bytes), bytes.len()) }
+}
+
+pub fn read(bytes: &[u8], coeffs: &mut [i64]) -> Record {
+    unsafe { bv_read(shown(bytes), bytes.len(), lent(coeffs), coeffs.len()) }
+}

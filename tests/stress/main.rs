@@ -1,0 +1,35 @@
+//! Drives the compiled library with random and damaged inputs and holds every answer and every buffer to a reference.
+//! Stops at the first difference with a message and a status other than 0; else tells how many inputs were tried.
+//! `stress [seed [share]]`: share is the part of the full run in percent, 100 if not given.
+
+mod library;
+mod random;
+mod records;
+mod reference;
+mod requests;
+mod steps;
+
+use random::Random;
+use reference::{Reference, LARGEST};
+
+fn tell(what: &str, tried: u64) -> u64 {
+    println!("{what}: {tried} inputs, no difference");
+    tried
+}
+
+fn main() {
+    let words: Vec<u64> = std::env::args().skip(1).map(|w| w.parse().expect("a number")).collect();
+    let seed = words.first().copied().unwrap_or(1);
+    let share = words.get(1).copied().unwrap_or(100) as usize;
+    println!("seed {seed}");
+    let mut random = Random(seed);
+    let mut of = Reference::new();
+    let mut all = 0;
+    all += tell("steps", (0..20_000 * share).map(|_| steps::any(&mut random)).sum());
+    all += tell("records", (0..5_000 * share).map(|_| records::any(&mut random, &of)).sum());
+    all += tell("partial requests", (0..500 * share).map(|_| requests::stop(&mut random, &of)).sum());
+    all += tell("polynomials, any request", (0..2_000 * share).map(|_| requests::any(&mut random, &mut of)).sum());
+    let last = LARGEST * share.min(100) / 100;
+    all += tell("polynomials, every index", (1..=last).map(|n| requests::index(&mut random, &mut of, n)).sum());
+    println!("{all} inputs tried, no difference");
+}
