@@ -109,8 +109,8 @@ typedef struct bv_record {
  *   BV_INDEX  n is 0 or above 65535                      0             untouched
  *   BV_LIMIT  h is below 1                               0             untouched
  *   BV_SHORT  len is below degree + 1                    yes           untouched
- *   BV_OVER   a step would leave the range (no index     yes           entries 0 to degree: 0
- *             up to 65535 does; see bv_comb)
+ *   BV_OVER   a step on the way would leave the range    yes           entries 0 to degree: 0
+ *             (found by running them: none does)
  *   BV_TALL   the height is above h                      yes           entries 0 to degree: 0
  *
  * The order is that of the table. On refusal additions, height and gain are 0. So a call with len 0 asks how many entries are needed:
@@ -140,7 +140,7 @@ bv_stop bv_partial(uint64_t kind, uint64_t n, uint64_t j, int64_t *buf, size_t l
 /*
  * One step on any slice. A comb of size d multiplies by 1 - z^d: each entry i from d on becomes the old entry i minus the old entry i - d.
  * An accumulate divides by it: each entry i from d on becomes the old entry i plus the new entry i - d. Entries below d stay as they are.
- * A comb and an accumulate of one size undo each other.
+ * A comb and an accumulate of one size undo each other, where neither is refused.
  *
  *   code      given where                                                       buf
  *   BV_DONE   nothing below applies                                             the step is taken
