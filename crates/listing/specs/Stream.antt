@@ -1,0 +1,57 @@
+-- The listing piece by piece. Of the line that is being read at most 40 bytes are kept, for a longer line is not good; its length stops at 41.
+-- What pieces of input come, and where the output is cut, makes no difference (proofs/, `Whole`).
+use Prim.Native.Nat.{ℕ, _+_, _*_, _-_, _%_, _^_}
+use mathlib.Core.Bool.{Bool, cond}
+use mathlib.Core.List.{List, [], _∷_, _++_}
+use lib.ListN.{length, take, set, replicate}
+use lib.Dec.{eqb, ltb, leb}
+use Rattle.listing.specs.Text.{NEWLINE}
+use Rattle.listing.specs.Listing.{LENT, reply, wrongLine}
+use Rattle.listing.specs.declared.Line.{Line}
+
+abbrev pub KEPT : ℕ
+KEPT = 40
+
+-- before the first byte
+unfoldable pub startLine : Line
+startLine = record { bytes = replicate KEPT 0; length = 0; number = 1 }
+
+-- one byte more, that is no newline
+unfoldable pub pushed : Line → ℕ → Line
+pushed s b =
+    cond (ltb (s .length) KEPT)
+    (record { bytes = set (s .bytes) (s .length) b; length = s .length + 1; number = s .number })
+    (record { bytes = s .bytes; length = KEPT + 1; number = s .number })
+
+-- after a newline: an empty line. The number is one of 64 bits
+unfoldable pub nextLine : Line → Line
+nextLine s = record { bytes = s .bytes; length = 0; number = (s .number + 1) % 2 ^ 64 }
+
+-- what is printed for the line at its newline
+unfoldable pub closing : Line → List ℕ
+closing s = cond (leb (s .length) KEPT) (reply (s .number) (take (s .length) (s .bytes))) (wrongLine (s .number))
+
+-- what stands after some bytes of input, and what they print
+unfoldable pub after : Line → List ℕ → Line
+after s [] = s
+after s (b ∷ bs) = cond (eqb b NEWLINE) (after (nextLine s) bs) (after (pushed s b) bs)
+
+unfoldable pub printed : Line → List ℕ → List ℕ
+printed s [] = []
+printed s (b ∷ bs) = cond (eqb b NEWLINE) (closing s ++ printed (nextLine s) bs) (printed (pushed s b) bs)
+
+-- what the end of the input prints: a line only if it isn't empty
+unfoldable pub ending : Line → List ℕ
+ending s = cond (eqb (s .length) 0) [] (closing s)
+
+-- the most bytes of a line: letter, six numbers, colon, coefficients, newline, each number of at most 20 bytes
+abbrev pub MOST : ℕ
+MOST = 86146
+
+-- how many bytes of input are taken where there is room for so many bytes of output: all before the first newline whose line may not fit
+unfoldable pub taken : ℕ → Line → List ℕ → ℕ
+taken room s [] = 0
+taken room s (b ∷ bs) =
+    cond (eqb b NEWLINE)
+    (cond (ltb room MOST) 0 (1 + taken (room - length (closing s)) (nextLine s) bs))
+    (1 + taken room (pushed s b) bs)
