@@ -4,3 +4,4 @@ pub mod Request
 pub mod Listing
 pub mod Example
 pub mod Stream
+pub mod Puts

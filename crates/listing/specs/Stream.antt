@@ -44,9 +44,9 @@ printed s (b ∷ bs) = cond (eqb b NEWLINE) (closing s ++ printed (nextLine s) b
 unfoldable pub ending : Line → List ℕ
 ending s = cond (eqb (s .length) 0) [] (closing s)
 
--- the most bytes of a line: letter, six numbers, colon, coefficients, newline, each number of at most 20 bytes
+-- a line's bytes are never more: letter, six numbers of at most 21 bytes with their spaces, colon, coefficients of at most 22, newline
 abbrev pub MOST : ℕ
-MOST = 86146
+MOST = 90242
 
 -- how many bytes of input are taken where there is room for so many bytes of output: all before the first newline whose line may not fit
 unfoldable pub taken : ℕ → Line → List ℕ → ℕ

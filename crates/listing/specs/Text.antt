@@ -3,7 +3,7 @@ use Prim.Native.Nat.{ℕ, zero, suc, _+_, _/_, _%_}
 use mathlib.Core.Bool.{cond}
 use mathlib.Core.List.{List, [], _∷_, _++_}
 use lib.Dec.{ltb}
-use lib.IntN.{ℤ, pos, negsuc}
+use lib.IntN.{ℤ, pos, negsuc, natAbs}
 
 abbrev pub NEWLINE : ℕ
 NEWLINE = 10
@@ -33,9 +33,13 @@ decimalIn (suc turns) n =
 unfoldable pub decimal : ℕ → List ℕ
 decimal n = decimalIn (suc n) n
 
+-- a minus sign where the number is negative
+unfoldable pub sign : ℤ → List ℕ
+sign (pos n) = []
+sign (negsuc n) = MINUS ∷ []
+
 unfoldable pub signed : ℤ → List ℕ
-signed (pos n) = decimal n
-signed (negsuc n) = MINUS ∷ decimal (suc n)
+signed c = sign c ++ decimal (natAbs c)
 
 -- each number with a space before it
 unfoldable pub spaced : List ℤ → List ℕ

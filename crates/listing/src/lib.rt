@@ -1,4 +1,7 @@
-// The listing: bytes of lines in, bytes of answers out.
+// The listing (document 01, 'The listing'): bytes of lines in, bytes of answers out. `read` takes a line apart, `text` writes numbers.
+
+mod read;
+mod text;
 
 // What a line asks for: a kind, an index and a height limit; or it is not good, and all three are 0.
 pub struct Request {
@@ -14,3 +17,5 @@ pub struct Line {
     pub length: usize,
     pub number: u64,
 }
+
+pub use read::read_line;

@@ -1,0 +1,5 @@
+-- What several proofs of `listing` share.
+pub mod Putting
+pub mod Decimal
+pub mod Sign
+pub mod Digits
