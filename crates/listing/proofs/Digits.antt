@@ -2,23 +2,29 @@
 use mathlib.Core.Path.{_≡_, refl, sym, _∙_, ap}
 use mathlib.Core.Bool.{Bool, true, false, cond, true≢false, _&&_}
 use mathlib.Core.List.{List, [], _∷_}
-use Prim.Native.Nat.{ℕ, zero, suc, _+_, _*_, _-_, _<_, _≤_}
-use native.Mathlib.Nat.{not-suc-le-zero}
+use Prim.Native.Nat.{ℕ, zero, suc, _+_, _*_, _-_, _^_, _<_, _≤_}
+use native.Mathlib.Nat.{pow-suc, pow-le-pow-right}
 use native.Mathlib.Numerals.{add-one}
 use native.Mathlib.Omega.{arith}
 use borrow.Author.Tests.{leb-true}
 use lib.ListN.{length, getD, drop, drop-of-length-le}
 use lib.Seq.{drop-cons}
-use lib.Dec.{leb, eqb}
+use lib.Dec.{leb, lit<}
 use Rattle.step_laws.specs.Tests.{by-test, by-order}
-use Rattle.definitions.specs.Requests.{knownKind}
-use Rattle.listing.specs.Request.{kindOf, isDigit, digits, digitsAt, valueFrom}
+use Rattle.listing.specs.Request.{isDigit, digits, digitsAt, valueFrom, oneToNine}
+
+between : (low high b : ℕ) → (leb low b && leb b high) ≡ true → (low ≤ b) × (b ≤ high)
+between low high b e =
+    by-test (leb low b) (λ h. (leb-true low b h, leb-true b high (sym (ap (λ t. t && leb b high) h) ∙ e)))
+    (λ h. absurd (true≢false (sym e ∙ ap (λ t. t && leb b high) h)))
 
 pub digit-range : (b : ℕ) → isDigit b ≡ true → (48 ≤ b) × (b ≤ 57)
 unfolding isDigit
-digit-range b e =
-    by-test (leb 48 b) (λ low. (leb-true 48 b low, leb-true b 57 (sym (ap (λ t. t && leb b 57) low) ∙ e)))
-    (λ low. absurd (true≢false (sym e ∙ ap (λ t. t && leb b 57) low)))
+digit-range b e = between 48 57 b e
+
+pub nine-range : (k : ℕ) → oneToNine k ≡ true → (1 ≤ k) × (k ≤ 9)
+unfolding oneToNine
+nine-range k e = between 1 9 k e
 
 module _ (l : List ℕ) (i : ℕ) where
   digits-past : length l ≤ i → digits (drop i l) ≡ []
@@ -69,15 +75,14 @@ module _ (l : List ℕ) (i : ℕ) where
     where
       empty : (xs : List ℕ) → length xs ≡ 0 → xs ≡ []
       empty [] e = refl
-      empty (x ∷ xs) e = absurd (not-suc-le-zero (omega (arith, e)))
+      empty (x ∷ xs) e = absurd (never e)
+        where
+          never : suc (length xs) ≡ 0 → ⊥
+          never e = omega arith
 
--- a letter that has a kind
-pub known : (letter : ℕ) → (kindOf letter ≡ 0 → ⊥) → knownKind (kindOf letter) ≡ true
-unfolding kindOf knownKind
-known letter h =
-    by-test (eqb letter 70) (λ e. rw e)
-    (λ e. by-test (eqb letter 73) (λ k. rw (e, k)) (λ k. absurd (h (rw (e, k)))))
+-- a number of at most 8 digits, and one with a digit more
+pub small : (v i : ℕ) → v < 10 ^ i → i ≤ 8 → v < 100000000
+small v i h b = omega (arith, pow-le-pow-right {n = 10} (lit< tt) b)
 
-pub unknown : (letter : ℕ) → kindOf letter ≡ 0 → knownKind (kindOf letter) ≡ false
-unfolding knownKind
-unknown letter h = rw h
+pub digit-more : (v i d : ℕ) → v < 10 ^ i → d ≤ 9 → v * 10 + d < 10 ^ (i + 1)
+digit-more v i d h b = rw add-one (omega (arith, pow-suc 10 i))

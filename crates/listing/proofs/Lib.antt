@@ -3,3 +3,4 @@ pub mod Putting
 pub mod Decimal
 pub mod Sign
 pub mod Digits
+pub mod Reading

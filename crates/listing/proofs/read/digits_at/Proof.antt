@@ -1,4 +1,5 @@
-use mathlib.Core.Path.{_≡_, sym}
+use mathlib.Core.Path.{_≡_, sym, _∙_}
+use borrow.Author.Tests.{not-true, not-false}
 use Prim.Native.Nat.{_+_, _-_, _≤_}
 use native.Mathlib.Omega.{arith}
 use lib.ListN.{length}
@@ -39,7 +40,9 @@ sub-result c = omega arith
 
 -- src/read.rt:48:13
 returns-2 : tie.Need-returns-2 Inv-loop μ-loop
-returns-2 c = ?
+returns-2 c =
+    let t = c .before .before .before .before in
+    omega (arith, none-here (t .before .before .before .args .line .now) (t .loop .i) (c .before .before .before .loop-test .taken) (sym (c .before .is-digit .ensures) ∙ not-true _ (c .if2 .taken)))
 
 -- src/read.rt:50:9
 add-i : tie.Need-add-i Inv-loop μ-loop
@@ -51,7 +54,10 @@ loop-less c = omega arith
 
 -- src/read.rt:46:5
 loop-again : tie.Need-loop-again Inv-loop μ-loop
-loop-again c = ?
+loop-again c =
+    let t = c .before .before .before .before in
+    let e = one-here (t .before .before .before .args .line .now) (t .loop .i) (c .before .before .before .loop-test .taken) (sym (c .before .is-digit .ensures) ∙ not-false _ (c .if2 .left)) in
+    (omega arith, omega arith, omega arith)
 
 -- src/read.rt:52:5
 sub-result-2 : tie.Need-sub-result-2 Inv-loop μ-loop
@@ -59,7 +65,7 @@ sub-result-2 c = omega arith
 
 -- src/read.rt:39:1
 returns-3 : tie.Need-returns-3 Inv-loop μ-loop
-returns-3 c = omega (arith, none-past (c .before .before .before .args .line .now) (c .before .loop .i) (omega arith))
+returns-3 c = omega (arith, none-past (c .before .before .before .before .args .line .now) (c .before .loop .i) (omega arith))
 
 pub digits-at-spec : {M : Type 1} → statement M
 digits-at-spec =

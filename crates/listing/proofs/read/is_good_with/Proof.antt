@@ -1,3 +1,12 @@
+use mathlib.Core.Path.{_≡_, sym, _∙_, ap}
+use mathlib.Core.Bool.{and-false}
+use native.Mathlib.Omega.{arith}
+use borrow.Author.Tests.{not-true, not-false, eq-eqb, ne-eqb}
+use lib.ListN.{getD}
+use lib.Dec.{eqb}
+use Rattle.listing.specs.Request.{isGoodWith}
+use Rattle.listing.proofs.Digits.{nine-range}
+use Rattle.listing.proofs.Reading.{known, unknown}
 use borrow.Author.Needs.{needs}
 use Rattle.listing.proofs.read.is_good_with.Statement.{statement}
 use Rattle.listing.proofs.read.is_good_with.Tie as tie
@@ -8,7 +17,10 @@ use Rattle.listing.proofs.read.one_to_nine.Reads as one-to-nine-reads
 
 -- src/read.rt:81:9
 returns : tie.Need-returns
-returns c = ?
+unfolding isGoodWith
+returns c =
+    let s = c .before .before in
+    simp (unknown _ (sym (s .pre) ∙ c .if1 .taken))
 
 -- src/read.rt:83:9
 one-to-nine-requires : tie.Need-one-to-nine-requires
@@ -16,7 +28,8 @@ one-to-nine-requires c κs = search needs
 
 -- src/read.rt:84:9
 returns-2 : tie.Need-returns-2
-returns-2 c = ?
+unfolding isGoodWith
+returns-2 c = simp (← c .before .one-to-nine .ensures, not-true (c .before .one-to-nine .result) (c .if2 .taken), and-false)
 
 -- src/read.rt:86:9
 one-to-nine-requires-2 : tie.Need-one-to-nine-requires-2
@@ -24,7 +37,8 @@ one-to-nine-requires-2 c κs = search needs
 
 -- src/read.rt:87:9
 returns-3 : tie.Need-returns-3
-returns-3 c = ?
+unfolding isGoodWith
+returns-3 c = simp (← c .before .one-to-nine2 .ensures, not-true (c .before .one-to-nine2 .result) (c .if3 .taken), and-false)
 
 -- src/read.rt:89:8
 byte-at-requires : tie.Need-byte-at-requires
@@ -32,11 +46,12 @@ byte-at-requires c κs = search needs
 
 -- src/read.rt:90:9
 returns-4 : tie.Need-returns-4
-returns-4 c = ?
+unfolding isGoodWith
+returns-4 c = simp (← c .before .byte-at .ensures, ne-eqb _ _ (c .if4 .taken), and-false)
 
 -- src/read.rt:92:22
 add-byte-at : tie.Need-add-byte-at
-add-byte-at c = ?
+add-byte-at c = omega (arith, nine-range _ (sym (c .before .before .before .before .before .one-to-nine .ensures) ∙ not-false _ (c .before .before .before .before .if2 .left)))
 
 -- src/read.rt:92:8
 byte-at-requires-2 : tie.Need-byte-at-requires-2
@@ -44,19 +59,29 @@ byte-at-requires-2 c κs = search needs
 
 -- src/read.rt:93:9
 returns-5 : tie.Need-returns-5
-returns-5 c = ?
+unfolding isGoodWith
+returns-5 c = simp (← c .before .byte-at2 .ensures, ne-eqb _ _ (c .if5 .taken), and-false)
 
 -- src/read.rt:95:19
 add-result : tie.Need-add-result
-add-result c = ?
+add-result c = omega (arith, nine-range _ (sym (c .before .before .before .before .before .before .before .one-to-nine .ensures) ∙ not-false _ (c .before .before .before .before .before .before .if2 .left)))
 
 -- src/read.rt:95:19
 add-result-2 : tie.Need-add-result-2
-add-result-2 c = ?
+add-result-2 c = omega (arith, nine-range _ (sym (c .before .before .before .before .before .before .before .one-to-nine .ensures) ∙ not-false _ (c .before .before .before .before .before .before .if2 .left)), nine-range _ (sym (c .before .before .before .before .before .one-to-nine2 .ensures) ∙ not-false _ (c .before .before .before .before .if3 .left)))
 
 -- src/read.rt:76:1
 returns-6 : tie.Need-returns-6
-returns-6 c = ?
+unfolding isGoodWith
+returns-6 c =
+    let s = c .before .before .before .before .before .before .before .before .before .before in
+    simp (
+      known (getD (s .args .line .now) 0 0) (λ e. c .before .before .before .before .before .before .before .before .if1 .left (s .pre ∙ e)),
+      sym (c .before .before .before .before .before .before .before .one-to-nine .ensures) ∙ not-false _ (c .before .before .before .before .before .before .if2 .left),
+      sym (c .before .before .before .before .before .one-to-nine2 .ensures) ∙ not-false _ (c .before .before .before .before .if3 .left),
+      ap (λ x. eqb x 32) (sym (c .before .before .before .byte-at .ensures)) ∙ eq-eqb _ _ (c .before .before .if4 .left),
+      ap (λ x. eqb x 32) (sym (c .before .byte-at2 .ensures)) ∙ eq-eqb _ _ (c .if5 .left),
+    )
 
 pub is-good-with-spec : {M : Type 1} → statement M
 is-good-with-spec =

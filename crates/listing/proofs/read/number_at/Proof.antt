@@ -1,9 +1,10 @@
-use mathlib.Core.Path.{_≡_, sym}
-use Prim.Native.Nat.{_+_, _-_, _^_, _<_, _≤_}
+use mathlib.Core.Path.{_≡_, refl, sym, _∙_}
+use native.Mathlib.Nat.{add-zero}
+use Prim.Native.Nat.{_+_, _*_, _-_, _^_, _<_, _≤_}
 use native.Mathlib.Omega.{arith}
-use lib.ListN.{length, drop}
-use Rattle.listing.specs.Request.{numberAt, valueFrom, digits, digitsAt}
-use Rattle.listing.proofs.Digits.{value-one, value-none, inside, is-digit-here, digit-range}
+use lib.ListN.{length, drop, getD}
+use Rattle.listing.specs.Request.{numberAt, valueOf, valueFrom, digits, digitsAt}
+use Rattle.listing.proofs.Digits.{value-one, value-none, inside, is-digit-here, one-here, digit-range, small, digit-more}
 use Rattle.listing.proofs.read.number_at.Statement.{statement}
 use Rattle.listing.proofs.read.number_at.Tie as tie
 use Rattle.listing.proofs.read.number_at.Reads as reads
@@ -16,49 +17,72 @@ Inv-loop line place count v₀ i₀ v i =
 abbrev μ-loop : tie.MeasureT-loop
 μ-loop line place count v₀ i₀ v i = count - i
 
+-- a digit stands at place + i
+here : (c : tie.In-loop Inv-loop μ-loop) → 0 < digitsAt (c .before .before .args .line .now) (c .before .before .args .place + c .before .loop .i)
+here c = omega arith
+
+range : (c : tie.In-loop Inv-loop μ-loop) → (48 ≤ getD (c .before .before .args .line .now) (c .before .before .args .place + c .before .loop .i) 0) × (getD (c .before .before .args .line .now) (c .before .before .args .place + c .before .loop .i) 0 ≤ 57)
+range c = digit-range _ (is-digit-here (c .before .before .args .line .now) (c .before .before .args .place + c .before .loop .i) (here c))
+
+below : (c : tie.In-loop Inv-loop μ-loop) → c .before .loop .v < 100000000
+below c = small (c .before .loop .v) (c .before .loop .i) (c .before .loop .inv .2) (omega (arith, c .before .before .pre .1))
+
 -- src/read.rt:62:5
 loop-holds : tie.Need-loop-holds Inv-loop μ-loop
-loop-holds c = ?
+unfolding numberAt valueOf
+loop-holds c = rw (add-zero (c .args .place)) (refl, omega (arith, c .pre .0), omega arith)
 
 -- src/read.rt:63:13
 mul-v : tie.Need-mul-v Inv-loop μ-loop
-mul-v c = ?
+mul-v c = omega (arith, below c)
 
 -- src/read.rt:63:28
 add-v : tie.Need-add-v Inv-loop μ-loop
-add-v c = ?
+add-v c = omega (arith, inside (c .before .before .args .line .now) (c .before .before .args .place + c .before .loop .i) (here c))
 
 -- src/read.rt:63:23
 shared-slice-read-v : tie.Need-shared-slice-read-v Inv-loop μ-loop
-shared-slice-read-v c = ?
+shared-slice-read-v c = inside _ _ (here (c .before))
 
 -- src/read.rt:63:23
 sub-v : tie.Need-sub-v Inv-loop μ-loop
-sub-v c = ?
+sub-v c = range (c .before) .0
 
 -- src/read.rt:63:22
 cast-v : tie.Need-cast-v Inv-loop μ-loop
-cast-v c = ?
+cast-v c = omega (arith, range (c .before) .1)
 
 -- src/read.rt:63:13
 add-v-2 : tie.Need-add-v-2 Inv-loop μ-loop
-add-v-2 c = ?
+add-v-2 c = omega (arith, range (c .before) .1, below (c .before))
 
 -- src/read.rt:64:9
 add-i : tie.Need-add-i Inv-loop μ-loop
-add-i c = ?
+add-i c = omega arith
 
 -- src/read.rt:62:5
 loop-less : tie.Need-loop-less Inv-loop μ-loop
-loop-less c = ?
+loop-less c = omega arith
 
 -- src/read.rt:62:5
 loop-again : tie.Need-loop-again Inv-loop μ-loop
-loop-again c = ?
+loop-again c =
+    let t = c .before .before in
+    let l = t .before .args .line .now in
+    let k = t .before .args .place + t .loop .i in
+    let next : t .before .args .place + (t .loop .i + 1) ≡ k + 1 = omega arith in
+    let e = one-here l k (inside l k (here (c .before))) (is-digit-here l k (here (c .before))) in
+    rw next (
+      t .loop .inv .0 ∙ value-one l k (t .loop .v) (here (c .before)),
+      omega arith,
+      digit-more (t .loop .v) (t .loop .i) _ (t .loop .inv .2) (omega (arith, range (c .before) .1)),
+    )
 
 -- src/read.rt:56:1
 returns : tie.Need-returns Inv-loop μ-loop
-returns c = ?
+returns c =
+    let t = c .before in
+    sym (t .loop .inv .0 ∙ value-none (t .before .args .line .now) (t .before .args .place + t .loop .i) (t .loop .v) (omega arith))
 
 pub number-at-spec : {M : Type 1} → statement M
 number-at-spec =

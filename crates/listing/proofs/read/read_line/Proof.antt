@@ -1,3 +1,6 @@
+use mathlib.Core.Path.{_≡_, sym, _∙_, ap}
+use Rattle.listing.specs.Request.{kindOf, isGood}
+use Rattle.listing.proofs.Reading.{most-nine, good-as, too-many-good, limit, reads-good, reads-wrong}
 use borrow.Author.Needs.{needs}
 use Rattle.listing.proofs.read.read_line.Statement.{statement}
 use Rattle.listing.proofs.read.read_line.Tie as tie
@@ -31,7 +34,7 @@ digits-at-requires-2 c κs = search needs
 
 -- src/read.rt:105:12
 is-good-with-requires : tie.Need-is-good-with-requires
-is-good-with-requires c κs = ?
+is-good-with-requires c κs = c .before .before .before .kind-of .ensures ∙ ap kindOf (c .before .before .before .before .byte-at .ensures)
 
 -- src/read.rt:109:20
 number-at-requires : tie.Need-number-at-requires
@@ -43,19 +46,26 @@ add-number-at c = search needs
 
 -- src/read.rt:110:20
 number-at-requires-2 : tie.Need-number-at-requires-2
-number-at-requires-2 c κs = ?
+number-at-requires-2 c κs = (c .before .before .before .digits-at2 .ensures, most-nine (c .before .before .before .before .before .before .before .before .before .args .line .now) (c .before .before .before .before .before .digits-at .result) (c .before .before .before .digits-at2 .result) (sym (c .before .before .is-good-with .ensures) ∙ c .before .if2 .taken))
 
 -- src/read.rt:106:13
+-- the test's answer is whether the line is good
+as-good : (c : tie.After-is-good-with) → c .is-good-with .result ≡ isGood (c .before .before .before .before .before .before .before .args .line .now)
+as-good c = c .is-good-with .ensures ∙ good-as (c .before .before .before .before .before .before .before .args .line .now) (c .before .before .before .digits-at .result) (c .before .digits-at2 .result) (c .before .before .before .digits-at .ensures) (c .before .digits-at2 .ensures)
+
 returns : tie.Need-returns
-returns c = ?
+returns c =
+    let l = c .before .before .before .before .before .before .before .before .before .before .args .line .now in
+    let a = c .before .before .before .before .before .before .digits-at in
+    reads-good l _ _ _ (sym (as-good (c .before .before .before)) ∙ c .before .before .if2 .taken) (c .before .before .before .before .before .before .before .kind-of .ensures ∙ ap kindOf (c .before .before .before .before .before .before .before .before .byte-at .ensures)) (c .before .number-at .ensures) (c .number-at2 .ensures ∙ limit l (a .result) (a .ensures))
 
 -- src/read.rt:98:1
 returns-2 : tie.Need-returns-2
-returns-2 c = ?
+returns-2 c = reads-wrong _ (sym (as-good (c .before)) ∙ c .if2 .left)
 
 -- src/read.rt:98:1
 returns-3 : tie.Need-returns-3
-returns-3 c = ?
+returns-3 c = reads-wrong _ (too-many-good (c .before .before .before .before .before .args .line .now) (c .before .digits-at .result) (c .before .digits-at .ensures) (c .if1 .left))
 
 pub read-line-spec : {M : Type 1} → statement M
 read-line-spec =
