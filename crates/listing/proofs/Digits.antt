@@ -80,9 +80,9 @@ module _ (l : List ℕ) (i : ℕ) where
           never : suc (length xs) ≡ 0 → ⊥
           never e = omega arith
 
--- a number of at most 8 digits, and one with a digit more
-pub small : (v i : ℕ) → v < 10 ^ i → i ≤ 8 → v < 100000000
-small v i h b = omega (arith, pow-le-pow-right {n = 10} (lit< tt) b)
+-- a number of at most k digits, and one with a digit more
+pub small : (v i k : ℕ) → v < 10 ^ i → i ≤ k → v < 10 ^ k
+small v i k h b = omega (arith, pow-le-pow-right {n = 10} (lit< tt) b)
 
 pub digit-more : (v i d : ℕ) → v < 10 ^ i → d ≤ 9 → v * 10 + d < 10 ^ (i + 1)
 digit-more v i d h b = rw add-one (omega (arith, pow-suc 10 i))

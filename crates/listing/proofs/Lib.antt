@@ -4,3 +4,4 @@ pub mod Decimal
 pub mod Sign
 pub mod Digits
 pub mod Reading
+pub mod Replying

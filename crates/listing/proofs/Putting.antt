@@ -6,8 +6,10 @@ use native.Mathlib.Omega.{arith}
 use lib.ListN.{length, set, length-append}
 use lib.Seq.{sets}
 use lib.IntN.{ℤ, pos, negsuc, natAbs}
-use Rattle.listing.specs.Text.{SPACE, decimal, sign, signed, spaced}
+use Rattle.answers.specs.declared.Answer.{Answer}
+use Rattle.listing.specs.Text.{SPACE, COLON, decimal, sign, signed, spaced}
 use Rattle.listing.specs.Puts.{Puts}
+use Rattle.listing.specs.Listing.{letterOf, headOf}
 use Rattle.listing.proofs.Decimal.{length-machine}
 
 sets-append : (a b l : List ℕ) (i : ℕ) → sets l i (a ++ b) ≡ sets (sets l i a) (i + length a) b
@@ -57,3 +59,10 @@ module _ {at p q : ℕ} {l m o : List ℕ} where
   pub put-plain : (n : ℕ) → Puts (SPACE ∷ []) at l m p → Puts (decimal n) p m o q → Puts (spaced (pos n ∷ [])) at l o q
   unfolding sign
   put-plain n f g = put-one (pos n) f g
+
+-- a head in its five parts
+pub put-headed : (kind n : ℕ) (a : Answer) {at p₁ p₂ p₃ p₄ p₅ : ℕ} {l m₁ m₂ m₃ m₄ m₅ : List ℕ} → Puts (letterOf kind ∷ []) at l m₁ p₁ → Puts (spaced (pos n ∷ pos (a .code) ∷ pos (a .degree) ∷ [])) p₁ m₁ m₂ p₂ → Puts (spaced (pos (a .additions) ∷ pos (a .height) ∷ pos (a .gain) ∷ [])) p₂ m₂ m₃ p₃ → Puts (SPACE ∷ []) p₃ m₃ m₄ p₄ → Puts (COLON ∷ []) p₄ m₄ m₅ p₅ → Puts (headOf kind n a) at l m₅ p₅
+unfolding headOf
+put-headed kind n a f g h i j =
+    rw (spaced-append (pos n ∷ pos (a .code) ∷ pos (a .degree) ∷ []) (pos (a .additions) ∷ pos (a .height) ∷ pos (a .gain) ∷ []), append-assoc)
+    (then f (then g (then h (then i j))))

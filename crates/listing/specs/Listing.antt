@@ -26,9 +26,12 @@ headOf kind n a =
     ∷ spaced (pos n ∷ pos (a .code) ∷ pos (a .degree) ∷ pos (a .additions) ∷ pos (a .height) ∷ pos (a .gain) ∷ [])
     ++ (SPACE ∷ COLON ∷ [])
 
--- the line of an answer; `cs` are the coefficients, printed on code 0 alone
+-- after the colon: `cs` are the coefficients, printed on code 0 alone
+unfoldable pub tailOf : Answer → List ℤ → List ℕ
+tailOf a cs = spaced (cond (eqb (a .code) DONE) cs []) ++ (NEWLINE ∷ [])
+
 unfoldable pub goodLine : ℕ → ℕ → Answer → List ℤ → List ℕ
-goodLine kind n a cs = headOf kind n a ++ spaced (cond (eqb (a .code) DONE) cs []) ++ (NEWLINE ∷ [])
+goodLine kind n a cs = headOf kind n a ++ tailOf a cs
 
 unfoldable pub wrongLine : ℕ → List ℕ
 wrongLine number = QUERY ∷ spaced (pos number ∷ []) ++ (NEWLINE ∷ [])

@@ -1,6 +1,7 @@
 // The listing (document 01, 'The listing'): bytes of lines in, bytes of answers out. `read` takes a line apart, `text` writes numbers.
 
 mod read;
+mod reply;
 mod text;
 
 // What a line asks for: a kind, an index and a height limit; or it is not good, and all three are 0.

@@ -2,7 +2,7 @@
 
 ghost use mathlib.Core.Path.{_≡_};
 ghost use mathlib.Core.Bool.{true};
-ghost use Prim.Native.Nat.{ℕ, _+_, _≤_};
+ghost use Prim.Native.Nat.{ℕ, _+_, _≤_, _<_};
 ghost use lib.ListN.{length, getD, drop};
 ghost use Rattle.listing.specs.Request.{kindOf, isDigit, digits, digitsAt, numberAt, oneToNine, isGoodWith, wrong, readLine};
 use crate::Request;
@@ -55,7 +55,7 @@ fn digits_at(line: &[u8], place: usize) -> usize
 // The number that they say, where they are at most 9.
 fn number_at(line: &[u8], place: usize, count: usize) -> u64
     requires { ⌜ (count ≡ digitsAt (now line) place) × (count ≤ 9) ⌝ }
-    ensures { λ r. ⌜ r ≡ numberAt (now (line .entry)) place ⌝ }
+    ensures { λ r. ⌜ (r ≡ numberAt (now (line .entry)) place) × (r < 1000000000) ⌝ }
 {
     let mut v = 0;
     let mut i = 0;
@@ -96,7 +96,7 @@ fn is_good_with(line: &[u8], kind: u64, a: usize, b: usize) -> bool
 }
 
 pub fn read_line(line: &[u8]) -> Request
-    ensures { λ r. ⌜ r ≡ readLine (now (line .entry)) ⌝ }
+    ensures { λ r. ⌜ (r ≡ readLine (now (line .entry))) × (r .h < 1000000000) ⌝ }
 {
     let kind = kind_of(byte_at(line, 0));
     let a = digits_at(line, 2);

@@ -25,7 +25,7 @@ range : (c : tie.In-loop Inv-loop μ-loop) → (48 ≤ getD (c .before .before .
 range c = digit-range _ (is-digit-here (c .before .before .args .line .now) (c .before .before .args .place + c .before .loop .i) (here c))
 
 below : (c : tie.In-loop Inv-loop μ-loop) → c .before .loop .v < 100000000
-below c = small (c .before .loop .v) (c .before .loop .i) (c .before .loop .inv .2) (omega (arith, c .before .before .pre .1))
+below c = small (c .before .loop .v) (c .before .loop .i) 8 (c .before .loop .inv .2) (omega (arith, c .before .before .pre .1))
 
 -- src/read.rt:62:5
 loop-holds : tie.Need-loop-holds Inv-loop μ-loop
@@ -81,8 +81,10 @@ loop-again c =
 -- src/read.rt:56:1
 returns : tie.Need-returns Inv-loop μ-loop
 returns c =
-    let t = c .before in
-    sym (t .loop .inv .0 ∙ value-none (t .before .args .line .now) (t .before .args .place + t .loop .i) (t .loop .v) (omega arith))
+    let t = c .before in (
+      sym (t .loop .inv .0 ∙ value-none (t .before .args .line .now) (t .before .args .place + t .loop .i) (t .loop .v) (omega arith)),
+      small (t .loop .v) (t .loop .i) 9 (t .loop .inv .2) (omega (arith, t .before .pre .1)),
+    )
 
 pub number-at-spec : {M : Type 1} → statement M
 number-at-spec =

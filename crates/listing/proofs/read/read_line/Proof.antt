@@ -1,4 +1,5 @@
 use mathlib.Core.Path.{_≡_, sym, _∙_, ap}
+use lib.Dec.{lit<}
 use Rattle.listing.specs.Request.{kindOf, isGood}
 use Rattle.listing.proofs.Reading.{most-nine, good-as, too-many-good, limit, reads-good, reads-wrong}
 use borrow.Author.Needs.{needs}
@@ -57,15 +58,15 @@ returns : tie.Need-returns
 returns c =
     let l = c .before .before .before .before .before .before .before .before .before .before .args .line .now in
     let a = c .before .before .before .before .before .before .digits-at in
-    reads-good l _ _ _ (sym (as-good (c .before .before .before)) ∙ c .before .before .if2 .taken) (c .before .before .before .before .before .before .before .kind-of .ensures ∙ ap kindOf (c .before .before .before .before .before .before .before .before .byte-at .ensures)) (c .before .number-at .ensures) (c .number-at2 .ensures ∙ limit l (a .result) (a .ensures))
+    (reads-good l _ _ _ (sym (as-good (c .before .before .before)) ∙ c .before .before .if2 .taken) (c .before .before .before .before .before .before .before .kind-of .ensures ∙ ap kindOf (c .before .before .before .before .before .before .before .before .byte-at .ensures)) (c .before .number-at .ensures .0) (c .number-at2 .ensures .0 ∙ limit l (a .result) (a .ensures)), c .number-at2 .ensures .1)
 
 -- src/read.rt:98:1
 returns-2 : tie.Need-returns-2
-returns-2 c = reads-wrong _ (sym (as-good (c .before)) ∙ c .if2 .left)
+returns-2 c = (reads-wrong _ (sym (as-good (c .before)) ∙ c .if2 .left), lit< tt)
 
 -- src/read.rt:98:1
 returns-3 : tie.Need-returns-3
-returns-3 c = reads-wrong _ (too-many-good (c .before .before .before .before .before .args .line .now) (c .before .digits-at .result) (c .before .digits-at .ensures) (c .if1 .left))
+returns-3 c = (reads-wrong _ (too-many-good (c .before .before .before .before .before .args .line .now) (c .before .digits-at .result) (c .before .digits-at .ensures) (c .if1 .left)), lit< tt)
 
 pub read-line-spec : {M : Type 1} → statement M
 read-line-spec =
