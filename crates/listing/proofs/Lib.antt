@@ -5,3 +5,4 @@ pub mod Sign
 pub mod Digits
 pub mod Reading
 pub mod Replying
+pub mod Streaming

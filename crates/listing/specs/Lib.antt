@@ -5,3 +5,4 @@ pub mod Listing
 pub mod Example
 pub mod Stream
 pub mod Puts
+pub mod Ran

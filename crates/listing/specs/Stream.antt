@@ -1,7 +1,7 @@
 -- The listing piece by piece. Of the line that is being read at most 40 bytes are kept, for a longer line is not good; its length stops at 41.
 -- What pieces of input come, and where the output is cut, makes no difference (proofs/, `Whole`).
 use Prim.Native.Nat.{ℕ, _+_, _*_, _-_, _%_, _^_}
-use mathlib.Core.Bool.{Bool, cond}
+use mathlib.Core.Bool.{Bool, cond, _&&_}
 use mathlib.Core.List.{List, [], _∷_, _++_}
 use lib.ListN.{length, take, set, replicate}
 use lib.Dec.{eqb, ltb, leb}
@@ -31,14 +31,21 @@ nextLine s = record { bytes = s .bytes; length = 0; number = (s .number + 1) % 2
 unfoldable pub closing : Line → List ℕ
 closing s = cond (leb (s .length) KEPT) (reply (s .number) (take (s .length) (s .bytes))) (wrongLine (s .number))
 
+-- one byte more, and what it prints
+unfoldable pub step : Line → ℕ → Line
+step s b = cond (eqb b NEWLINE) (nextLine s) (pushed s b)
+
+unfoldable pub says : Line → ℕ → List ℕ
+says s b = cond (eqb b NEWLINE) (closing s) []
+
 -- what stands after some bytes of input, and what they print
 unfoldable pub after : Line → List ℕ → Line
 after s [] = s
-after s (b ∷ bs) = cond (eqb b NEWLINE) (after (nextLine s) bs) (after (pushed s b) bs)
+after s (b ∷ bs) = after (step s b) bs
 
 unfoldable pub printed : Line → List ℕ → List ℕ
 printed s [] = []
-printed s (b ∷ bs) = cond (eqb b NEWLINE) (closing s ++ printed (nextLine s) bs) (printed (pushed s b) bs)
+printed s (b ∷ bs) = says s b ++ printed (step s b) bs
 
 -- what the end of the input prints: a line only if it isn't empty
 unfoldable pub ending : Line → List ℕ
@@ -52,6 +59,4 @@ MOST = 90242
 unfoldable pub taken : ℕ → Line → List ℕ → ℕ
 taken room s [] = 0
 taken room s (b ∷ bs) =
-    cond (eqb b NEWLINE)
-    (cond (ltb room MOST) 0 (1 + taken (room - length (closing s)) (nextLine s) bs))
-    (1 + taken room (pushed s b) bs)
+    cond (eqb b NEWLINE && ltb room MOST) 0 (1 + taken (room - length (says s b)) (step s b) bs)

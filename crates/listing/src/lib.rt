@@ -1,8 +1,15 @@
-// The listing (document 01, 'The listing'): bytes of lines in, bytes of answers out. `read` takes a line apart, `text` writes numbers.
+// The listing (document 01, 'The listing'): bytes of lines in, bytes of answers out. `read` takes a line apart, `text` writes numbers, `reply` the
+// line that answers a line, and `stream` goes through an input that comes in pieces.
 
 mod read;
 mod reply;
+mod stream;
 mod text;
+
+pub use read::read_line;
+pub use stream::heading;
+pub use stream::run;
+pub use stream::start;
 
 // What a line asks for: a kind, an index and a height limit; or it is not good, and all three are 0.
 pub struct Request {
@@ -19,4 +26,9 @@ pub struct Line {
     pub number: u64,
 }
 
-pub use read::read_line;
+// How far a run has come: the line that is left open, how many bytes of input were taken, and how many of output were made.
+pub struct Progress {
+    pub line: Line,
+    pub taken: usize,
+    pub made: usize,
+}

@@ -49,6 +49,7 @@ fn put_tail(out: &mut [u8], at: usize, a: Answer, entries: &[i64]) -> usize
     requires { ⌜ at + 22 * length (now entries) < length (now out) ⌝ }
     requires { ⌜ (a .code ≡ 0 → a .degree < length (now entries)) ⌝ }
     ensures { λ r. ⌜ Puts (tailOf a (take (a .degree + 1) (now (entries .entry)))) at (now (out .entry)) (now (out .exit)) r ⌝ }
+    ensures { λ r. ⌜ r ≤ at + 22 * length (now (entries .entry)) + 1 ⌝ }
 {
     let code = a.code;
     if code == 0 {
@@ -60,9 +61,10 @@ fn put_tail(out: &mut [u8], at: usize, a: Answer, entries: &[i64]) -> usize
 }
 
 // What is printed for a line that is not good.
-fn put_wrong(out: &mut [u8], at: usize, number: u64) -> usize
+pub(crate) fn put_wrong(out: &mut [u8], at: usize, number: u64) -> usize
     requires { ⌜ at + 23 ≤ length (now out) ⌝ }
     ensures { λ r. ⌜ Puts (wrongLine number) at (now (out .entry)) (now (out .exit)) r ⌝ }
+    ensures { λ r. ⌜ r ≤ at + 23 ⌝ }
 {
     let p = put(out, at, b'?');
     let p = put_item(out, p, number);
@@ -78,6 +80,7 @@ pub(crate) fn put_reply(
 ) -> usize
     requires { ⌜ (length (now entries) ≡ LENT) × (at + MOST ≤ length (now out)) ⌝ }
     ensures { λ r. ⌜ Puts (reply number (now (line .entry))) at (now (out .entry)) (now (out .exit)) r ⌝ }
+    ensures { λ r. ⌜ r ≤ at + MOST ⌝ }
 {
     let q = read_line(line);
     if !q.good {

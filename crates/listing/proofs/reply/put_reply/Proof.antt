@@ -35,7 +35,7 @@ returns : tie.Need-returns
 returns c =
     let s = c .before .before .before .before .before .before .before .before .before in
     let q = c .before .before .before .before .before .before .read-line in
-    rw (← replied-wrong (s .args .number) (s .args .line .now) (q .result) (q .ensures .0) (not-true _ (c .before .before .before .before .if1 .taken))) (c .before .before .put-wrong .ensures)
+    rw (← replied-wrong (s .args .number) (s .args .line .now) (q .result) (q .ensures .0) (not-true _ (c .before .before .before .before .if1 .taken))) (c .before .before .put-wrong .ensures .0, omega (arith, c .before .before .put-wrong .ensures .1))
 
 -- src/reply.rt:74:49
 cast-polynomial : tie.Need-cast-polynomial
@@ -75,7 +75,7 @@ returns-2 c =
     let a = c .before .before .before .before .before .before .before .before .before .before .polynomial in
     let f : SFits w64 (pos (q .result .h)) = record { sfits = omega (arith, q .ensures .1) } in
     rw (← replied (s .args .number) (s .args .line .now) (q .result) (q .ensures .0) (a .result) (s .args .entries .now) (a .last .1 .1 .1 .0) (not-false _ (c .before .before .before .before .before .before .before .before .before .before .before .before .before .if1 .left)) (s .pre .0) (rw (toZ-ofZ f) at (a .ensures .0)) (rw (toZ-ofZ f) at (a .ensures .1)))
-    (then (c .before .before .before .before .before .before .before .put-head .ensures .0) (c .before .before .put-tail .ensures))
+    (then (c .before .before .before .before .before .before .before .put-head .ensures .0) (c .before .before .put-tail .ensures .0), omega (arith, c .before .before .before .before .before .before .before .put-head .ensures .1, c .before .before .put-tail .ensures .1, a .kept .1 .1 .1 .0, s .pre .0))
 
 pub put-reply-spec : {M : Type 1} → statement M
 put-reply-spec =

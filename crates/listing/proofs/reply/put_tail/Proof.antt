@@ -34,7 +34,13 @@ same-length c = search needs
 -- src/reply.rt:51:9
 returns : tie.Need-returns
 unfolding tailOf
-returns c = rw (eq-eqb _ _ (c .before .before .before .before .before .before .before .before .if1 .taken)) (then (c .before .before .before .before .before .before .put-coefficients .ensures .0) (c .before .before .put .ensures))
+returns c =
+    let h = c .before .before .before .before .before .before .before .before .before .before .pre .1 (c .before .before .before .before .before .before .before .before .if1 .taken) in
+    let last = c .before .before .put .ensures in
+    rw (eq-eqb _ _ (c .before .before .before .before .before .before .before .before .if1 .taken)) (
+      then (c .before .before .before .before .before .before .put-coefficients .ensures .0) last,
+      omega (arith, c .before .before .before .before .before .before .put-coefficients .ensures .1, last .place),
+    )
 
 -- src/reply.rt:53:5
 put-requires-2 : tie.Need-put-requires-2
@@ -47,7 +53,9 @@ same-length-2 c = search needs
 -- src/reply.rt:42:1
 returns-2 : tie.Need-returns-2
 unfolding tailOf spaced
-returns-2 c = rw (ne-eqb _ _ (c .before .before .before .before .if1 .left)) (c .before .before .put2 .ensures)
+returns-2 c =
+    let last = c .before .before .put2 .ensures in
+    rw (ne-eqb _ _ (c .before .before .before .before .if1 .left)) (last, omega (arith, last .place))
 
 pub put-tail-spec : {M : Type 1} → statement M
 put-tail-spec =

@@ -1,3 +1,4 @@
+use native.Mathlib.Omega.{arith}
 use Rattle.listing.specs.Listing.{wrongLine}
 use Rattle.listing.proofs.Putting.{then}
 use borrow.Author.Needs.{needs}
@@ -27,7 +28,12 @@ same-length c = search needs
 -- src/reply.rt:57:1
 returns : tie.Need-returns
 unfolding wrongLine
-returns c = then (c .before .before .before .before .before .before .before .before .before .before .put .ensures) (then (c .before .before .before .before .before .before .put-item .ensures .0) (c .before .before .put2 .ensures))
+returns c =
+    let first = c .before .before .before .before .before .before .before .before .before .before .put .ensures in
+    let last = c .before .before .put2 .ensures in (
+      then first (then (c .before .before .before .before .before .before .put-item .ensures .0) last),
+      omega (arith, first .place, c .before .before .before .before .before .before .put-item .ensures .1, last .place),
+    )
 
 pub put-wrong-spec : {M : Type 1} → statement M
 put-wrong-spec =
