@@ -6,3 +6,5 @@ pub mod Digits
 pub mod Reading
 pub mod Replying
 pub mod Streaming
+pub mod Kept
+pub mod Whole

@@ -3,7 +3,8 @@ use mathlib.Core.Path.{_≡_, refl, sym, _∙_, ap}
 use mathlib.Core.Bool.{Bool, true, false, true≢false, cond, _&&_, and-false}
 use mathlib.Core.List.{List}
 use Prim.Native.Nat.{ℕ, _+_, _≤_}
-use borrow.Author.Tests.{lt-leb}
+use native.Mathlib.Omega.{arith}
+use borrow.Author.Tests.{lt-leb, eqb-true}
 use lib.ListN.{length, getD}
 use lib.Dec.{eqb, leb}
 use Rattle.step_laws.specs.Tests.{by-test}
@@ -33,6 +34,13 @@ left-of : (a b : Bool) → (a && b) ≡ true → a ≡ true
 left-of true b e = refl
 left-of false b e = e
 
+third : (p q r s : Bool) → (p && (q && (r && s))) ≡ true → r ≡ true
+third p q r s e = left-of r s (right-of q (r && s) (right-of p (q && (r && s)) e))
+
+sixth : (p q r s t u : Bool) → (p && (q && (r && (s && (t && u))))) ≡ true → u ≡ true
+sixth p q r s t u e =
+    right-of t u (right-of s (t && u) (right-of r (s && (t && u)) (right-of q (r && (s && (t && u))) (right-of p (q && (r && (s && (t && u)))) e))))
+
 fifth : (p q r s t u : Bool) → (p && (q && (r && (s && (t && u))))) ≡ true → t ≡ true
 fifth p q r s t u e =
     left-of t u (right-of s (t && u) (right-of r (s && (t && u)) (right-of q (r && (s && (t && u))) (right-of p (q && (r && (s && (t && u)))) e))))
@@ -44,6 +52,16 @@ module _ (l : List ℕ) (a b : ℕ) where
       nine-range b
       (fifth (knownKind (kindOf (getD l 0 0))) (eqb (getD l 1 0) SPACE) (oneToNine a) (eqb (getD l (2 + a) 0) SPACE) (oneToNine b) (eqb (length l) (3 + a + b)) e)
       .1
+
+  short-with : isGoodWith l a b ≡ true → length l ≤ 21
+  unfolding isGoodWith
+  short-with e =
+      omega (
+        arith,
+        nine-range a (third (knownKind (kindOf (getD l 0 0))) (eqb (getD l 1 0) SPACE) (oneToNine a) (eqb (getD l (2 + a) 0) SPACE && (oneToNine b && eqb (length l) (3 + a + b))) e),
+        most-nine e,
+        eqb-true (length l) (3 + a + b) (sixth (knownKind (kindOf (getD l 0 0))) (eqb (getD l 1 0) SPACE) (oneToNine a) (eqb (getD l (2 + a) 0) SPACE) (oneToNine b) (eqb (length l) (3 + a + b)) e),
+      )
 
   pub too-many : 10 ≤ a → isGoodWith l a b ≡ false
   unfolding isGoodWith oneToNine
@@ -60,6 +78,11 @@ too-many-good l a p h = sym (good-as l a (digitsAt l (3 + a)) p refl) ∙ too-ma
 pub limit : (l : List ℕ) (a : ℕ) → a ≡ digitsAt l 2 → numberAt l (3 + a) ≡ numberAt l (placeOfLimit l)
 unfolding placeOfLimit
 limit l a p = rw p
+
+-- a good line has at most 21 bytes
+pub good-short : (l : List ℕ) → isGood l ≡ true → length l ≤ 21
+unfolding isGood
+good-short l e = short-with l (digitsAt l 2) (digitsAt l (placeOfLimit l)) e
 
 pub reads-good : (l : List ℕ) (k n h : ℕ) → isGood l ≡ true → k ≡ kindOf (getD l 0 0) → n ≡ numberAt l 2 → h ≡ numberAt l (placeOfLimit l) → _≡_ {A = Request} (record { good = true; kind = k; n = n; h = h }) (readLine l)
 unfolding readLine
