@@ -1,8 +1,9 @@
 -- A run over a piece of input, byte by byte: what has been taken and printed so far, and that one byte more keeps it so.
 use mathlib.Core.Path.{_≡_, refl, sym, _∙_, ap}
-use mathlib.Core.Bool.{true, false, cond, _&&_}
+use mathlib.Core.Bool.{true, false, cond, _&&_, and-false}
 use mathlib.Core.List.{List, [], _∷_, _++_, append-assoc, append-nil}
 use Prim.Native.Nat.{ℕ, suc, _+_, _-_, _<_, _≤_}
+use native.Mathlib.Nat.{not-suc-le-zero}
 use native.Mathlib.Numerals.{add-one}
 use native.Mathlib.Omega.{arith}
 use borrow.Author.Tests.{eq-eqb, ne-eqb, lt-ltb, le-ltb}
@@ -14,6 +15,7 @@ use Rattle.listing.specs.Stream.{MOST, pushed, nextLine, closing, step, 
 use Rattle.listing.specs.Puts.{Puts}
 use Rattle.listing.specs.Ran.{Ran}
 use Rattle.listing.specs.declared.Line.{Line}
+use Rattle.listing.specs.declared.Progress.{Progress}
 use Rattle.listing.proofs.Putting.{then, nothing-put}
 
 pub after-append : (s : Line) (xs ys : List ℕ) → after s (xs ++ ys) ≡ after (after s xs) ys
@@ -133,3 +135,11 @@ module _ (line : Line) (piece l : List ℕ) where
       closes {m′} {made′} e h p b =
           let f = eq-eqb (getD piece i 0) NEWLINE e in
           rw f at (goes {m′ = m′} {made′ = made′} (rw (f, le-ltb (length l - made) MOST (omega (arith, g .same)))) (rw f p) (omega (arith, g .same, g .fits)))
+
+-- a run that has room for a line takes something
+pub takes : {line : Line} {piece l m : List ℕ} {r : Progress} → Ran line piece l m r → MOST ≤ length l → 0 < length piece → 0 < r .taken
+takes {line} {piece} {l} t h b = rw (t .took) (go piece b)
+  where
+    go : (piece : List ℕ) → 0 < length piece → 0 < taken (length l) line piece
+    go [] b = absurd (not-suc-le-zero b)
+    go (x ∷ xs) b = rw (taken-on (length l) line x xs (simp (le-ltb (length l) MOST h, and-false))) (omega arith)

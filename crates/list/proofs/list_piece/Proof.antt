@@ -1,0 +1,94 @@
+use Rattle.list.proofs.list_piece.Statement.{statement}
+use Rattle.list.proofs.list_piece.Tie as tie
+use Rattle.list.proofs.list_piece.Reads as reads
+use Rattle.list.proofs.list_piece.Lts as lts
+use Rattle.io.proofs.write_all.Reads as write-all-reads
+use Rattle.listing.proofs.run.Reads as run-reads
+
+abbrev Inv-loop : tie.InvT-loop
+Inv-loop piece out₀ s₀ from₀ out s from = ?
+
+abbrev μ-loop : tie.MeasureT-loop
+μ-loop piece out₀ s₀ from₀ out s from = ?
+
+-- src/main.rt:23:5
+loop-holds : tie.Need-loop-holds Inv-loop μ-loop
+loop-holds c = ?
+
+-- src/main.rt:24:33
+sub-run : tie.Need-sub-run Inv-loop μ-loop
+sub-run c = ?
+
+-- src/main.rt:24:33
+part-run-start : tie.Need-part-run-start Inv-loop μ-loop
+part-run-start c = ?
+
+-- src/main.rt:24:33
+part-run-end : tie.Need-part-run-end Inv-loop μ-loop
+part-run-end c = ?
+
+-- src/main.rt:24:13
+run-requires : tie.Need-run-requires Inv-loop μ-loop
+run-requires c κs = ?
+
+-- src/main.rt:27:42
+slice-reshare-prefix-write-all : tie.Need-slice-reshare-prefix-write-all Inv-loop μ-loop
+slice-reshare-prefix-write-all c = ?
+
+-- src/main.rt:27:42
+slice-aggregate-write-all : tie.Need-slice-aggregate-write-all Inv-loop μ-loop
+slice-aggregate-write-all c = ?
+
+-- src/main.rt:27:13
+write-all-requires : tie.Need-write-all-requires Inv-loop μ-loop
+write-all-requires c κs = ?
+
+-- src/main.rt:28:13
+same-length : tie.Need-same-length Inv-loop μ-loop
+same-length c = ?
+
+-- src/main.rt:28:13
+returns : tie.Need-returns Inv-loop μ-loop
+returns c = ?
+
+-- src/main.rt:33:9
+add-from : tie.Need-add-from Inv-loop μ-loop
+add-from c = ?
+
+-- src/main.rt:23:5
+loop-less : tie.Need-loop-less Inv-loop μ-loop
+loop-less c = ?
+
+-- src/main.rt:23:5
+loop-again : tie.Need-loop-again Inv-loop μ-loop
+loop-again c = ?
+
+-- src/main.rt:18:1
+same-length-2 : tie.Need-same-length-2 Inv-loop μ-loop
+same-length-2 c = ?
+
+-- src/main.rt:18:1
+returns-2 : tie.Need-returns-2 Inv-loop μ-loop
+returns-2 c = ?
+
+pub list-piece-spec : {M : Type 1} → statement M
+list-piece-spec =
+    tie.close
+    (tie.spec
+    Inv-loop
+    μ-loop
+    loop-holds
+    sub-run
+    part-run-start
+    part-run-end
+    run-requires
+    slice-reshare-prefix-write-all
+    slice-aggregate-write-all
+    write-all-requires
+    same-length
+    returns
+    add-from
+    loop-less
+    loop-again
+    same-length-2
+    returns-2)
