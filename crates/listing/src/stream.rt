@@ -37,6 +37,7 @@ const HEADING: [u8; 12] = [
 // `polynomials` and a newline, where there is room for it.
 pub fn heading(out: &mut [u8]) -> usize
     ensures { λ r. ⌜ Puts (cond (ltb (length (now (out .entry))) 12) [] theHeading) 0 (now (out .entry)) (now (out .exit)) r ⌝ }
+    ensures { λ r. ⌜ r ≤ length (now (out .entry)) ⌝ }
 {
     if out.len() < 12 {
         return 0;

@@ -21,7 +21,7 @@ abbrev μ-loop : tie.MeasureT-loop
 
 -- src/stream.rt:31:9
 returns : tie.Need-returns Inv-loop μ-loop
-returns c = rw (lt-ltb _ _ (c .if1 .taken)) (nothing-put 0 (c .before .args .out .now))
+returns c = rw (lt-ltb _ _ (c .if1 .taken)) (nothing-put 0 (c .before .args .out .now), omega arith)
 
 -- src/stream.rt:34:5
 loop-holds : tie.Need-loop-holds Inv-loop μ-loop
@@ -63,7 +63,7 @@ unfolding heading
 returns-2 c =
     let t = c .before .loop in
     let e : t .i ≡ 12 = omega arith in
-    rw (le-ltb _ _ (c .before .before .if1 .left)) (rw e at (t .inv .1))
+    rw (le-ltb _ _ (c .before .before .if1 .left)) (rw e at (t .inv .1), omega arith)
 
 pub heading-spec : {M : Type 1} → statement M
 heading-spec =
