@@ -8,3 +8,4 @@ pub mod Replying
 pub mod Streaming
 pub mod Kept
 pub mod Whole
+pub mod OneOutcome
