@@ -1,18 +1,17 @@
 -- What is kept of a line says what is printed for it: its first 40 bytes are all of it, or it is too long to be good.
-use mathlib.Core.Path.{_≡_, refl, sym, _∙_, ap, ap₂}
-use mathlib.Core.Bool.{Bool, true, false, cond}
-use mathlib.Core.List.{List, [], _∷_, _++_, append-assoc, append-nil}
+use mathlib.Core.Path.{_≡_, refl, sym, _∙_, ap}
+use mathlib.Core.Bool.{false}
+use mathlib.Core.List.{List, [], _∷_, _++_}
 use Prim.Native.Nat.{ℕ, suc, _+_, _%_, _^_, _<_, _≤_}
 use native.Mathlib.Nat.{mod-eq-of-lt}
 use native.Mathlib.Numerals.{add-one}
 use native.Mathlib.Omega.{arith}
-use borrow.Author.Tests.{le-leb, lt-leb, lt-ltb, le-ltb, ne-eqb}
-use lib.ListN.{length, take, set, length-append, length-set, length-replicate}
+use borrow.Author.Tests.{le-leb, lt-leb, lt-ltb, le-ltb}
+use lib.ListN.{length, take, length-append, length-set, length-replicate}
 use lib.Seq.{take-suc-set}
-use lib.Dec.{eqb}
 use Rattle.step_laws.specs.Tests.{by-test, by-order}
-use Rattle.listing.specs.Request.{isGood, readLine}
-use Rattle.listing.specs.Listing.{wrongLine, replyTo, reply}
+use Rattle.listing.specs.Request.{isGood}
+use Rattle.listing.specs.Listing.{wrongLine, reply}
 use Rattle.listing.specs.Stream.{KEPT, startLine, pushed, nextLine, closing}
 use Rattle.listing.specs.declared.Line.{Line}
 use Rattle.listing.proofs.Reading.{good-short, reads-wrong}

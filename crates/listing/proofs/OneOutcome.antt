@@ -10,7 +10,6 @@ use borrow.Fn.Kinds.{endedOf}
 use borrow.Fn.World.{ArgsD, ResD}
 use denote.Triple.Clauses.{AtExit}
 use denote.Ref.{now}
-use Rattle.listing.specs.Puts.{Puts}
 use Rattle.listing.specs.Ran.{Ran}
 use Rattle.listing.specs.Stream.{after, printed}
 use Rattle.listing.specs.declared.Line.{Line}

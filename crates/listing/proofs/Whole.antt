@@ -1,18 +1,16 @@
 -- Whatever pieces the input comes in, and wherever the output is cut, what is written is the listing of the whole input.
 use mathlib.Core.Path.{_≡_, refl, sym, _∙_, ap, ap₂}
-use mathlib.Core.Bool.{cond}
 use mathlib.Core.List.{List, [], _∷_, _++_, append-assoc, append-nil}
-use Prim.Native.Nat.{ℕ, suc, _+_, _^_, _<_, _≤_}
+use Prim.Native.Nat.{ℕ, suc, _+_, _^_, _<_}
 use native.Mathlib.Omega.{arith}
 use borrow.Author.Tests.{eq-eqb, ne-eqb}
 use lib.ListN.{length, take, drop, take-append-drop}
-use lib.Seq.{sets, sets-eq, take-at}
+use lib.Seq.{sets-eq, take-at}
 use lib.Dec.{eqb}
 use Rattle.step_laws.specs.Tests.{by-test}
 use Rattle.listing.specs.Text.{NEWLINE}
 use Rattle.listing.specs.Listing.{reply, lastLine, linesFrom, replies, heading, listing}
 use Rattle.listing.specs.Stream.{startLine, pushed, nextLine, closing, step, says, after, printed, ending}
-use Rattle.listing.specs.Puts.{Puts}
 use Rattle.listing.specs.Ran.{Ran}
 use Rattle.listing.specs.declared.Line.{Line}
 use Rattle.listing.specs.declared.Progress.{Progress}

@@ -2,10 +2,7 @@
 -- its third from the answer, since F(105) takes long from its definition.
 use Prim.Native.Nat.{ℕ}
 use mathlib.Core.Path.{_≡_, refl}
-use mathlib.Core.Bool.{Bool, true, false}
-use mathlib.Core.List.{List, [], _∷_, _++_}
-use lib.IntN.{ℤ, pos, negsuc}
-use Rattle.answers.specs.declared.Answer.{Answer}
+use mathlib.Core.List.{List, [], _∷_}
 use Rattle.definitions.specs.Integers.{_⊕_, _⊗_, ⊖}
 use Rattle.definitions.specs.Series.{constant, _+ˢ_, -ˢ, _·_, _÷_, z^, firsts}
 use Rattle.definitions.specs.Numbers.{someTo, countTo, listTo, productOfTo, divides, shareFactor, phi, isPrime, oddPrimeOf, rOf, divisorsBelow, primesOf, muIsPlus}

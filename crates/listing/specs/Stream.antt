@@ -1,12 +1,12 @@
 -- The listing piece by piece. Of the line that is being read at most 40 bytes are kept, for a longer line is not good; its length stops at 41.
 -- What pieces of input come, and where the output is cut, makes no difference (proofs/, `Whole`).
-use Prim.Native.Nat.{ℕ, _+_, _*_, _-_, _%_, _^_}
-use mathlib.Core.Bool.{Bool, cond, _&&_}
+use Prim.Native.Nat.{ℕ, _+_, _-_, _%_, _^_}
+use mathlib.Core.Bool.{cond, _&&_}
 use mathlib.Core.List.{List, [], _∷_, _++_}
 use lib.ListN.{length, take, set, replicate}
 use lib.Dec.{eqb, ltb, leb}
 use Rattle.listing.specs.Text.{NEWLINE}
-use Rattle.listing.specs.Listing.{LENT, reply, wrongLine}
+use Rattle.listing.specs.Listing.{reply, wrongLine}
 use Rattle.listing.specs.declared.Line.{Line}
 
 abbrev pub KEPT : ℕ

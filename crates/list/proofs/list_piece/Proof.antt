@@ -1,3 +1,4 @@
+-- `list::list_piece` is safe and ends: each run takes something, since there is room for a line (`takes`).
 use Prim.Native.Nat.{_-_, _≤_, _<_}
 use mathlib.Core.Path.{_≡_, refl, sym, _∙_}
 use native.Mathlib.Omega.{arith}
@@ -6,10 +7,6 @@ use lib.Seq.{length-take-le}
 use Rattle.listing.proofs.Streaming.{takes}
 use Rattle.list.proofs.list_piece.Statement.{statement}
 use Rattle.list.proofs.list_piece.Tie as tie
-use Rattle.list.proofs.list_piece.Reads as reads
-use Rattle.list.proofs.list_piece.Lts as lts
-use Rattle.io.proofs.write_all.Reads as write-all-reads
-use Rattle.listing.proofs.run.Reads as run-reads
 
 abbrev Inv-loop : tie.InvT-loop
 Inv-loop piece out₀ s₀ from₀ out s from = (from ≤ length piece) × (length out ≡ length out₀)
@@ -17,44 +14,34 @@ Inv-loop piece out₀ s₀ from₀ out s from = (from ≤ length piece) × (leng
 abbrev μ-loop : tie.MeasureT-loop
 μ-loop piece out₀ s₀ from₀ out s from = length piece - from
 
--- src/main.rt:23:5
 loop-holds : tie.Need-loop-holds Inv-loop μ-loop
 loop-holds c = (omega arith, refl)
 
--- src/main.rt:24:33
 sub-run : tie.Need-sub-run Inv-loop μ-loop
 sub-run c = omega arith
 
--- src/main.rt:24:33
 part-run-start : tie.Need-part-run-start Inv-loop μ-loop
 part-run-start c = omega arith
 
--- src/main.rt:24:33
 part-run-end : tie.Need-part-run-end Inv-loop μ-loop
 part-run-end c = omega arith
 
--- src/main.rt:24:13
 run-requires : tie.Need-run-requires Inv-loop μ-loop
 run-requires c κs = tt
 
--- src/main.rt:27:42
 slice-reshare-prefix-write-all : tie.Need-slice-reshare-prefix-write-all Inv-loop μ-loop
 slice-reshare-prefix-write-all c = omega (arith, c .before .before .before .run .ensures .fits, c .before .before .before .run .kept .1 .1 .0)
 
--- src/main.rt:27:42
 slice-aggregate-write-all : tie.Need-slice-aggregate-write-all Inv-loop μ-loop
 slice-aggregate-write-all c =
     sym (length-take-le _ _ (omega (arith, c .before .before .before .before .run .ensures .fits, c .before .before .before .before .run .kept .1 .1 .0)))
 
--- src/main.rt:27:13
 write-all-requires : tie.Need-write-all-requires Inv-loop μ-loop
 write-all-requires c κs = tt
 
--- src/main.rt:28:13
 same-length : tie.Need-same-length Inv-loop μ-loop
 same-length c = c .before .before .before .before .before .before .run .kept .1 .1 .0 ∙ c .before .before .before .before .before .before .before .before .before .before .loop .inv .1
 
--- src/main.rt:28:13
 returns : tie.Need-returns Inv-loop μ-loop
 returns c = tt
 
@@ -70,23 +57,18 @@ some c =
     let l = t .before .before .before .args .piece .now in
     takes (c .before .before .before .before .before .before .before .run .ensures) (omega (arith, t .loop .inv .1, t .before .before .before .pre)) (omega (arith, length-take (length l - t .loop .from) (drop (t .loop .from) l), length-drop (t .loop .from) l, c .before .before .before .before .before .before .before .before .before .before .loop-test .taken))
 
--- src/main.rt:33:9
 add-from : tie.Need-add-from Inv-loop μ-loop
 add-from c = omega (arith, w c)
 
--- src/main.rt:23:5
 loop-less : tie.Need-loop-less Inv-loop μ-loop
 loop-less c = omega (arith, w c, some c)
 
--- src/main.rt:23:5
 loop-again : tie.Need-loop-again Inv-loop μ-loop
 loop-again c = (omega (arith, w c), c .before .before .before .before .before .before .before .run .kept .1 .1 .0 ∙ c .before .before .before .before .before .before .before .before .before .before .before .loop .inv .1)
 
--- src/main.rt:18:1
 same-length-2 : tie.Need-same-length-2 Inv-loop μ-loop
 same-length-2 c = c .before .loop .inv .1
 
--- src/main.rt:18:1
 returns-2 : tie.Need-returns-2 Inv-loop μ-loop
 returns-2 c = tt
 

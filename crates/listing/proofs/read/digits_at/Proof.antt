@@ -1,3 +1,4 @@
+-- `listing::read::digits_at` meets its contract. The loop's invariant: the digits at `place` are those passed and those at i.
 use mathlib.Core.Path.{_≡_, sym, _∙_}
 use borrow.Author.Tests.{not-true, not-false}
 use Prim.Native.Nat.{_+_, _-_, _≤_}
@@ -7,9 +8,6 @@ use Rattle.listing.specs.Request.{digitsAt}
 use Rattle.listing.proofs.Digits.{none-past, none-here, one-here}
 use Rattle.listing.proofs.read.digits_at.Statement.{statement}
 use Rattle.listing.proofs.read.digits_at.Tie as tie
-use Rattle.listing.proofs.read.digits_at.Reads as reads
-use Rattle.listing.proofs.read.digits_at.Lts as lts
-use Rattle.listing.proofs.read.is_digit.Reads as is-digit-reads
 
 abbrev Inv-loop : tie.InvT-loop
 Inv-loop line place i₀ i =
@@ -18,52 +16,41 @@ Inv-loop line place i₀ i =
 abbrev μ-loop : tie.MeasureT-loop
 μ-loop line place i₀ i = length line - i
 
--- src/read.rt:43:9
 returns : tie.Need-returns Inv-loop μ-loop
 returns c = sym (none-past _ _ (c .if1 .taken))
 
--- src/read.rt:46:5
 loop-holds : tie.Need-loop-holds Inv-loop μ-loop
 loop-holds c = (omega arith, omega arith, omega arith)
 
--- src/read.rt:47:22
 shared-slice-read-is-digit : tie.Need-shared-slice-read-is-digit Inv-loop μ-loop
 shared-slice-read-is-digit c = omega arith
 
--- src/read.rt:47:13
 is-digit-requires : tie.Need-is-digit-requires Inv-loop μ-loop
 is-digit-requires c κs = tt
 
--- src/read.rt:48:20
 sub-result : tie.Need-sub-result Inv-loop μ-loop
 sub-result c = omega arith
 
--- src/read.rt:48:13
 returns-2 : tie.Need-returns-2 Inv-loop μ-loop
 returns-2 c =
     let t = c .before .before .before .before in
     omega (arith, none-here (t .before .before .before .args .line .now) (t .loop .i) (c .before .before .before .loop-test .taken) (sym (c .before .is-digit .ensures) ∙ not-true _ (c .if2 .taken)))
 
--- src/read.rt:50:9
 add-i : tie.Need-add-i Inv-loop μ-loop
 add-i c = omega arith
 
--- src/read.rt:46:5
 loop-less : tie.Need-loop-less Inv-loop μ-loop
 loop-less c = omega arith
 
--- src/read.rt:46:5
 loop-again : tie.Need-loop-again Inv-loop μ-loop
 loop-again c =
     let t = c .before .before .before .before in
     let e = one-here (t .before .before .before .args .line .now) (t .loop .i) (c .before .before .before .loop-test .taken) (sym (c .before .is-digit .ensures) ∙ not-false _ (c .if2 .left)) in
     (omega arith, omega arith, omega arith)
 
--- src/read.rt:52:5
 sub-result-2 : tie.Need-sub-result-2 Inv-loop μ-loop
 sub-result-2 c = omega arith
 
--- src/read.rt:39:1
 returns-3 : tie.Need-returns-3 Inv-loop μ-loop
 returns-3 c = omega (arith, none-past (c .before .before .before .before .args .line .now) (c .before .loop .i) (omega arith))
 

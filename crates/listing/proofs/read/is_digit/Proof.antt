@@ -1,16 +1,13 @@
+-- `listing::read::is_digit` meets its contract, by the two tests.
 use borrow.Author.Tests.{le-leb, lt-leb}
 use Rattle.listing.specs.Request.{isDigit}
 use Rattle.listing.proofs.read.is_digit.Statement.{statement}
 use Rattle.listing.proofs.read.is_digit.Tie as tie
-use Rattle.listing.proofs.read.is_digit.Reads as reads
-use Rattle.listing.proofs.read.is_digit.Lts as lts
 
--- src/read.rt:22:1
 returns : tie.Need-returns
 unfolding isDigit
 returns c = simp (le-leb _ _ (c .if1 .taken))
 
--- src/read.rt:22:1
 returns-2 : tie.Need-returns-2
 unfolding isDigit
 returns-2 c = simp (lt-leb _ _ (c .if1 .left))

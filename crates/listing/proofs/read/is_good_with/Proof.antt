@@ -1,4 +1,5 @@
-use mathlib.Core.Path.{_≡_, sym, _∙_, ap}
+-- `listing::read::is_good_with` meets its contract: the first test that fails makes the conjunction false.
+use mathlib.Core.Path.{sym, _∙_, ap}
 use mathlib.Core.Bool.{and-false}
 use native.Mathlib.Omega.{arith}
 use borrow.Author.Tests.{not-true, not-false, eq-eqb, ne-eqb}
@@ -10,67 +11,50 @@ use Rattle.listing.proofs.Reading.{known, unknown}
 use borrow.Author.Needs.{needs}
 use Rattle.listing.proofs.read.is_good_with.Statement.{statement}
 use Rattle.listing.proofs.read.is_good_with.Tie as tie
-use Rattle.listing.proofs.read.is_good_with.Reads as reads
-use Rattle.listing.proofs.read.is_good_with.Lts as lts
-use Rattle.listing.proofs.read.byte_at.Reads as byte-at-reads
-use Rattle.listing.proofs.read.one_to_nine.Reads as one-to-nine-reads
 
--- src/read.rt:81:9
 returns : tie.Need-returns
 unfolding isGoodWith
 returns c =
     let s = c .before .before in
     simp (unknown _ (sym (s .pre) ∙ c .if1 .taken))
 
--- src/read.rt:83:9
 one-to-nine-requires : tie.Need-one-to-nine-requires
 one-to-nine-requires c κs = search needs
 
--- src/read.rt:84:9
 returns-2 : tie.Need-returns-2
 unfolding isGoodWith
 returns-2 c = simp (← c .before .one-to-nine .ensures, not-true (c .before .one-to-nine .result) (c .if2 .taken), and-false)
 
--- src/read.rt:86:9
 one-to-nine-requires-2 : tie.Need-one-to-nine-requires-2
 one-to-nine-requires-2 c κs = search needs
 
--- src/read.rt:87:9
 returns-3 : tie.Need-returns-3
 unfolding isGoodWith
 returns-3 c = simp (← c .before .one-to-nine2 .ensures, not-true (c .before .one-to-nine2 .result) (c .if3 .taken), and-false)
 
--- src/read.rt:89:8
 byte-at-requires : tie.Need-byte-at-requires
 byte-at-requires c κs = search needs
 
--- src/read.rt:90:9
 returns-4 : tie.Need-returns-4
 unfolding isGoodWith
 returns-4 c = simp (← c .before .byte-at .ensures, ne-eqb _ _ (c .if4 .taken), and-false)
 
--- src/read.rt:92:22
 add-byte-at : tie.Need-add-byte-at
 add-byte-at c = omega (arith, nine-range _ (sym (c .before .before .before .before .before .one-to-nine .ensures) ∙ not-false _ (c .before .before .before .before .if2 .left)))
 
--- src/read.rt:92:8
 byte-at-requires-2 : tie.Need-byte-at-requires-2
 byte-at-requires-2 c κs = search needs
 
--- src/read.rt:93:9
 returns-5 : tie.Need-returns-5
 unfolding isGoodWith
 returns-5 c = simp (← c .before .byte-at2 .ensures, ne-eqb _ _ (c .if5 .taken), and-false)
 
--- src/read.rt:95:19
 add-result : tie.Need-add-result
 add-result c = omega (arith, nine-range _ (sym (c .before .before .before .before .before .before .before .one-to-nine .ensures) ∙ not-false _ (c .before .before .before .before .before .before .if2 .left)))
 
--- src/read.rt:95:19
 add-result-2 : tie.Need-add-result-2
 add-result-2 c = omega (arith, nine-range _ (sym (c .before .before .before .before .before .before .before .one-to-nine .ensures) ∙ not-false _ (c .before .before .before .before .before .before .if2 .left)), nine-range _ (sym (c .before .before .before .before .before .one-to-nine2 .ensures) ∙ not-false _ (c .before .before .before .before .if3 .left)))
 
--- src/read.rt:76:1
 returns-6 : tie.Need-returns-6
 unfolding isGoodWith
 returns-6 c =

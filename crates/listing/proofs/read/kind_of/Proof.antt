@@ -1,21 +1,17 @@
+-- `listing::read::kind_of` meets its contract, letter by letter.
 use borrow.Author.Tests.{eq-eqb, ne-eqb}
 use Rattle.listing.specs.Request.{kindOf}
 use Rattle.listing.proofs.read.kind_of.Statement.{statement}
 use Rattle.listing.proofs.read.kind_of.Tie as tie
-use Rattle.listing.proofs.read.kind_of.Reads as reads
-use Rattle.listing.proofs.read.kind_of.Lts as lts
 
--- src/read.rt:14:9
 returns : tie.Need-returns
 unfolding kindOf
 returns c = simp (eq-eqb _ _ (c .if1 .taken))
 
--- src/read.rt:17:9
 returns-2 : tie.Need-returns-2
 unfolding kindOf
 returns-2 c = simp (ne-eqb _ _ (c .before .if1 .left), eq-eqb _ _ (c .if2 .taken))
 
--- src/read.rt:10:1
 returns-3 : tie.Need-returns-3
 unfolding kindOf
 returns-3 c = simp (ne-eqb _ _ (c .before .if1 .left), ne-eqb _ _ (c .if2 .left))

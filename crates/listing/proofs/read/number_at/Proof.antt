@@ -1,14 +1,13 @@
+-- `listing::read::number_at` meets its contract. The loop's invariant: the number is v followed by the digits that are left, and v has i digits.
 use mathlib.Core.Path.{_≡_, refl, sym, _∙_}
 use native.Mathlib.Nat.{add-zero}
-use Prim.Native.Nat.{_+_, _*_, _-_, _^_, _<_, _≤_}
+use Prim.Native.Nat.{_+_, _-_, _^_, _<_, _≤_}
 use native.Mathlib.Omega.{arith}
-use lib.ListN.{length, drop, getD}
+use lib.ListN.{drop, getD}
 use Rattle.listing.specs.Request.{numberAt, valueOf, valueFrom, digits, digitsAt}
 use Rattle.listing.proofs.Digits.{value-one, value-none, inside, is-digit-here, one-here, digit-range, small, digit-more}
 use Rattle.listing.proofs.read.number_at.Statement.{statement}
 use Rattle.listing.proofs.read.number_at.Tie as tie
-use Rattle.listing.proofs.read.number_at.Reads as reads
-use Rattle.listing.proofs.read.number_at.Lts as lts
 
 abbrev Inv-loop : tie.InvT-loop
 Inv-loop line place count v₀ i₀ v i =
@@ -27,44 +26,34 @@ range c = digit-range _ (is-digit-here (c .before .before .args .line .now) (c .
 below : (c : tie.In-loop Inv-loop μ-loop) → c .before .loop .v < 100000000
 below c = small (c .before .loop .v) (c .before .loop .i) 8 (c .before .loop .inv .2) (omega (arith, c .before .before .pre .1))
 
--- src/read.rt:62:5
 loop-holds : tie.Need-loop-holds Inv-loop μ-loop
 unfolding numberAt valueOf
 loop-holds c = rw (add-zero (c .args .place)) (refl, omega (arith, c .pre .0), omega arith)
 
--- src/read.rt:63:13
 mul-v : tie.Need-mul-v Inv-loop μ-loop
 mul-v c = omega (arith, below c)
 
--- src/read.rt:63:28
 add-v : tie.Need-add-v Inv-loop μ-loop
 add-v c = omega (arith, inside (c .before .before .args .line .now) (c .before .before .args .place + c .before .loop .i) (here c))
 
--- src/read.rt:63:23
 shared-slice-read-v : tie.Need-shared-slice-read-v Inv-loop μ-loop
 shared-slice-read-v c = inside _ _ (here (c .before))
 
--- src/read.rt:63:23
 sub-v : tie.Need-sub-v Inv-loop μ-loop
 sub-v c = range (c .before) .0
 
--- src/read.rt:63:22
 cast-v : tie.Need-cast-v Inv-loop μ-loop
 cast-v c = omega (arith, range (c .before) .1)
 
--- src/read.rt:63:13
 add-v-2 : tie.Need-add-v-2 Inv-loop μ-loop
 add-v-2 c = omega (arith, range (c .before) .1, below (c .before))
 
--- src/read.rt:64:9
 add-i : tie.Need-add-i Inv-loop μ-loop
 add-i c = omega arith
 
--- src/read.rt:62:5
 loop-less : tie.Need-loop-less Inv-loop μ-loop
 loop-less c = omega arith
 
--- src/read.rt:62:5
 loop-again : tie.Need-loop-again Inv-loop μ-loop
 loop-again c =
     let t = c .before .before in
@@ -78,7 +67,6 @@ loop-again c =
       digit-more (t .loop .v) (t .loop .i) _ (t .loop .inv .2) (omega (arith, range (c .before) .1)),
     )
 
--- src/read.rt:56:1
 returns : tie.Need-returns Inv-loop μ-loop
 returns c =
     let t = c .before in (

@@ -1,16 +1,13 @@
+-- `listing::read::one_to_nine` meets its contract, by the two tests.
 use borrow.Author.Tests.{le-leb, lt-leb}
 use Rattle.listing.specs.Request.{oneToNine}
 use Rattle.listing.proofs.read.one_to_nine.Statement.{statement}
 use Rattle.listing.proofs.read.one_to_nine.Tie as tie
-use Rattle.listing.proofs.read.one_to_nine.Reads as reads
-use Rattle.listing.proofs.read.one_to_nine.Lts as lts
 
--- src/read.rt:69:1
 returns : tie.Need-returns
 unfolding oneToNine
 returns c = simp (le-leb _ _ (c .if1 .taken))
 
--- src/read.rt:69:1
 returns-2 : tie.Need-returns-2
 unfolding oneToNine
 returns-2 c = simp (lt-leb _ _ (c .if1 .left))

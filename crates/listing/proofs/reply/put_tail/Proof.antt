@@ -1,3 +1,4 @@
+-- `listing::reply::put_tail` meets its contract: on code 0 the degree is below the number of entries.
 use native.Mathlib.Omega.{arith}
 use borrow.Author.Tests.{eq-eqb, ne-eqb}
 use Rattle.listing.specs.Text.{spaced}
@@ -6,32 +7,23 @@ use Rattle.listing.proofs.Putting.{then}
 use borrow.Author.Needs.{needs}
 use Rattle.listing.proofs.reply.put_tail.Statement.{statement}
 use Rattle.listing.proofs.reply.put_tail.Tie as tie
-use Rattle.listing.proofs.reply.put_tail.Reads as reads
-use Rattle.listing.proofs.reply.put_tail.Lts as lts
-use Rattle.listing.proofs.text.put.Reads as put-reads
-use Rattle.listing.proofs.text.put_coefficients.Reads as put-coefficients-reads
 
--- src/reply.rt:49:21
 add-count : tie.Need-add-count
 add-count c = omega (arith, c .before .before .pre .1 (c .if1 .taken))
 
--- src/reply.rt:50:13
 put-coefficients-requires : tie.Need-put-coefficients-requires
 put-coefficients-requires c κs =
     let h = c .before .before .before .pre .1 (c .before .if1 .taken) in
     (omega arith, omega arith)
 
--- src/reply.rt:51:9
 put-requires : tie.Need-put-requires
 put-requires c κs =
     let h = c .before .before .before .before .before .before .before .pre .1 (c .before .before .before .before .before .if1 .taken) in
     omega (arith, c .before .before .before .put-coefficients .ensures .1)
 
--- src/reply.rt:51:9
 same-length : tie.Need-same-length
 same-length c = search needs
 
--- src/reply.rt:51:9
 returns : tie.Need-returns
 unfolding tailOf
 returns c =
@@ -42,15 +34,12 @@ returns c =
       omega (arith, c .before .before .before .before .before .before .put-coefficients .ensures .1, last .place),
     )
 
--- src/reply.rt:53:5
 put-requires-2 : tie.Need-put-requires-2
 put-requires-2 c κs = search needs
 
--- src/reply.rt:42:1
 same-length-2 : tie.Need-same-length-2
 same-length-2 c = search needs
 
--- src/reply.rt:42:1
 returns-2 : tie.Need-returns-2
 unfolding tailOf spaced
 returns-2 c =

@@ -1,3 +1,4 @@
+-- `listing::reply::put_three` meets its contract: three items, one after the other.
 use native.Mathlib.Omega.{arith}
 use mathlib.Core.List.{[], _∷_}
 use lib.IntN.{pos}
@@ -6,27 +7,19 @@ use Rattle.listing.proofs.Putting.{then, spaced-append}
 use borrow.Author.Needs.{needs}
 use Rattle.listing.proofs.reply.put_three.Statement.{statement}
 use Rattle.listing.proofs.reply.put_three.Tie as tie
-use Rattle.listing.proofs.reply.put_three.Reads as reads
-use Rattle.listing.proofs.reply.put_three.Lts as lts
-use Rattle.listing.proofs.text.put_item.Reads as put-item-reads
 
--- src/reply.rt:29:9
 put-item-requires : tie.Need-put-item-requires
 put-item-requires c κs = search needs
 
--- src/reply.rt:30:9
 put-item-requires-2 : tie.Need-put-item-requires-2
 put-item-requires-2 c κs = search needs
 
--- src/reply.rt:31:5
 put-item-requires-3 : tie.Need-put-item-requires-3
 put-item-requires-3 c κs = search needs
 
--- src/reply.rt:24:1
 same-length : tie.Need-same-length
 same-length c = search needs
 
--- src/reply.rt:24:1
 returns : tie.Need-returns
 unfolding spaced
 returns c =

@@ -1,31 +1,23 @@
+-- `listing::reply::put_wrong` meets its contract: three parts, one after the other.
 use native.Mathlib.Omega.{arith}
 use Rattle.listing.specs.Listing.{wrongLine}
 use Rattle.listing.proofs.Putting.{then}
 use borrow.Author.Needs.{needs}
 use Rattle.listing.proofs.reply.put_wrong.Statement.{statement}
 use Rattle.listing.proofs.reply.put_wrong.Tie as tie
-use Rattle.listing.proofs.reply.put_wrong.Reads as reads
-use Rattle.listing.proofs.reply.put_wrong.Lts as lts
-use Rattle.listing.proofs.text.put.Reads as put-reads
-use Rattle.listing.proofs.text.put_item.Reads as put-item-reads
 
--- src/reply.rt:61:9
 put-requires : tie.Need-put-requires
 put-requires c κs = search needs
 
--- src/reply.rt:62:9
 put-item-requires : tie.Need-put-item-requires
 put-item-requires c κs = search needs
 
--- src/reply.rt:63:5
 put-requires-2 : tie.Need-put-requires-2
 put-requires-2 c κs = search needs
 
--- src/reply.rt:57:1
 same-length : tie.Need-same-length
 same-length c = search needs
 
--- src/reply.rt:57:1
 returns : tie.Need-returns
 unfolding wrongLine
 returns c =

@@ -1,3 +1,4 @@
+-- `listing::stream::heading` meets its contract. The loop's invariant: the first i bytes are written.
 use Prim.Native.Nat.{_-_, _≤_}
 use mathlib.Core.Path.{_≡_, refl, _∙_}
 use native.Mathlib.Numerals.{add-one}
@@ -10,8 +11,6 @@ use Rattle.listing.specs.Listing.{heading}
 use Rattle.listing.proofs.Putting.{nothing-put, then}
 use Rattle.listing.proofs.stream.heading.Statement.{statement}
 use Rattle.listing.proofs.stream.heading.Tie as tie
-use Rattle.listing.proofs.stream.heading.Reads as reads
-use Rattle.listing.proofs.stream.heading.Lts as lts
 
 abbrev Inv-loop : tie.InvT-loop
 Inv-loop out₀ i₀ out i = (i ≤ 12) × Puts (take i heading) 0 out₀ out i × (length out ≡ length out₀)
@@ -19,31 +18,24 @@ Inv-loop out₀ i₀ out i = (i ≤ 12) × Puts (take i heading) 0 out₀ out i 
 abbrev μ-loop : tie.MeasureT-loop
 μ-loop out₀ i₀ out i = 12 - i
 
--- src/stream.rt:31:9
 returns : tie.Need-returns Inv-loop μ-loop
 returns c = rw (lt-ltb _ _ (c .if1 .taken)) (nothing-put 0 (c .before .args .out .now), omega arith)
 
--- src/stream.rt:34:5
 loop-holds : tie.Need-loop-holds Inv-loop μ-loop
 loop-holds c = (omega arith, nothing-put 0 (c .before .args .out .now), refl)
 
--- src/stream.rt:35:18
 array-read-out : tie.Need-array-read-out Inv-loop μ-loop
 array-read-out c = omega arith
 
--- src/stream.rt:35:9
 slice-write-out : tie.Need-slice-write-out Inv-loop μ-loop
 slice-write-out c = omega arith
 
--- src/stream.rt:36:9
 add-i : tie.Need-add-i Inv-loop μ-loop
 add-i c = omega arith
 
--- src/stream.rt:34:5
 loop-less : tie.Need-loop-less Inv-loop μ-loop
 loop-less c = omega arith
 
--- src/stream.rt:34:5
 loop-again : tie.Need-loop-again Inv-loop μ-loop
 unfolding heading
 loop-again c =
@@ -53,11 +45,9 @@ loop-again c =
       length-set (t .out) (t .i) _ ∙ t .inv .2,
     )
 
--- src/stream.rt:27:1
 same-length : tie.Need-same-length Inv-loop μ-loop
 same-length c = c .before .loop .inv .2
 
--- src/stream.rt:27:1
 returns-2 : tie.Need-returns-2 Inv-loop μ-loop
 unfolding heading
 returns-2 c =

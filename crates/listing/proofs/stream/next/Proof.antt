@@ -1,16 +1,12 @@
+-- `listing::stream::next` meets its contract.
 use Rattle.listing.specs.Stream.{nextLine}
 use borrow.Author.Needs.{needs}
 use Rattle.listing.proofs.stream.next.Statement.{statement}
 use Rattle.listing.proofs.stream.next.Tie as tie
-use Rattle.listing.proofs.stream.next.Reads as reads
-use Rattle.listing.proofs.stream.next.Lts as lts
-use Rattle.std.proofs.num.wrapping_add_u64.Reads as wrapping-add-u64-reads
 
--- src/stream.rt:85:17
 wrapping-add-u64-requires : tie.Need-wrapping-add-u64-requires
 wrapping-add-u64-requires c κs = search needs
 
--- src/stream.rt:78:1
 returns : tie.Need-returns
 unfolding nextLine
 returns c = λ i. record { bytes = c .before .before .args .line .bytes; length = 0; number = c .wrapping-add-u64 .ensures i }

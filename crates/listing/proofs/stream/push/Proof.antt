@@ -1,25 +1,20 @@
+-- `listing::stream::push` meets its contract, by the test of the length.
 use borrow.Author.Tests.{lt-ltb, le-ltb}
 use Rattle.listing.specs.Stream.{pushed}
 use borrow.Author.Needs.{needs}
 use Rattle.listing.proofs.stream.push.Statement.{statement}
 use Rattle.listing.proofs.stream.push.Tie as tie
-use Rattle.listing.proofs.stream.push.Reads as reads
-use Rattle.listing.proofs.stream.push.Lts as lts
 
--- src/stream.rt:63:9
 array-write-bytes : tie.Need-array-write-bytes
 array-write-bytes c = search needs
 
--- src/stream.rt:66:21
 add-t9 : tie.Need-add-t9
 add-t9 c = search needs
 
--- src/stream.rt:64:9
 returns : tie.Need-returns
 unfolding pushed
 returns c = rw (lt-ltb _ _ (c .if1 .taken))
 
--- src/stream.rt:57:1
 returns-2 : tie.Need-returns-2
 unfolding pushed
 returns-2 c = rw (le-ltb _ _ (c .if1 .left))

@@ -1,3 +1,4 @@
+-- `listing::text::put_digits` meets its contract. It calls itself for the tenth of n, so n is the measure.
 use borrow.Author.Needs.{needs}
 use mathlib.Core.Path.{ap}
 use native.Mathlib.Omega.{arith}
@@ -25,7 +26,6 @@ abbrev put-digits-below : ℕ → In 1 put-digits-kinds.ps
 put-digits-below t =
     and 1 put-digits-kinds.ps (falls 1 put-digits-kinds.ps _<_ μ-put-digits t) put-digits.Pre
 
--- src/text.rt:25:34
 put-digits-cast-put : (t : ℕ) → put-digits-lts.Need-cast-put (
   put-reads.Asked,
   put-reads.Learnt,
@@ -34,7 +34,6 @@ put-digits-cast-put : (t : ℕ) → put-digits-lts.Need-cast-put (
 ) (put-digits-at t) put-digits.Post
 put-digits-cast-put t c = omega arith
 
--- src/text.rt:25:29
 put-digits-add-put : (t : ℕ) → put-digits-lts.Need-add-put (
   put-reads.Asked,
   put-reads.Learnt,
@@ -43,7 +42,6 @@ put-digits-add-put : (t : ℕ) → put-digits-lts.Need-add-put (
 ) (put-digits-at t) put-digits.Post
 put-digits-add-put t c = omega arith
 
--- src/text.rt:25:9
 put-digits-put-requires : (t : ℕ) → put-digits-lts.Need-put-requires (
   put-reads.Asked,
   put-reads.Learnt,
@@ -52,7 +50,6 @@ put-digits-put-requires : (t : ℕ) → put-digits-lts.Need-put-requires (
 ) (put-digits-at t) put-digits.Post
 put-digits-put-requires t c κs = omega (arith, ap length (decimal-small (c .before .before .before .args .n) (c .before .if1 .taken)))
 
--- src/text.rt:25:9
 put-digits-same-length : (t : ℕ) → put-digits-lts.Need-same-length (
   put-reads.Asked,
   put-reads.Learnt,
@@ -61,7 +58,6 @@ put-digits-same-length : (t : ℕ) → put-digits-lts.Need-same-length (
 ) (put-digits-at t) put-digits.Post
 put-digits-same-length t c = search needs
 
--- src/text.rt:25:9
 put-digits-returns : (t : ℕ) → put-digits-lts.Need-returns (
   put-reads.Asked,
   put-reads.Learnt,
@@ -70,7 +66,6 @@ put-digits-returns : (t : ℕ) → put-digits-lts.Need-returns (
 ) (put-digits-at t) put-digits.Post
 put-digits-returns t c = rw (decimal-small _ (c .before .before .before .before .if1 .taken)) (c .before .before .put .ensures)
 
--- src/text.rt:27:9
 put-digits-put-digits-requires : (t : ℕ) → put-digits-lts.Need-put-digits-requires (
   put-reads.Asked,
   put-reads.Learnt,
@@ -81,7 +76,6 @@ put-digits-put-digits-requires t c κs =
     let s = c .before .before .before in
     (omega (arith, s .pre .0), omega (arith, s .pre .1, length-more (s .args .n) (c .before .if1 .left)))
 
--- src/text.rt:28:22
 put-digits-cast-put-2 : (t : ℕ) → put-digits-lts.Need-cast-put-2 (
   put-reads.Asked,
   put-reads.Learnt,
@@ -90,7 +84,6 @@ put-digits-cast-put-2 : (t : ℕ) → put-digits-lts.Need-cast-put-2 (
 ) (put-digits-at t) put-digits.Post
 put-digits-cast-put-2 t c = omega arith
 
--- src/text.rt:28:17
 put-digits-add-put-2 : (t : ℕ) → put-digits-lts.Need-add-put-2 (
   put-reads.Asked,
   put-reads.Learnt,
@@ -99,7 +92,6 @@ put-digits-add-put-2 : (t : ℕ) → put-digits-lts.Need-add-put-2 (
 ) (put-digits-at t) put-digits.Post
 put-digits-add-put-2 t c = omega arith
 
--- src/text.rt:28:5
 put-digits-put-requires-2 : (t : ℕ) → put-digits-lts.Need-put-requires-2 (
   put-reads.Asked,
   put-reads.Learnt,
@@ -110,7 +102,6 @@ put-digits-put-requires-2 t c κs =
     let s = c .before .before .before .before .before .before .before in
     omega (arith, s .pre .1, c .before .before .before .put-digits .ensures .place, length-more (s .args .n) (c .before .before .before .before .before .if1 .left))
 
--- src/text.rt:20:1
 put-digits-same-length-2 : (t : ℕ) → put-digits-lts.Need-same-length-2 (
   put-reads.Asked,
   put-reads.Learnt,
@@ -119,7 +110,6 @@ put-digits-same-length-2 : (t : ℕ) → put-digits-lts.Need-same-length-2 (
 ) (put-digits-at t) put-digits.Post
 put-digits-same-length-2 t c = search needs
 
--- src/text.rt:20:1
 put-digits-returns-2 : (t : ℕ) → put-digits-lts.Need-returns-2 (
   put-reads.Asked,
   put-reads.Learnt,

@@ -1,3 +1,4 @@
+-- `listing::text::put_coefficient` meets its contract: a space, the sign, the digits of the magnitude.
 use native.Mathlib.Omega.{arith}
 use mir.Facts.{toZ-ofZ}
 use Rattle.step_laws.specs.Machine.{seen}
@@ -6,34 +7,22 @@ use Rattle.listing.proofs.Putting.{then, put-one, length-spaced, length
 use borrow.Author.Needs.{needs}
 use Rattle.listing.proofs.text.put_coefficient.Statement.{statement}
 use Rattle.listing.proofs.text.put_coefficient.Tie as tie
-use Rattle.listing.proofs.text.put_coefficient.Reads as reads
-use Rattle.listing.proofs.text.put_coefficient.Lts as lts
-use Rattle.listing.proofs.text.magnitude.Reads as magnitude-reads
-use Rattle.listing.proofs.text.put.Reads as put-reads
-use Rattle.listing.proofs.text.put_number.Reads as put-number-reads
-use Rattle.listing.proofs.text.put_sign.Reads as put-sign-reads
 
--- src/text.rt:76:9
 put-requires : tie.Need-put-requires
 put-requires c κs = search needs
 
--- src/text.rt:77:9
 put-sign-requires : tie.Need-put-sign-requires
 put-sign-requires c κs = search needs
 
--- src/text.rt:78:24
 magnitude-requires : tie.Need-magnitude-requires
 magnitude-requires c κs = search needs
 
--- src/text.rt:78:5
 put-number-requires : tie.Need-put-number-requires
 put-number-requires c κs = omega (arith, c .before .before .before .before .put-sign .ensures .place, length-sign (seen (c .before .before .before .before .before .before .before .before .before .before .before .args .c)), c .before .before .before .before .before .before .before .before .put .ensures .place)
 
--- src/text.rt:72:1
 same-length : tie.Need-same-length
 same-length c = search needs
 
--- src/text.rt:72:1
 returns : tie.Need-returns
 returns c =
     let x = c .before .before .before .before .before .before .before .before .before .before .before .before .before .before .args .c in

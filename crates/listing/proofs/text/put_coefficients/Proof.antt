@@ -1,4 +1,5 @@
-use Prim.Native.Nat.{ℕ, suc, _+_, _*_, _-_, _≤_, _<_}
+-- `listing::text::put_coefficients` meets its contract. The loop's invariant: the first i coefficients are written, in at most 22 bytes each.
+use Prim.Native.Nat.{_+_, _*_, _-_, _≤_, _<_}
 use mathlib.Core.Path.{_≡_, refl, _∙_}
 use native.Mathlib.Omega.{arith}
 use native.Mathlib.Numerals.{add-one}
@@ -12,9 +13,6 @@ use Rattle.listing.specs.Text.{spaced}
 use Rattle.listing.specs.Puts.{Puts}
 use Rattle.listing.proofs.text.put_coefficients.Statement.{statement}
 use Rattle.listing.proofs.text.put_coefficients.Tie as tie
-use Rattle.listing.proofs.text.put_coefficients.Reads as reads
-use Rattle.listing.proofs.text.put_coefficients.Lts as lts
-use Rattle.listing.proofs.text.put_coefficient.Reads as put-coefficient-reads
 
 abbrev Inv-loop : tie.InvT-loop
 Inv-loop out₀ at entries count p₀ i₀ out p i =
@@ -23,33 +21,26 @@ Inv-loop out₀ at entries count p₀ i₀ out p i =
 abbrev μ-loop : tie.MeasureT-loop
 μ-loop out₀ at entries count p₀ i₀ out p i = count - i
 
--- src/text.rt:88:5
 loop-holds : tie.Need-loop-holds Inv-loop μ-loop
 unfolding spaced
 loop-holds c = (omega arith, nothing-put (c .before .args .at) (c .before .args .out .now), omega arith, refl)
 
--- src/text.rt:89:37
 mul-put-coefficient : tie.Need-mul-put-coefficient Inv-loop μ-loop
 mul-put-coefficient c = search needs
 
--- src/text.rt:89:37
 shared-slice-copy-out-put-coefficient :
     tie.Need-shared-slice-copy-out-put-coefficient Inv-loop μ-loop
 shared-slice-copy-out-put-coefficient c = omega arith
 
--- src/text.rt:89:9
 put-coefficient-requires : tie.Need-put-coefficient-requires Inv-loop μ-loop
 put-coefficient-requires c κs = omega arith
 
--- src/text.rt:90:9
 add-i : tie.Need-add-i Inv-loop μ-loop
 add-i c = omega arith
 
--- src/text.rt:88:5
 loop-less : tie.Need-loop-less Inv-loop μ-loop
 loop-less c = omega arith
 
--- src/text.rt:88:5
 loop-again : tie.Need-loop-again Inv-loop μ-loop
 loop-again c =
     let t = c .before .before .before .before .before .before .loop in
@@ -61,11 +52,9 @@ loop-again c =
       c .before .before .put-coefficient .kept .0 ∙ t .inv .3,
     )
 
--- src/text.rt:82:1
 same-length : tie.Need-same-length Inv-loop μ-loop
 same-length c = c .before .loop .inv .3
 
--- src/text.rt:82:1
 returns : tie.Need-returns Inv-loop μ-loop
 returns c =
     let t = c .before .loop in

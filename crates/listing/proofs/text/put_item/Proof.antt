@@ -1,3 +1,4 @@
+-- `listing::text::put_item` meets its contract: a space, then the digits.
 use native.Mathlib.Omega.{arith}
 use lib.IntN.{pos}
 use Rattle.listing.specs.Text.{sign}
@@ -5,24 +6,16 @@ use Rattle.listing.proofs.Putting.{put-plain, length-spaced, length-sig
 use borrow.Author.Needs.{needs}
 use Rattle.listing.proofs.text.put_item.Statement.{statement}
 use Rattle.listing.proofs.text.put_item.Tie as tie
-use Rattle.listing.proofs.text.put_item.Reads as reads
-use Rattle.listing.proofs.text.put_item.Lts as lts
-use Rattle.listing.proofs.text.put.Reads as put-reads
-use Rattle.listing.proofs.text.put_number.Reads as put-number-reads
 
--- src/text.rt:47:9
 put-requires : tie.Need-put-requires
 put-requires c κs = search needs
 
--- src/text.rt:48:5
 put-number-requires : tie.Need-put-number-requires
 put-number-requires c κs = search needs
 
--- src/text.rt:43:1
 same-length : tie.Need-same-length
 same-length c = search needs
 
--- src/text.rt:43:1
 returns : tie.Need-returns
 unfolding sign
 returns c =

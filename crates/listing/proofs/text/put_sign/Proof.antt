@@ -1,28 +1,22 @@
+-- `listing::text::put_sign` meets its contract: the sign is written or nothing is.
 use mir.Facts.{toZ-ofZ}
 use Rattle.listing.proofs.Sign.{sign-below, sign-above}
 use Rattle.listing.proofs.Putting.{nothing-put}
 use borrow.Author.Needs.{needs}
 use Rattle.listing.proofs.text.put_sign.Statement.{statement}
 use Rattle.listing.proofs.text.put_sign.Tie as tie
-use Rattle.listing.proofs.text.put_sign.Reads as reads
-use Rattle.listing.proofs.text.put_sign.Lts as lts
-use Rattle.listing.proofs.text.put.Reads as put-reads
 
--- src/text.rt:66:9
 put-requires : tie.Need-put-requires
 put-requires c κs = search needs
 
--- src/text.rt:66:9
 same-length : tie.Need-same-length
 same-length c = search needs
 
--- src/text.rt:66:9
 returns : tie.Need-returns
 returns c =
     let s = c .before .before .before .before .before .before in
     rw (sign-below (s .args .c) (rw (toZ-ofZ (s .fits .c)) at (c .before .before .before .before .if1 .taken))) (c .before .before .put .ensures)
 
--- src/text.rt:61:1
 returns-2 : tie.Need-returns-2
 returns-2 c =
     let s = c .before .before in
