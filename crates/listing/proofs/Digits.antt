@@ -11,20 +11,19 @@ use lib.ListN.{length, getD, drop, drop-of-length-le}
 use lib.Seq.{drop-cons}
 use lib.Dec.{leb, lit<}
 use Rattle.step_laws.specs.Tests.{by-test, by-order}
-use Rattle.listing.specs.Request.{isDigit, digits, digitsAt, valueFrom, oneToNine}
+use Rattle.listing.specs.Request.{between, isDigit, digits, digitsAt, valueFrom, oneToNine}
 
-between : (low high b : ℕ) → (leb low b && leb b high) ≡ true → (low ≤ b) × (b ≤ high)
-between low high b e =
+in-between : (low high b : ℕ) → between low high b ≡ true → (low ≤ b) × (b ≤ high)
+unfolding between
+in-between low high b e =
     by-test (leb low b) (λ h. (leb-true low b h, leb-true b high (sym (ap (λ t. t && leb b high) h) ∙ e)))
     (λ h. absurd (true≢false (sym e ∙ ap (λ t. t && leb b high) h)))
 
 pub digit-range : (b : ℕ) → isDigit b ≡ true → (48 ≤ b) × (b ≤ 57)
-unfolding isDigit
-digit-range b e = between 48 57 b e
+digit-range b e = in-between 48 57 b e
 
 pub nine-range : (k : ℕ) → oneToNine k ≡ true → (1 ≤ k) × (k ≤ 9)
-unfolding oneToNine
-nine-range k e = between 1 9 k e
+nine-range k e = in-between 1 9 k e
 
 module _ (l : List ℕ) (i : ℕ) where
   digits-past : length l ≤ i → digits (drop i l) ≡ []

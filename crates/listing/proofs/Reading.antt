@@ -10,7 +10,7 @@ use lib.Dec.{eqb}
 use Rattle.step_laws.specs.Tests.{by-test}
 use Rattle.definitions.specs.Requests.{knownKind}
 use Rattle.listing.specs.Text.{SPACE}
-use Rattle.listing.specs.Request.{kindOf, digitsAt, numberAt, oneToNine, isGoodWith, placeOfLimit, isGood, wrong, readLine}
+use Rattle.listing.specs.Request.{kindOf, between, digitsAt, numberAt, oneToNine, isGoodWith, placeOfLimit, isGood, wrong, readLine}
 use Rattle.listing.specs.declared.Request.{Request}
 use Rattle.listing.proofs.Digits.{nine-range}
 
@@ -64,7 +64,7 @@ module _ (l : List ℕ) (a b : ℕ) where
       )
 
   pub too-many : 10 ≤ a → isGoodWith l a b ≡ false
-  unfolding isGoodWith oneToNine
+  unfolding isGoodWith between
   too-many h = simp (lt-leb a 9 h, and-false)
 
   pub good-as : a ≡ digitsAt l 2 → b ≡ digitsAt l (3 + a) → isGoodWith l a b ≡ isGood l

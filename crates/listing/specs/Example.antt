@@ -13,7 +13,7 @@ use Rattle.definitions.specs.Answer.{coefficients, heightOf, height, gain, addi
 use Rattle.definitions.specs.Requests.{knownKind, goodIndex, nextDivisor, divisorsDue, overAt, overAmong}
 use Rattle.answers.specs.Polynomial.{code, answered, answer}
 use Rattle.listing.specs.Text.{decimalIn, decimal, sign, signed, spaced}
-use Rattle.listing.specs.Request.{kindOf, isDigit, digits, valueFrom, valueOf, digitsAt, numberAt, oneToNine, isGoodWith, placeOfLimit, isGood, wrong, readLine}
+use Rattle.listing.specs.Request.{kindOf, between, digits, valueFrom, valueOf, digitsAt, numberAt, isGoodWith, placeOfLimit, isGood, wrong, readLine}
 use Rattle.listing.specs.Listing.{letterOf, headOf, tailOf, goodLine, wrongLine, replyTo, reply, lastLine, linesFrom, replies, heading, listing}
 
 -- `F 6 1`, `I 006 1`, an empty line, `F 6 -1` and `F 0 0`, the last with no newline
@@ -27,7 +27,7 @@ output =
     112 ∷ 111 ∷ 108 ∷ 121 ∷ 110 ∷ 111 ∷ 109 ∷ 105 ∷ 97 ∷ 108 ∷ 115 ∷ 10 ∷ 70 ∷ 32 ∷ 54 ∷ 32 ∷ 48 ∷ 32 ∷ 50 ∷ 32 ∷ 49 ∷ 32 ∷ 49 ∷ 32 ∷ 49 ∷ 32 ∷ 58 ∷ 32 ∷ 49 ∷ 32 ∷ 45 ∷ 49 ∷ 32 ∷ 49 ∷ 10 ∷ 73 ∷ 32 ∷ 54 ∷ 32 ∷ 48 ∷ 32 ∷ 52 ∷ 32 ∷ 48 ∷ 32 ∷ 49 ∷ 32 ∷ 48 ∷ 32 ∷ 58 ∷ 32 ∷ 45 ∷ 49 ∷ 32 ∷ 45 ∷ 49 ∷ 32 ∷ 48 ∷ 32 ∷ 49 ∷ 32 ∷ 49 ∷ 10 ∷ 63 ∷ 32 ∷ 51 ∷ 10 ∷ 63 ∷ 32 ∷ 52 ∷ 10 ∷ 70 ∷ 32 ∷ 48 ∷ 32 ∷ 50 ∷ 32 ∷ 48 ∷ 32 ∷ 48 ∷ 32 ∷ 48 ∷ 32 ∷ 48 ∷ 32 ∷ 58 ∷ 10 ∷ []
 
 example : listing input ≡ output
-unfolding input output listing heading replies linesFrom lastLine reply replyTo readLine isGood isGoodWith placeOfLimit oneToNine numberAt digitsAt valueOf valueFrom digits isDigit kindOf wrong goodLine headOf tailOf letterOf wrongLine spaced signed sign decimal decimalIn answer answered code knownKind goodIndex divisorsDue overAmong overAt nextDivisor coefficients height heightOf gain additionsFor additions sumOf keptHalf keptSeries productOf start term termOf sortOf halfDegree stepOver someOutside stepped accumulated accumulatedIn combed inRange entries degree polynomial F I familyTo z^-1 atDivisors productTo muIsPlus primesOf divisorsBelow rOf oddPrimeOf isPrime phi shareFactor divides productOfTo listTo countTo someTo firsts z^ _÷_ _·_ -ˢ _+ˢ_ constant ⊖ _⊗_ _⊕_
+unfolding input output listing heading replies linesFrom lastLine reply replyTo readLine isGood isGoodWith placeOfLimit numberAt digitsAt valueOf valueFrom digits between kindOf wrong goodLine headOf tailOf letterOf wrongLine spaced signed sign decimal decimalIn answer answered code knownKind goodIndex divisorsDue overAmong overAt nextDivisor coefficients height heightOf gain additionsFor additions sumOf keptHalf keptSeries productOf start term termOf sortOf halfDegree stepOver someOutside stepped accumulated accumulatedIn combed inRange entries degree polynomial F I familyTo z^-1 atDivisors productTo muIsPlus primesOf divisorsBelow rOf oddPrimeOf isPrime phi shareFactor divides productOfTo listTo countTo someTo firsts z^ _÷_ _·_ -ˢ _+ˢ_ constant ⊖ _⊗_ _⊕_
 example = refl
 
 -- `F 105 6 48 0 0 0 :`

@@ -13,8 +13,11 @@ use Rattle.listing.specs.declared.Request.{Request}
 unfoldable pub kindOf : ℕ → ℕ
 kindOf letter = cond (eqb letter 70) 1 (cond (eqb letter 73) 2 0)
 
-unfoldable pub isDigit : ℕ → Bool
-isDigit b = leb ZERO b && leb b 57
+unfoldable pub between : ℕ → ℕ → ℕ → Bool
+between low high x = leb low x && leb x high
+
+abbrev pub isDigit : ℕ → Bool
+isDigit b = between ZERO 57 b
 
 -- the digits that a text starts with, and what digits say
 unfoldable pub digits : List ℕ → List ℕ
@@ -35,8 +38,8 @@ digitsAt line place = length (digits (drop place line))
 unfoldable pub numberAt : List ℕ → ℕ → ℕ
 numberAt line place = valueOf (digits (drop place line))
 
-unfoldable pub oneToNine : ℕ → Bool
-oneToNine count = leb 1 count && leb count 9
+abbrev pub oneToNine : ℕ → Bool
+oneToNine count = between 1 9 count
 
 -- n stands at place 2, with so many digits; h stands after it and a space, with so many digits
 unfoldable pub isGoodWith : List ℕ → ℕ → ℕ → Bool

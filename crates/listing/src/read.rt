@@ -4,7 +4,8 @@ ghost use mathlib.Core.Path.{_≡_};
 ghost use mathlib.Core.Bool.{true};
 ghost use Prim.Native.Nat.{ℕ, _+_, _≤_, _<_};
 ghost use lib.ListN.{length, getD, drop};
-ghost use Rattle.listing.specs.Request.{kindOf, isDigit, digits, digitsAt, numberAt, oneToNine, isGoodWith, wrong, readLine};
+ghost use Rattle.listing.specs.Request.{kindOf, isDigit, digitsAt, numberAt, isGoodWith, readLine};
+ghost use Rattle.listing.specs.Request.{between as isBetween};
 use crate::Request;
 
 fn kind_of(letter: u8) -> u64
@@ -19,10 +20,16 @@ fn kind_of(letter: u8) -> u64
     0
 }
 
+fn between(low: usize, high: usize, x: usize) -> bool
+    ensures { λ r. ⌜ r ≡ isBetween low high x ⌝ }
+{
+    low <= x && x <= high
+}
+
 fn is_digit(b: u8) -> bool
     ensures { λ r. ⌜ r ≡ isDigit b ⌝ }
 {
-    b'0' <= b && b <= b'9'
+    between(48, 57, b as usize)
 }
 
 // The byte at a place, 0 past the end.
@@ -66,12 +73,6 @@ fn number_at(line: &[u8], place: usize, count: usize) -> u64
     v
 }
 
-fn one_to_nine(count: usize) -> bool
-    ensures { λ r. ⌜ r ≡ oneToNine count ⌝ }
-{
-    1 <= count && count <= 9
-}
-
 // The line has a letter, n of a digits, h of b digits, a space between, and nothing else.
 fn is_good_with(line: &[u8], kind: u64, a: usize, b: usize) -> bool
     requires { ⌜ kind ≡ kindOf (getD (now line) 0 0) ⌝ }
@@ -80,10 +81,10 @@ fn is_good_with(line: &[u8], kind: u64, a: usize, b: usize) -> bool
     if kind == 0 {
         return false;
     }
-    if !one_to_nine(a) {
+    if !between(1, 9, a) {
         return false;
     }
-    if !one_to_nine(b) {
+    if !between(1, 9, b) {
         return false;
     }
     if byte_at(line, 1) != b' ' {

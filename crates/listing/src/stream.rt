@@ -19,20 +19,7 @@ use crate::reply::put_wrong;
 // The bytes of the longest line that is printed.
 const MOST: usize = 90242;
 
-const HEADING: [u8; 12] = [
-    b'p',
-    b'o',
-    b'l',
-    b'y',
-    b'n',
-    b'o',
-    b'm',
-    b'i',
-    b'a',
-    b'l',
-    b's',
-    b'\n',
-];
+const HEADING: [u8; 12] = *b"polynomials\n";
 
 // `polynomials` and a newline, where there is room for it.
 pub fn heading(out: &mut [u8]) -> usize

@@ -18,19 +18,19 @@ returns c =
     let s = c .before .before in
     simp (unknown _ (sym (s .pre) ∙ c .if1 .taken))
 
-one-to-nine-requires : tie.Need-one-to-nine-requires
-one-to-nine-requires c κs = search needs
+between-requires : tie.Need-between-requires
+between-requires c κs = search needs
 
 returns-2 : tie.Need-returns-2
 unfolding isGoodWith
-returns-2 c = simp (← c .before .one-to-nine .ensures, not-true (c .before .one-to-nine .result) (c .if2 .taken), and-false)
+returns-2 c = simp (← c .before .between .ensures, not-true (c .before .between .result) (c .if2 .taken), and-false)
 
-one-to-nine-requires-2 : tie.Need-one-to-nine-requires-2
-one-to-nine-requires-2 c κs = search needs
+between-requires-2 : tie.Need-between-requires-2
+between-requires-2 c κs = search needs
 
 returns-3 : tie.Need-returns-3
 unfolding isGoodWith
-returns-3 c = simp (← c .before .one-to-nine2 .ensures, not-true (c .before .one-to-nine2 .result) (c .if3 .taken), and-false)
+returns-3 c = simp (← c .before .between2 .ensures, not-true (c .before .between2 .result) (c .if3 .taken), and-false)
 
 byte-at-requires : tie.Need-byte-at-requires
 byte-at-requires c κs = search needs
@@ -40,7 +40,7 @@ unfolding isGoodWith
 returns-4 c = simp (← c .before .byte-at .ensures, ne-eqb _ _ (c .if4 .taken), and-false)
 
 add-byte-at : tie.Need-add-byte-at
-add-byte-at c = omega (arith, nine-range _ (sym (c .before .before .before .before .before .one-to-nine .ensures) ∙ not-false _ (c .before .before .before .before .if2 .left)))
+add-byte-at c = omega (arith, nine-range _ (sym (c .before .before .before .before .before .between .ensures) ∙ not-false _ (c .before .before .before .before .if2 .left)))
 
 byte-at-requires-2 : tie.Need-byte-at-requires-2
 byte-at-requires-2 c κs = search needs
@@ -50,10 +50,10 @@ unfolding isGoodWith
 returns-5 c = simp (← c .before .byte-at2 .ensures, ne-eqb _ _ (c .if5 .taken), and-false)
 
 add-result : tie.Need-add-result
-add-result c = omega (arith, nine-range _ (sym (c .before .before .before .before .before .before .before .one-to-nine .ensures) ∙ not-false _ (c .before .before .before .before .before .before .if2 .left)))
+add-result c = omega (arith, nine-range _ (sym (c .before .before .before .before .before .before .before .between .ensures) ∙ not-false _ (c .before .before .before .before .before .before .if2 .left)))
 
 add-result-2 : tie.Need-add-result-2
-add-result-2 c = omega (arith, nine-range _ (sym (c .before .before .before .before .before .before .before .one-to-nine .ensures) ∙ not-false _ (c .before .before .before .before .before .before .if2 .left)), nine-range _ (sym (c .before .before .before .before .before .one-to-nine2 .ensures) ∙ not-false _ (c .before .before .before .before .if3 .left)))
+add-result-2 c = omega (arith, nine-range _ (sym (c .before .before .before .before .before .before .before .between .ensures) ∙ not-false _ (c .before .before .before .before .before .before .if2 .left)), nine-range _ (sym (c .before .before .before .before .before .between2 .ensures) ∙ not-false _ (c .before .before .before .before .if3 .left)))
 
 returns-6 : tie.Need-returns-6
 unfolding isGoodWith
@@ -61,8 +61,8 @@ returns-6 c =
     let s = c .before .before .before .before .before .before .before .before .before .before in
     simp (
       known (getD (s .args .line .now) 0 0) (λ e. c .before .before .before .before .before .before .before .before .if1 .left (s .pre ∙ e)),
-      sym (c .before .before .before .before .before .before .before .one-to-nine .ensures) ∙ not-false _ (c .before .before .before .before .before .before .if2 .left),
-      sym (c .before .before .before .before .before .one-to-nine2 .ensures) ∙ not-false _ (c .before .before .before .before .if3 .left),
+      sym (c .before .before .before .before .before .before .before .between .ensures) ∙ not-false _ (c .before .before .before .before .before .before .if2 .left),
+      sym (c .before .before .before .before .before .between2 .ensures) ∙ not-false _ (c .before .before .before .before .if3 .left),
       ap (λ x. eqb x 32) (sym (c .before .before .before .byte-at .ensures)) ∙ eq-eqb _ _ (c .before .before .if4 .left),
       ap (λ x. eqb x 32) (sym (c .before .byte-at2 .ensures)) ∙ eq-eqb _ _ (c .if5 .left),
     )
@@ -72,9 +72,9 @@ is-good-with-spec =
     tie.close
     (tie.spec
     returns
-    one-to-nine-requires
+    between-requires
     returns-2
-    one-to-nine-requires-2
+    between-requires-2
     returns-3
     byte-at-requires
     returns-4
