@@ -1,21 +1,21 @@
 -- Whatever pieces the input comes in, and wherever the output is cut, what is written is the listing of the whole input.
 use mathlib.Core.Path.{_≡_, refl, sym, _∙_, ap, ap₂}
 use mathlib.Core.List.{List, [], _∷_, _++_, append-assoc, append-nil}
-use Prim.Native.Nat.{ℕ, suc, _+_, _^_, _<_}
+use Prim.Native.Nat.{ℕ, suc, _+_, _^_, _<_, _≤_}
 use native.Mathlib.Omega.{arith}
 use borrow.Author.Tests.{eq-eqb, ne-eqb}
 use lib.ListN.{length, take, drop, take-append-drop}
-use lib.Seq.{sets-eq, take-at}
+use lib.Seq.{take-all, sets-eq, take-at}
 use lib.Dec.{eqb}
 use Rattle.step_laws.specs.Tests.{by-test}
 use Rattle.listing.specs.Text.{NEWLINE}
 use Rattle.listing.specs.Listing.{reply, lastLine, linesFrom, replies, heading, listing}
-use Rattle.listing.specs.Stream.{startLine, pushed, nextLine, closing, step, says, after, printed, ending}
+use Rattle.listing.specs.Stream.{MOST, startLine, pushed, nextLine, closing, step, says, after, printed, ending}
 use Rattle.listing.specs.Ran.{Ran}
 use Rattle.listing.specs.declared.Line.{Line}
 use Rattle.listing.specs.declared.Progress.{Progress}
 use Rattle.listing.proofs.Kept.{Keeps, keeps-start, keeps-next, keeps-push, closing-is, filled}
-use Rattle.listing.proofs.Streaming.{after-append, printed-append}
+use Rattle.listing.proofs.Streaming.{after-append, printed-append, takes}
 
 -- the end of the input
 at-end : (s : Line) (current : List ℕ) (k : ℕ) → Keeps s current k → ending s ≡ replies k (lastLine current)
@@ -74,3 +74,10 @@ pub listed : {s : Line} {input out : List ℕ} → Runs startLine input out s �
 listed {s} {input} {out} rs h =
     let e = runs-print rs in
     ap₂ (λ x y. heading ++ (x ++ ending y)) (e .0) (e .1) ∙ whole input h
+
+-- the newline that is supplied where the input ends in an open line
+pub last : {s : Line} {l m : List ℕ} {r : Progress} → Ran s (NEWLINE ∷ []) l m r → MOST ≤ length l → (s .length ≡ 0 → ⊥) → take (r .made) m ≡ ending s
+unfolding ending printed says
+last {s} {l} {m} {r} one h some =
+    let all : take (r .taken) (NEWLINE ∷ []) ≡ NEWLINE ∷ [] = take-all (r .taken) (NEWLINE ∷ []) (takes one h (omega arith)) in
+    rw (ne-eqb (s .length) 0 some) (flushed one ∙ ap (printed s) all ∙ append-nil (closing s))

@@ -7,9 +7,13 @@ mod stream;
 mod text;
 
 pub use read::read_line;
+pub use reply::answer_line;
 pub use stream::heading;
 pub use stream::run;
 pub use stream::start;
+
+// Room for any line that is printed.
+pub const MOST: usize = 90242;
 
 // What a line asks for: a kind, an index and a height limit; or it is not good, and all three are 0.
 pub struct Request {

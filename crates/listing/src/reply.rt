@@ -4,11 +4,14 @@ ghost use mathlib.Core.Path.{_≡_};
 ghost use mathlib.Core.List.{[], _∷_};
 ghost use Prim.Native.Nat.{_+_, _*_, _≤_, _<_};
 ghost use lib.ListN.{length, take};
+ghost use mathlib.Core.Bool.{cond};
+ghost use lib.Dec.{ltb};
 ghost use lib.IntN.{pos};
 ghost use Rattle.listing.specs.Text.{spaced};
 ghost use Rattle.listing.specs.Puts.{Puts};
 ghost use Rattle.listing.specs.Listing.{LENT, letterOf, headOf, tailOf, wrongLine, reply};
-ghost use Rattle.listing.specs.Stream.{MOST};
+ghost use Rattle.listing.specs.Stream.{MOST as Most};
+use crate::MOST;
 use crate::read::read_line;
 use crate::text::put;
 use crate::text::put_coefficients;
@@ -78,9 +81,9 @@ pub(crate) fn put_reply(
     number: u64,
     entries: &mut [i64],
 ) -> usize
-    requires { ⌜ (length (now entries) ≡ LENT) × (at + MOST ≤ length (now out)) ⌝ }
+    requires { ⌜ (length (now entries) ≡ LENT) × (at + Most ≤ length (now out)) ⌝ }
     ensures { λ r. ⌜ Puts (reply number (now (line .entry))) at (now (out .entry)) (now (out .exit)) r ⌝ }
-    ensures { λ r. ⌜ r ≤ at + MOST ⌝ }
+    ensures { λ r. ⌜ r ≤ at + Most ⌝ }
 {
     let q = read_line(line);
     if !q.good {
@@ -89,4 +92,15 @@ pub(crate) fn put_reply(
     let a = polynomial::polynomial(q.kind, q.n, q.h as i64, entries);
     let p = put_head(out, at, q.kind, q.n, a);
     put_tail(out, p, a, entries)
+}
+
+// The reply to one line at the start of `out`, where there is room for any; no reply is empty, so 0 says that there was none.
+pub fn answer_line(line: &[u8], number: u64, out: &mut [u8]) -> usize
+    ensures { λ r. ⌜ Puts (cond (ltb (length (now (out .entry))) Most) [] (reply number (now (line .entry)))) 0 (now (out .entry)) (now (out .exit)) r ⌝ }
+{
+    if out.len() < MOST {
+        return 0;
+    }
+    let mut entries = [0i64; 4096];
+    put_reply(out, 0, line, number, &mut entries)
 }

@@ -12,12 +12,10 @@ ghost use Rattle.listing.specs.Listing.{heading as theHeading};
 ghost use Rattle.listing.specs.Stream.{MOST as Most, startLine, pushed, nextLine, closing};
 ghost use Rattle.listing.specs.Ran.{Ran};
 use crate::Line;
+use crate::MOST;
 use crate::Progress;
 use crate::reply::put_reply;
 use crate::reply::put_wrong;
-
-// The bytes of the longest line that is printed.
-const MOST: usize = 90242;
 
 const HEADING: [u8; 12] = *b"polynomials\n";
 
