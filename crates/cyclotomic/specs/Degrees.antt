@@ -10,7 +10,7 @@ use lib.IntN.{ℤ}
 use lib.Dec.{eqb}
 use Rattle.definitions.specs.Integers.{_⊕_, ⊖, 0ℤ, 1ℤ}
 use Rattle.definitions.specs.Series.{Series, constant, 𝟙, _+ˢ_, -ˢ, _·_, z^, spread}
-use Rattle.definitions.specs.Numbers.{phi}
+use Rattle.definitions.specs.Numbers.{phi, mOf, tOf}
 use Rattle.definitions.specs.Polynomials.{z^-1, F, I, polynomial, degree}
 use Rattle.integers.specs.Whole.{⊕-zero, ⊖-zero, zero-⊕}
 use Rattle.series.specs.Laws.{at-+ˢ, at--ˢ, ·-comm}
@@ -19,6 +19,8 @@ use Rattle.series.specs.Degree.{ZeroFrom, Poly, Monic, monic-spread, monic-div,
 use Rattle.numbers.specs.Tests.{either}
 use Rattle.numbers.specs.Primes.{Prime, prime-pos, by-primes}
 use Rattle.numbers.specs.Phi.{phi-old, phi-new, phi-one, phi-le}
+use Rattle.numbers.specs.Apart.{m-times-t}
+use Rattle.numbers.specs.PhiApart.{phi-m, phi-apart}
 use Rattle.cyclotomic.specs.Family.{F-one, pair-law, inverse-product}
 use Rattle.cyclotomic.specs.OnePrime.{prime-old, prime-new}
 use Rattle.cyclotomic.specs.Finite.{finite-F, finite-I}
@@ -70,3 +72,15 @@ monic kind n l = go (eqb kind 1)
     go : (b : mathlib.Core.Bool.Bool) → Monic (cond b (phi n) (n - phi n)) (cond b (F n) (I n))
     go true = monic-F n l
     go false = monic-I n l
+
+-- the degree for n is t times that for m
+pub degree-apart : (kind n : ℕ) → 0 < n → degree kind n ≡ degree kind (mOf n) * tOf n
+unfolding degree
+degree-apart kind n l = go (eqb kind 1)
+  where
+    phis : phi n ≡ phi (mOf n) * tOf n
+    phis = phi-apart n l ∙ ap (λ k. k * tOf n) (sym (phi-m n))
+
+    go : (b : mathlib.Core.Bool.Bool) → cond b (phi n) (n - phi n) ≡ cond b (phi (mOf n)) (mOf n - phi (mOf n)) * tOf n
+    go true = phis
+    go false = omega (arith, m-times-t n, phis, NatL.mul-sub (tOf n) (mOf n) (phi (mOf n)))

@@ -6,6 +6,7 @@ pub mod Degrees
 pub mod Signs
 pub mod Mirrors
 pub mod Apart
+pub mod Heights
 pub mod Terms
 pub mod Kept
 pub mod Worked

@@ -4,7 +4,7 @@ use Prim.Native.Nat.{ℕ, zero, suc, _+_, _*_, _≤_, _<_}
 use mathlib.Core.Path.{_≡_, refl, sym, ap, ap₂, _∙_}
 use mathlib.Core.Bool.{Bool, true, false, cond, not, _&&_}
 use mathlib.Core.Logic.{⊎-elim, _≢_}
-use native.Mathlib.Nat.{add-assoc, add-comm, add-zero, add-suc, le-refl, zero-add, mul-assoc, mul-comm, one-mul, mul-zero, zero-mul, le-suc-iff}
+use native.Mathlib.Nat.{add-assoc, add-comm, add-zero, add-suc, le-refl, zero-add, mul-assoc, mul-comm, one-mul, mul-one, mul-zero, zero-mul, le-suc-iff}
 use native.Mathlib.Omega.{arith}
 use Rattle.definitions.specs.Numbers.{countTo, productOfTo}
 use Rattle.numbers.specs.Folds.{fold-further, fold-one, fold-by, only-off, Monoid, foldTo, only, fold-zero, fold-same, fold-add}
@@ -44,6 +44,14 @@ module _ (q : ℕ → Bool) where
 
   pub count-no : (k : ℕ) → q (suc k) ≡ false → countTo (suc k) q ≡ countTo k q
   count-no k e = count-suc k ∙ (ap (λ b. countTo k q + cond b 1 0) e ∙ add-zero (countTo k q))
+
+  pub product-yes : (k : ℕ) → q (suc k) ≡ true → productOfTo (suc k) q ≡ productOfTo k q * suc k
+  unfolding productOfTo
+  product-yes k e = ap (λ b. productOfTo k q * cond b (suc k) 1) e
+
+  pub product-no : (k : ℕ) → q (suc k) ≡ false → productOfTo (suc k) q ≡ productOfTo k q
+  unfolding productOfTo
+  product-no k e = ap (λ b. productOfTo k q * cond b (suc k) 1) e ∙ mul-one (productOfTo k q)
 
   -- a count goes no further where no number more has the property
   pub count-further :

@@ -2,7 +2,7 @@
 -- and k, the number of odd primes, is that of r.
 use Prim.Native.Nat.{ℕ, _+_, _*_, _%_, _<_, _∣_}
 use mathlib.Core.Path.{_≡_, refl, sym, ap, ap₂, _∙_}
-use mathlib.Core.Bool.{Bool, true, not, and-true, _&&_}
+use mathlib.Core.Bool.{Bool, true, false, not, and-true, _&&_}
 use mathlib.Core.Logic.{_≢_, ⊎-elim}
 use native.Mathlib.Nat.{dvd-mul-left, dvd-mul-right-of-dvd, le-of-dvd, le-mul-of-pos-right, not-le-of-lt, add-comm, mul-pos}
 use native.Mathlib.Omega.{arith}
@@ -71,18 +71,21 @@ pub k-one : kOf 1 ≡ 0
 unfolding kOf countTo oddPrimeOf isPrime
 k-one = refl
 
--- k of r is k of n
-pub k-of-r : (n : ℕ) → 0 < n → kOf (rOf n) ≡ kOf n
-unfolding kOf
-k-of-r n l = count-same (rOf n) (λ x a b. same-primes x) ∙ sym none-more
-  where
-    same-primes : (x : ℕ) → oddPrimeOf (rOf n) x ≡ oddPrimeOf n x
-    same-primes x =
-        same (test-odd-prime (rOf n) x) (test-odd-prime n x)
-        (λ h. ((h .0 .0, r-prime n x (h .0 .0) (h .0 .1) .0), h .1))
-        (λ h. ((h .0 .0, prime-r n l x (h .0 .0) (h .0 .1) (h .1)), h .1))
+-- r has the odd primes of n, none of them above r; so k of r is k of n
+module _ (n : ℕ) (l : 0 < n) where
+  pub r-same-primes : (x : ℕ) → oddPrimeOf (rOf n) x ≡ oddPrimeOf n x
+  r-same-primes x =
+      same (test-odd-prime (rOf n) x) (test-odd-prime n x)
+      (λ h. ((h .0 .0, r-prime n x (h .0 .0) (h .0 .1) .0), h .1))
+      (λ h. ((h .0 .0, prime-r n l x (h .0 .0) (h .0 .1) (h .1)), h .1))
 
-    none-more : countTo n (oddPrimeOf n) ≡ countTo (rOf n) (oddPrimeOf n)
-    none-more =
-        count-further (oddPrimeOf n) (rOf n) n (le-of-dvd l (r-divides n))
-        (λ d a b. denies (test-odd-prime n d) (λ h. not-le-of-lt a (le-of-dvd (r-pos n) (prime-r n l d (h .0 .0) (h .0 .1) (h .1)))))
+  pub r-none-above : (d : ℕ) → rOf n < d → oddPrimeOf n d ≡ false
+  r-none-above d a =
+      denies (test-odd-prime n d)
+      (λ h. not-le-of-lt a (le-of-dvd (r-pos n) (prime-r n l d (h .0 .0) (h .0 .1) (h .1))))
+
+  pub k-of-r : kOf (rOf n) ≡ kOf n
+  unfolding kOf
+  k-of-r =
+      count-same (rOf n) (λ x a b. r-same-primes x)
+      ∙ sym (count-further (oddPrimeOf n) (rOf n) n (le-of-dvd l (r-divides n)) (λ d a b. r-none-above d a))

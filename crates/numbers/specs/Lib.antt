@@ -10,6 +10,8 @@ pub mod Counts
 pub mod Phi
 pub mod Products
 pub mod Apart
+pub mod PhiApart
+pub mod PhiPrime
 pub mod HowMany
 pub mod AtMostFive
 pub mod Lists

@@ -1,7 +1,7 @@
 -- The list of those of 1, .., k that have a property: its length is their count, its members are they, it ascends, and its first
 -- entries are the list up to a smaller bound. Also the sum over such a list.
 use Prim.Native.Nat.{ℕ, zero, suc, _+_, _*_, _-_, _≤_, _<_}
-use mathlib.Core.Path.{_≡_, refl, sym, ap, _∙_}
+use mathlib.Core.Path.{_≡_, refl, sym, ap, ap₂, _∙_}
 use mathlib.Core.Bool.{Bool, true, false, cond}
 use mathlib.Core.Logic.{_⊎_, inl, inr, ⊎-elim}
 use mathlib.Core.List.{List, [], _∷_, _++_, map, append-nil, map-append, List·Memᴰ, List·Memᴰ·head, List·Memᴰ·append-cases, List·Memᴰ·eq-of-singleton, List·Memᴰ·not-nil, Memᴰ·append-left, Memᴰ·append-right}
@@ -33,15 +33,18 @@ by-listed q C z y n (suc k) = go (q (suc k)) refl (by-listed q C z y n k)
     go false e h = rw (append-nil (listTo k q)) (n k e h)
 
 -- an entry of a list with one more at its end
-snoc-at :
-    (l : List ℕ) (x i : ℕ)
-    → i < length (l ++ (x ∷ []))
-    → ((i < length l) × (getD (l ++ (x ∷ [])) i 0 ≡ getD l i 0)) ⊎ (getD (l ++ (x ∷ [])) i 0 ≡ x)
+abbrev Snoc : List ℕ → ℕ → ℕ → Type 0
+Snoc l x i =
+    ((i < length l) × (getD (l ++ (x ∷ [])) i 0 ≡ getD l i 0)) ⊎ ((i ≡ length l) × (getD (l ++ (x ∷ [])) i 0 ≡ x))
+
+snoc-at : (l : List ℕ) (x i : ℕ) → i < length (l ++ (x ∷ [])) → Snoc l x i
 snoc-at l x i u = go (decLt i (length l))
   where
-    go : Dec (i < length l) → ((i < length l) × (getD (l ++ (x ∷ [])) i 0 ≡ getD l i 0)) ⊎ (getD (l ++ (x ∷ [])) i 0 ≡ x)
+    go : Dec (i < length l) → Snoc l x i
     go (yes h) = inl (h, List·getD-append l (x ∷ []) 0 i h)
-    go (no h) = inr (getD-at l x [] 0 i (omega (arith, rw (length-append l (x ∷ [])) at u)))
+    go (no h) =
+        let end : i ≡ length l = omega (arith, rw (length-append l (x ∷ [])) at u) in
+        inr (end, getD-at l x [] 0 i (sym end))
 
 pub sum-append : (a b : List ℕ) → sumOf (a ++ b) ≡ sumOf a + sumOf b
 unfolding sumOf
@@ -54,16 +57,39 @@ unfolding sumOf
 sum-at-most f b h [] = omega arith
 sum-at-most f b h (x ∷ l) = omega (arith, h x, sum-at-most f b h l)
 
+pub list-same :
+    {q s : ℕ → Bool} (k : ℕ) → ((d : ℕ) → 0 < d → d ≤ k → q d ≡ s d) → listTo k q ≡ listTo k s
+unfolding listTo
+list-same zero e = refl
+list-same (suc k) e =
+    ap₂ (λ l b. l ++ cond b (suc k ∷ []) []) (list-same k (λ d a b. e d a (omega arith))) (e (suc k) (omega arith) (omega arith))
+
 module _ (q : ℕ → Bool) where
   pub list-yes : (k : ℕ) → q (suc k) ≡ true → listTo (suc k) q ≡ listTo k q ++ (suc k ∷ [])
   unfolding listTo
   list-yes k e = ap (λ b. listTo k q ++ cond b (suc k ∷ []) []) e
+
+  pub list-no : (k : ℕ) → q (suc k) ≡ false → listTo (suc k) q ≡ listTo k q
+  unfolding listTo
+  list-no k e = ap (λ b. listTo k q ++ cond b (suc k ∷ []) []) e ∙ append-nil (listTo k q)
 
   pub list-length : (k : ℕ) → length (listTo k q) ≡ countTo k q
   list-length =
       by-listed q (λ k l. length l ≡ countTo k q) (sym (count-zero q))
       (λ k e ih. rw (count-yes q k e) (length-append (listTo k q) (suc k ∷ []) ∙ ap (λ x. x + 1) ih))
       (λ k e ih. rw (count-no q k e) ih)
+
+  -- a list goes no further where no number more has the property
+  list-further-add :
+      (m j : ℕ) → ((d : ℕ) → m < d → d ≤ m + j → q d ≡ false) → listTo (m + j) q ≡ listTo m q
+  list-further-add m zero e = ap (λ x. listTo x q) (add-zero m)
+  list-further-add m (suc j) e =
+      ap (λ x. listTo x q) (add-suc m j)
+      ∙ (list-no (m + j) (e (suc (m + j)) (omega arith) (omega arith)) ∙ list-further-add m j (λ d a b. e d a (omega arith)))
+
+  pub list-further : (m k : ℕ) → m ≤ k → ((d : ℕ) → m < d → d ≤ k → q d ≡ false) → listTo k q ≡ listTo m q
+  list-further m k l e =
+      rw (add-sub-of-le l) at (list-further-add m (k - m) (λ d a b. e d a (rw (add-sub-of-le l) at b)))
 
   -- a number of 1, .., k that has the property
   abbrev Has : ℕ → ℕ → Type 0
@@ -95,7 +121,7 @@ module _ (q : ℕ → Bool) where
       → (0 < getD (listTo k q) i 0) × (getD (listTo k q) i 0 ≤ k) × (q (getD (listTo k q) i 0) ≡ true)
   entry-has k i =
       by-listed q (λ j l. i < length l → Has j (getD l i 0)) (λ u. absurd (omega arith))
-      (λ j e ih u. ⊎-elim (λ h. rw (h .1) (wider j _ (ih (h .0)))) (λ h. the-last j _ e h) (snoc-at (listTo j q) (suc j) i u))
+      (λ j e ih u. ⊎-elim (λ h. rw (h .1) (wider j _ (ih (h .0)))) (λ h. the-last j _ e (h .1)) (snoc-at (listTo j q) (suc j) i u))
       (λ j e ih u. wider j _ (ih u)) k
 
   pub ascends :
@@ -112,7 +138,7 @@ module _ (q : ℕ → Bool) where
       at-end m e ih v =
           let before : i < length (listTo m q) = omega (arith, rw (length-append (listTo m q) (suc m ∷ [])) at v) in
           rw (List·getD-append (listTo m q) (suc m ∷ []) 0 i before)
-          (⊎-elim (λ h. rw (h .1) (ih (h .0))) (λ h. rw h (omega (arith, entry-has m i before .1))) (snoc-at (listTo m q) (suc m) j v))
+          (⊎-elim (λ h. rw (h .1) (ih (h .0))) (λ h. rw (h .1) (omega (arith, entry-has m i before .1))) (snoc-at (listTo m q) (suc m) j v))
 
   -- a list to a smaller bound is the start of it, and next stands the next number that has the property
   list-take-add : (m j : ℕ) → take (countTo m q) (listTo (m + j) q) ≡ listTo m q
@@ -129,6 +155,13 @@ module _ (q : ℕ → Bool) where
   list-next m k u e =
       sym (getD-take (countTo (suc m) q) (listTo k q) (countTo m q) 0 (omega (arith, count-yes q m e)))
       ∙ (ap (λ l. getD l (countTo m q) 0) (list-take (suc m) k u ∙ list-yes m e) ∙ getD-at (listTo m q) (suc m) [] 0 (countTo m q) (list-length m))
+
+  -- as many stand up to the entry at place i as its place tells
+  pub list-count : (k i : ℕ) → i < length (listTo k q) → countTo (getD (listTo k q) i 0) q ≡ suc i
+  list-count k i =
+      by-listed q (λ j l. i < length l → countTo (getD l i 0) q ≡ suc i) (λ u. absurd (omega arith))
+      (λ j e ih u. ⊎-elim (λ h. rw (h .1) (ih (h .0))) (λ h. rw (h .1) (omega (arith, count-yes q j e, list-length j, h .0))) (snoc-at (listTo j q) (suc j) i u))
+      (λ j e ih u. ih u) k
 
   pub list-sum : (f : ℕ → ℕ) (k : ℕ) → sumOf (map f (listTo k q)) ≡ foldTo sums (only sums q f) k
   unfolding sumOf

@@ -1,6 +1,6 @@
 -- phi of n p for a prime p: the numbers coprime to n come in periods of n, so n p has p phi(n) of them; if p divides n these are
 -- the numbers coprime to n p, else the multiples p e of p go, and there are phi(n) of those. Also bounds, and that phi is even above 2.
-use Prim.Native.Nat.{ℕ, zero, suc, _+_, _*_, _/_, _%_, _≤_, _<_, _∣_}
+use Prim.Native.Nat.{ℕ, zero, suc, _+_, _*_, _-_, _/_, _%_, _≤_, _<_, _∣_}
 use mathlib.Core.Path.{_≡_, refl, sym, ap, ap₂, _∙_}
 use mathlib.Core.Bool.{Bool, false, cond, not, and-false, _&&_}
 use mathlib.Core.Logic.{_≢_, _⊎_, inl, inr}
@@ -76,6 +76,12 @@ phi-new n p P no-p = omega (arith, ap₂ _+_ multiples others, fold-by sums (fre
     others : foldTo sums (only sums (λ a. free n a && not (divides p a)) (λ a. 1)) (n * p) ≡ phi (n * p)
     others =
         sym (phi-fold (n * p) ∙ fold-same sums (n * p) (λ a l u. ap (λ b. cond b 1 0) (free-times P n a l)))
+
+pub phi-times : (n p : ℕ) → Prime p → ¬ (p ∣ n) → phi (n * p) ≡ phi n * (p - 1)
+phi-times n p P no-p = omega (arith, phi-new n p P no-p, ap (λ x. phi n * x) whole)
+  where
+    whole : p ≡ p - 1 + 1
+    whole = omega (arith, P .above)
 
 pub phi-one : phi 1 ≡ 1
 unfolding phi countTo shareFactor someTo divides

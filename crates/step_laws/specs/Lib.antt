@@ -7,3 +7,4 @@ pub mod Step
 pub mod Told
 pub mod Signed
 pub mod Machine
+pub mod Bound

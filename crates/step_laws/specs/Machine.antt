@@ -2,33 +2,31 @@
 -- that fits, and the tests of `Signed` are stated here of what the machine sees.
 use mathlib.Core.Path.{_≡_, sym, _∙_, ap, ap₂}
 use mathlib.Core.Bool.{Bool, true, false}
-use Prim.Native.Nat.{ℕ, suc, _^_, _<_, _≤_}
+use Prim.Native.Nat.{ℕ, suc, _≤_}
 use native.Mathlib.Omega.{arith}
 use lib.IntN.{ℤ, pos, negsuc, natAbs, negℤ, _+ℤ_}
-use lib.Signed.{leZ, ltZ, mag}
+use lib.Signed.{leZ, ltZ}
 use mir.Syntax.{w64}
 use mir.Val.{SFits, toZ, ofZ}
 use mir.Facts.{toZ-ofZ}
-use Rattle.definitions.specs.Integers.{_⊕_, _⊝_}
+use Rattle.definitions.specs.Integers.{_⊝_}
 use Rattle.definitions.specs.Steps.{inRange, largest}
 use Rattle.step_laws.specs.Signed.{upper-test, lower-test, upper-fits, lower-fits, mag-abs, abs-mag, abs-negℤ, range-in}
 
 abbrev pub seen : ℤ → ℤ
 seen v = toZ w64 (ofZ w64 v)
 
--- two numbers that were read, added or taken from one another, and what is stored of it
-module _ (x y : ℤ) (f : mag x < 2 ^ 63) (g : mag y < 2 ^ 63) where
-  pub seen-⊕ : seen x ⊕ seen y ≡ x ⊕ y
-  seen-⊕ = ap₂ _⊕_ (toZ-ofZ {w = w64} {z = x} (record { sfits = f })) (toZ-ofZ {w = w64} {z = y} (record { sfits = g }))
+-- two numbers that were read, and what is answered of them
+module _ {x y : ℤ} (f : SFits w64 x) (g : SFits w64 y) where
+  pub seen-both : (op : ℤ → ℤ → ℤ) → op (seen x) (seen y) ≡ op x y
+  seen-both op = ap₂ op (toZ-ofZ f) (toZ-ofZ g)
 
-  pub seen-⊝ : seen x ⊝ seen y ≡ x ⊝ y
-  seen-⊝ = ap₂ _⊝_ (toZ-ofZ {w = w64} {z = x} (record { sfits = f })) (toZ-ofZ {w = w64} {z = y} (record { sfits = g }))
+  pub answered : (op : ℤ → ℤ → ℤ) → SFits w64 (op x y) → seen (op (seen x) (seen y)) ≡ op x y
+  answered op h = ap seen (seen-both op) ∙ toZ-ofZ h
 
-  pub stored-⊕ : SFits w64 (x ⊕ y) → seen (seen x ⊕ seen y) ≡ x ⊕ y
-  stored-⊕ h = ap seen seen-⊕ ∙ toZ-ofZ h
-
-  pub stored-⊝ : SFits w64 (x ⊝ y) → seen (seen x ⊝ seen y) ≡ x ⊝ y
-  stored-⊝ h = ap seen seen-⊝ ∙ toZ-ofZ h
+-- a value that was handed on is seen as it is
+pub handed : {v x : ℤ} → SFits w64 x → v ≡ x → seen v ≡ x
+handed f e = ap seen e ∙ toZ-ofZ f
 
 -- a value in range fits
 pub range-fits : (v : ℤ) → inRange largest v ≡ true → SFits w64 v

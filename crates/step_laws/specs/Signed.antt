@@ -1,14 +1,13 @@
 -- Whole numbers and the range of a step: cancellation, the magnitude of a sum, and the tests by which a machine number shows
 -- that a - e stays within ±(K + 1) without taking the difference. By cases of the signs.
-use mathlib.Core.Path.{_≡_, refl, sym, _∙_, ap}
+use mathlib.Core.Path.{_≡_, refl, sym, _∙_}
 use mathlib.Core.Bool.{true, false, true≢false}
 use native.Mathlib.Nat.{not-suc-le-zero}
 use Prim.Native.Nat.{ℕ, zero, suc, _+_, _-_, _<_, _≤_}
 use native.Mathlib.Omega.{arith}
 use borrow.Author.Tests.{lt-ltb, le-ltb, le-leb, lt-leb, leb-true, leb-false, ltb-true}
-use lib.IntN.{ℤ, pos, negsuc, natAbs, negℤ, negℤ-negℤ, subℕ, _+ℤ_, _-ℤ_, +ℤ-negℤ-cancel, -ℤ-+ℤ-cancel, +ℤ-comm, +ℤ-assoc}
+use lib.IntN.{ℤ, pos, negsuc, natAbs, negℤ, negℤ-negℤ, subℕ, _+ℤ_, +ℤ-negℤ-cancel, -ℤ-+ℤ-cancel}
 use lib.Signed.{leZ, ltZ, mag}
-use lib.Dec.{leb, ltb}
 use Rattle.definitions.specs.Integers.{_⊕_, _⊝_, ⊖}
 use Rattle.definitions.specs.Steps.{inRange}
 use Rattle.step_laws.specs.Tests.{by-order, same-test}
@@ -37,6 +36,10 @@ abs-neg : (a : ℤ) → natAbs (negℤ a) ≡ natAbs a
 abs-neg (pos zero) = refl
 abs-neg (pos (suc n)) = refl
 abs-neg (negsuc n) = refl
+
+pub abs-⊖ : (a : ℤ) → natAbs (⊖ a) ≡ natAbs a
+unfolding ⊖
+abs-⊖ a = abs-neg a
 
 pub abs-⊕ : (a b : ℤ) → natAbs (a ⊕ b) ≤ natAbs a + natAbs b
 unfolding _⊕_

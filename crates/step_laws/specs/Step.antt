@@ -1,6 +1,6 @@
 -- The steps, entry by entry: below d an entry stays; from d on a comb takes the older entry away and an accumulate adds the new
 -- one. Then the same of `stepList` and `stepOver`, and that a step whose size is at least the length does nothing.
-use mathlib.Core.Path.{_≡_, refl, sym, _∙_, ap}
+use mathlib.Core.Path.{_≡_, sym, _∙_, ap}
 use mathlib.Core.Bool.{true, false}
 use mathlib.Core.List.{List}
 use Prim.Native.Nat.{ℕ, _-_, _<_, _≤_}
@@ -9,8 +9,8 @@ use borrow.Author.Tests.{lt-ltb, le-ltb}
 use lib.ListN.{length, getD}
 use lib.IntN.{ℤ}
 use Rattle.definitions.specs.Integers.{_⊕_, _⊝_, 0ℤ}
-use Rattle.definitions.specs.Series.{Series, firsts}
-use Rattle.definitions.specs.Steps.{Sort, comb, accumulate, combed, stepped, inRange, someOutside, entries, stepOver, stepList}
+use Rattle.definitions.specs.Series.{Series}
+use Rattle.definitions.specs.Steps.{Sort, comb, accumulate, combed, stepped, inRange, entries, stepOver, stepList}
 use Rattle.step_laws.specs.Summed.{accumulated-from, accumulated-below}
 use Rattle.step_laws.specs.Firsts.{length-firsts, getD-firsts, firsts-same, firsts-entries}
 use Rattle.step_laws.specs.Outside.{OutsideAt, outside-found, outside-is, inside-each, inside-all}

@@ -7,7 +7,7 @@ use native.Mathlib.Omega.{arith}
 use borrow.Author.Tests.{lt-ltb, le-ltb, eq-eqb, ne-eqb}
 use lib.ListN.{length}
 use lib.IntN.{ℤ}
-use lib.Dec.{eqb, ltb}
+use lib.Dec.{eqb}
 use Rattle.definitions.specs.Codes.{DONE, OVER, STEP}
 use Rattle.definitions.specs.Steps.{Sort, stepOver, stepList, stepCode, stepCount, stepLeaves}
 use Rattle.step_laws.specs.Step.{long-not-over, long-stays}

@@ -4,3 +4,5 @@ pub mod Below
 pub mod Turns
 pub mod Whole
 pub mod OneOutcome
+pub mod Fours
+pub mod Rest

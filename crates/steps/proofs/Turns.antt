@@ -2,18 +2,18 @@
 use mathlib.Core.Path.{_≡_, refl, sym, _∙_, ap, subst}
 use mathlib.Core.Bool.{true}
 use mathlib.Core.List.{List}
-use Prim.Native.Nat.{ℕ, _+_, _-_, _<_, _≤_}
+use Prim.Native.Nat.{ℕ, _+_, _<_, _≤_}
 use native.Mathlib.Omega.{arith}
 use lib.ListN.{length, set}
 use lib.IntN.{ℤ}
 use mir.Syntax.{w64}
 use mir.Val.{SFits}
-use Rattle.definitions.specs.Steps.{combed, accumulated, inRange, largest, entries}
+use Rattle.definitions.specs.Steps.{comb, accumulate, combed, accumulated, inRange, largest, entries}
 use Rattle.step_laws.specs.Step.{combed-from}
 use Rattle.step_laws.specs.Summed.{accumulated-from, accumulated-below}
 use Rattle.step_laws.specs.Tests.{by-order}
-use Rattle.steps.specs.Passes.{plusAt, minusAt, CombedTo, AccumulatedTo}
-use Rattle.steps.proofs.Split.{moved-up, moved-down, plus-turn, minus-turn, none-above}
+use Rattle.steps.specs.Passes.{Split, turnAt, CombedTo, AccumulatedTo}
+use Rattle.steps.proofs.Split.{moved-up, moved-down, plus-turn, minus-turn}
 
 -- nothing lies from i on and below i
 none : {P : Type 0} (i k : ℕ) → i ≤ k → k < i → P
@@ -23,73 +23,90 @@ none i k h m = absurd (never h m)
     never h m = omega arith
 
 -- what holds of each entry passed holds of one more, above or below
-one-up : (P : ℕ → Type 0) (d i : ℕ) → ((k : ℕ) → d ≤ k → k < i → P k) → P i → (k : ℕ) → d ≤ k → k < i + 1 → P k
-one-up P d i all here k h b = by-order k i (all k h) (λ s. subst P (same s b) here)
-  where
-    same : i ≤ k → k < i + 1 → i ≡ k
-    same s b = omega arith
+module _ (P : ℕ → Type 0) (i k j : ℕ) (here : P k) where
+  one-up : k ≡ i → j ≡ k + 1 → (d : ℕ) → ((x : ℕ) → d ≤ x → x < i → P x) → (x : ℕ) → d ≤ x → x < j → P x
+  one-up e next d all x h b = by-order x i (all x h) (λ s. subst P (same s) here)
+    where
+      same : i ≤ x → k ≡ x
+      same s = omega arith
 
-one-down : (P : ℕ → Type 0) (i n : ℕ) → ((k : ℕ) → i ≤ k → k < n → P k) → P (i - 1) → (k : ℕ) → i - 1 ≤ k → k < n → P k
-one-down P i n all here k h b = by-order (i - 1) k (λ s. all k (omega arith) b) (λ s. subst P (same s h) here)
-  where
-    same : k ≤ i - 1 → i - 1 ≤ k → i - 1 ≡ k
-    same s h = omega arith
+  one-down : i ≡ k + 1 → j ≡ k → (n : ℕ) → ((x : ℕ) → i ≤ x → x < n → P x) → (x : ℕ) → j ≤ x → x < n → P x
+  one-down e next n all x h b = by-order k x (λ s. all x (omega arith) b) (λ s. subst P (same s) here)
+    where
+      same : x ≤ k → k ≡ x
+      same s = omega arith
 
-module _ {d : ℕ} {l m : List ℤ} {i : ℕ} where
-  pub up-value : AccumulatedTo d l m i → 1 ≤ d → i < length l → plusAt m i d ≡ accumulated d (entries l) i
-  up-value t one b =
-      plus-turn d i (t .split) one (t .from) b (accumulated-from d (entries l) i one (t .from))
+module _ {d : ℕ} {l m : List ℤ} {i : ℕ} (k : ℕ) (one : 1 ≤ d) (h : d ≤ k) (b : k < length l) where
+  pub up-value : AccumulatedTo d l m i → k ≡ i → turnAt accumulate d m k ≡ accumulated d (entries l) k
+  up-value t here = plus-turn (t .split) d k one h b (omega arith) (omega arith) (accumulated-from d (entries l) k one h)
 
-  pub up-turn : AccumulatedTo d l m i → 1 ≤ d → i < length l → inRange largest (plusAt m i d) ≡ true → SFits w64 (entries m i) → AccumulatedTo d l (set m i (plusAt m i d)) (i + 1)
+  pub up-turn : AccumulatedTo d l m i → (j : ℕ) → k ≡ i → j ≡ k + 1 → inRange largest (turnAt accumulate d m k) ≡ true → SFits w64 (entries m k) → AccumulatedTo d l (set m k (turnAt accumulate d m k)) j
   unfolding entries
-  up-turn t one b r f =
+  up-turn t j here next r f =
       record {
         from = omega arith;
         to = omega arith;
-        split = moved-up i (plusAt m i d) (t .split) b (up-value t one b);
+        split = moved-up (t .split) k j b here next (turnAt accumulate d m k) (up-value t here);
         inside =
-            one-up (λ k. inRange largest (accumulated d (entries l) k) ≡ true) d i (t .inside)
-            (ap (inRange largest) (sym (up-value t one b)) ∙ r);
-        fit = one-up (λ k. SFits w64 (entries l k)) d i (t .fit) (rw (t .split .above i (omega arith) b) at f);
-      }
-
-  pub down-value : CombedTo d l m i → 1 ≤ d → d < i → minusAt m (i - 1) d ≡ combed d (entries l) (i - 1)
-  down-value t one b =
-      minus-turn d i (t .split) one b (t .to) (combed-from d (entries l) (i - 1) (omega arith))
-
-  pub down-turn : CombedTo d l m i → 1 ≤ d → d < i → inRange largest (minusAt m (i - 1) d) ≡ true → SFits w64 (entries m (i - 1)) → CombedTo d l (set m (i - 1) (minusAt m (i - 1) d)) (i - 1)
-  unfolding entries
-  down-turn t one b r f =
-      record {
-        from = omega arith;
-        to = omega (arith, t .to);
-        split = moved-down i (minusAt m (i - 1) d) (t .split) (omega arith) (t .to) (down-value t one b);
-        inside =
-            one-down (λ k. inRange largest (combed d (entries l) k) ≡ true) i (length l) (t .inside)
-            (ap (inRange largest) (sym (down-value t one b)) ∙ r);
+            one-up (λ x. inRange largest (accumulated d (entries l) x) ≡ true) i k j
+            (ap (inRange largest) (sym (up-value t here)) ∙ r)
+            here
+            next
+            d
+            (t .inside);
         fit =
-            one-down (λ k. SFits w64 (entries l k)) i (length l) (t .fit)
-            (rw (t .split .below (i - 1) (omega arith) (omega (arith, t .to))) at f);
+            one-up (λ x. SFits w64 (entries l x)) i k j (rw (t .split .above k (omega arith) b) at f) here next d (t .fit);
       }
 
-module _ (d : ℕ) (l : List ℤ) (h : d ≤ length l) where
-  pub up-start : AccumulatedTo d l l d
+  pub down-value : CombedTo d l m i → i ≡ k + 1 → turnAt comb d m k ≡ combed d (entries l) k
+  down-value t here = minus-turn (t .split) d k one h b (omega arith) (combed-from d (entries l) k h)
+
+  pub down-turn : CombedTo d l m i → (j : ℕ) → i ≡ k + 1 → j ≡ k → inRange largest (turnAt comb d m k) ≡ true → SFits w64 (entries m k) → CombedTo d l (set m k (turnAt comb d m k)) j
   unfolding entries
-  up-start =
+  down-turn t j here next r f =
       record {
         from = omega arith;
-        to = h;
-        split = record { len = refl; below = λ k b s. sym (accumulated-below d (entries l) k b); above = λ k b s. refl };
-        inside = λ k b s. none d k b s;
-        fit = λ k b s. none d k b s;
+        to = omega arith;
+        split = moved-down (t .split) k j b here next (turnAt comb d m k) (down-value t here);
+        inside =
+            one-down (λ x. inRange largest (combed d (entries l) x) ≡ true) i k j
+            (ap (inRange largest) (sym (down-value t here)) ∙ r)
+            here
+            next
+            (length l)
+            (t .inside);
+        fit =
+            one-down (λ x. SFits w64 (entries l x)) i k j (rw (t .split .below k (omega arith) b) at f) here next (length l)
+            (t .fit);
       }
 
-  pub down-start : CombedTo d l l (length l)
-  down-start =
+-- before the first turn
+module _ (d : ℕ) (l : List ℤ) (i : ℕ) where
+  pub split-up : i ≡ d → Split l (length l) i (accumulated d (entries l)) (entries l)
+  unfolding entries
+  split-up e =
+      record { len = refl; below = λ k b s. sym (accumulated-below d (entries l) k (omega arith)); above = λ k b s. refl }
+
+  pub split-down : i ≡ length l → Split l (length l) i (entries l) (combed d (entries l))
+  unfolding entries
+  split-down e = record { len = refl; below = λ k b s. refl; above = λ k b s. none i k b (omega arith) }
+
+  pub up-start : d ≤ length l → i ≡ d → AccumulatedTo d l l i
+  up-start h e =
       record {
-        from = h;
+        from = omega arith;
         to = omega arith;
-        split = none-above l (combed d (entries l));
-        inside = λ k b s. none (length l) k b s;
-        fit = λ k b s. none (length l) k b s;
+        split = split-up e;
+        inside = λ k b s. none d k b (omega arith);
+        fit = λ k b s. none d k b (omega arith);
+      }
+
+  pub down-start : d ≤ length l → i ≡ length l → CombedTo d l l i
+  down-start h e =
+      record {
+        from = omega arith;
+        to = omega arith;
+        split = split-down e;
+        inside = λ k b s. none i k b (omega arith);
+        fit = λ k b s. none i k b (omega arith);
       }

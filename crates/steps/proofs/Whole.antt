@@ -1,22 +1,22 @@
 -- A pass that came to its end is the step. One that stopped short shows a value out of range, and the opposite pass, from where it
 -- stopped, gives back the old entries: a comb by adding what it took away, an accumulate by taking away what it added.
-use mathlib.Core.Path.{_≡_, refl, sym, _∙_, ap, ap₂}
+use mathlib.Core.Path.{_≡_, sym, _∙_, ap₂}
 use mathlib.Core.Bool.{true, false}
 use mathlib.Core.List.{List}
 use Prim.Native.Nat.{ℕ, zero, suc, _-_, _<_, _≤_}
 use native.Mathlib.Nat.{not-suc-le-zero}
 use native.Mathlib.Omega.{arith}
-use lib.ListN.{length, getD}
+use lib.ListN.{length}
 use lib.IntN.{ℤ}
-use Rattle.definitions.specs.Integers.{0ℤ, _⊕_, _⊝_}
+use Rattle.definitions.specs.Integers.{_⊕_, _⊝_}
 use Rattle.definitions.specs.Series.{Series}
-use Rattle.definitions.specs.Steps.{Sort, comb, accumulate, combed, accumulated, stepped, inRange, largest, entries, stepList, stepOver}
+use Rattle.definitions.specs.Steps.{Sort, comb, accumulate, combed, accumulated, stepped, inRange, largest, entries, stepList}
 use Rattle.step_laws.specs.Tests.{by-order}
 use Rattle.step_laws.specs.Firsts.{firsts-entries, firsts-same}
 use Rattle.step_laws.specs.Signed.{sub-add, add-sub}
 use Rattle.step_laws.specs.Summed.{summed, summed-from, summed-below, accumulated-from, accumulated-below}
 use Rattle.step_laws.specs.Step.{combed-from, stepped-below, over-is, not-over-all}
-use Rattle.steps.specs.Passes.{Split, All, combedBelow, CombedTo, AccumulatedTo, Taken}
+use Rattle.steps.specs.Passes.{All, combedBelow, CombedTo, AccumulatedTo, Taken}
 use Rattle.steps.proofs.Split.{all-below, all-above, all-firsts}
 use Rattle.steps.proofs.Below.{below-end, past-end, below-d}
 

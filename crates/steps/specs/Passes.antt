@@ -1,24 +1,25 @@
 -- How far a pass has got. `Split l n i f g`: the list l has n entries, those below i are f's and the others g's. An upward pass
 -- has the new entries below, a downward pass the old ones.
-use Prim.Native.Nat.{ℕ, _-_, _<_, _≤_}
+use Prim.Native.Nat.{ℕ, _+_, _-_, _<_, _≤_}
 use mathlib.Core.Bool.{Bool, true, cond, not}
 use mathlib.Core.Path.{_≡_}
 use mathlib.Core.List.{List}
-use lib.ListN.{length, getD}
+use lib.ListN.{length, getD, set}
 use lib.IntN.{ℤ}
 use lib.Dec.{ltb}
 use mir.Syntax.{w64}
 use mir.Val.{SFits}
 use Rattle.definitions.specs.Integers.{_⊕_, _⊝_, 0ℤ}
 use Rattle.definitions.specs.Series.{Series}
-use Rattle.definitions.specs.Steps.{Sort, combed, accumulated, inRange, largest, entries, stepOver, stepList}
+use Rattle.definitions.specs.Steps.{Sort, comb, accumulate, combed, accumulated, inRange, largest, entries, stepOver, stepList}
 
--- an entry with the one d before it added, or taken away
-abbrev pub plusAt : List ℤ → ℕ → ℕ → ℤ
-plusAt l i d = getD l i 0ℤ ⊕ getD l (i - d) 0ℤ
+-- what a turn makes of an entry x and the one y that stands d before it, and of the entry at i of a list
+abbrev pub turned : Sort → ℤ → ℤ → ℤ
+turned comb x y = x ⊝ y
+turned accumulate x y = x ⊕ y
 
-abbrev pub minusAt : List ℤ → ℕ → ℕ → ℤ
-minusAt l i d = getD l i 0ℤ ⊝ getD l (i - d) 0ℤ
+abbrev pub turnAt : Sort → ℕ → List ℤ → ℕ → ℤ
+turnAt s d l i = turned s (getD l i 0ℤ) (getD l (i - d) 0ℤ)
 
 pub record Split (l : List ℤ) (n i : ℕ) (f g : Series) : Type 0 where
   pub len : length l ≡ n
@@ -35,6 +36,10 @@ Fit i n f = (k : ℕ) → i ≤ k → k < n → SFits w64 (f k)
 
 abbrev pub Inside : ℕ → ℕ → Series → Type 0
 Inside i n f = (k : ℕ) → i ≤ k → k < n → inRange largest (f k) ≡ true
+
+-- four values v put into their places, from k on
+abbrev pub fourAt : List ℤ → ℕ → Series → List ℤ
+fourAt l k v = set (set (set (set l k (v k)) (k + 1) (v (k + 1))) (k + 2) (v (k + 2))) (k + 3) (v (k + 3))
 
 -- the entries from d on and below `end`, each with the old one d before it taken away: a comb that starts early
 unfoldable pub combedBelow : ℕ → ℕ → Series → Series

@@ -1,0 +1,180 @@
+-- The polynomial request's outcomes: which code each test leads to, and what is then told and left.
+use Prim.Native.Nat.{ℕ, zero, suc, _+_, _-_, _<_, _≤_}
+use mathlib.Core.Path.{_≡_, refl, sym, _∙_, ap, ap₂}
+use mathlib.Core.Bool.{Bool, true, false, cond}
+use mathlib.Core.Logic.{_≢_, _⊎_, inl, inr, ⊎-elim}
+use mathlib.Core.List.{List, _++_}
+use native.Mathlib.Omega.{arith}
+use native.Mathlib.Nat as NatL
+use native.Mathlib.Numerals.{add-one}
+use borrow.Author.Tests.{le-leb, lt-leb, eq-eqb, ne-eqb, lt-ltb, le-ltb}
+use lib.ListN.{length, drop, length-replicate}
+use lib.Dec.{eqb, ltb}
+use lib.IntN.{ℤ, pos}
+use lib.Signed.{ltZ}
+use Rattle.definitions.specs.Integers.{0ℤ}
+use Rattle.definitions.specs.Codes.{DONE, KIND, INDEX, LIMIT, SHORT, OVER, TALL}
+use Rattle.definitions.specs.Numbers.{rOf, countTo, phi}
+use Rattle.definitions.specs.Polynomials.{degree, polynomial}
+use Rattle.definitions.specs.Steps.{largest}
+use Rattle.definitions.specs.Requests.{knownKind, goodIndex, divisorsDue, overAmong, written, zeros}
+use Rattle.definitions.specs.Answer.{coefficients, height, gain, additionsFor}
+use Rattle.numbers.specs.Phi.{phi-le}
+use Rattle.numbers.specs.Tests.{not-both, test-and, test-lt, test-le}
+use Rattle.step_laws.specs.Tests.{by-order}
+use native.Mathlib.Decide.{ℕ-discrete}
+use Rattle.step_laws.specs.Firsts.{length-firsts}
+use Rattle.answers.specs.Polynomial.{code, answered, answer, left, leaves}
+use Rattle.answers.specs.declared.Answer.{Answer}
+use Rattle.polynomial.specs.Held.{apartOf}
+use Rattle.polynomial.specs.Wholes.{Laid, layCode}
+use Rattle.polynomial.specs.declared.apart.Apart.{Apart}
+use Rattle.polynomial.specs.declared.whole.Layout.{Layout}
+
+-- ---- codes
+module _ (kind n : ℕ) (h : ℤ) (room : ℕ) where
+  pub ask-kind : knownKind kind ≡ false → code kind n h room ≡ KIND
+  unfolding code
+  ask-kind e = rw e
+
+  pub ask-index : knownKind kind ≡ true → goodIndex n ≡ false → code kind n h room ≡ INDEX
+  unfolding code
+  ask-index e f = rw (e, f)
+
+  module _ (e : knownKind kind ≡ true) (f : goodIndex n ≡ true) where
+    pub ask-limit : ltZ h (pos 1) ≡ true → code kind n h room ≡ LIMIT
+    unfolding code
+    ask-limit g = rw (e, f, g)
+
+    module _ (g : ltZ h (pos 1) ≡ false) where
+      pub ask-short : room ≤ degree kind n → code kind n h room ≡ SHORT
+      unfolding code
+      ask-short b = rw (e, f, g, le-leb room (degree kind n) b)
+
+      pub ask-last : degree kind n < room → code kind n h room ≡ layCode kind n h
+      unfolding code layCode
+      ask-last b = rw (e, f, g, lt-leb room (degree kind n) b)
+
+-- ---- outcomes
+abbrev pub Answers : (kind n : ℕ) (h : ℤ) → Answer → List ℤ → List ℤ → Type 0
+Answers kind n h a m l = (a ≡ answer kind n h (length l)) × (m ≡ leaves kind n h l)
+
+-- nothing is told but a code and a degree
+abbrev pub told-only : ℕ → ℕ → Answer
+told-only c d = record { code = c; degree = d; additions = 0; height = 0; gain = 0 }
+
+module _ (kind n : ℕ) (h : ℤ) (l : List ℤ) where
+  by-code : (c : ℕ) (a : Answer) (m : List ℤ) → a ≡ answered kind n c → m ≡ left kind n c l → code kind n h (length l) ≡ c → Answers kind n h a m l
+  unfolding answer leaves
+  by-code c a m p q e = (p ∙ ap (answered kind n) (sym e), q ∙ ap (λ x. left kind n x l) (sym e))
+
+  pub at-kind : code kind n h (length l) ≡ KIND → Answers kind n h (told-only KIND 0) l l
+  unfolding answered left
+  at-kind = by-code KIND (told-only KIND 0) l refl refl
+
+  pub at-index : code kind n h (length l) ≡ INDEX → Answers kind n h (told-only INDEX 0) l l
+  unfolding answered left
+  at-index = by-code INDEX (told-only INDEX 0) l refl refl
+
+  pub at-limit : code kind n h (length l) ≡ LIMIT → Answers kind n h (told-only LIMIT 0) l l
+  unfolding answered left
+  at-limit = by-code LIMIT (told-only LIMIT 0) l refl refl
+
+  pub at-short : code kind n h (length l) ≡ SHORT → Answers kind n h (told-only SHORT (degree kind n)) l l
+  unfolding answered left
+  at-short = by-code SHORT (told-only SHORT (degree kind n)) l refl refl
+
+  at-over : code kind n h (length l) ≡ OVER → Answers kind n h (told-only OVER (degree kind n)) (written (zeros (suc (degree kind n))) l) l
+  unfolding answered left
+  at-over = by-code OVER (told-only OVER (degree kind n)) (written (zeros (suc (degree kind n))) l) refl refl
+
+  at-tall : code kind n h (length l) ≡ TALL → Answers kind n h (told-only TALL (degree kind n)) (written (zeros (suc (degree kind n))) l) l
+  unfolding answered left
+  at-tall = by-code TALL (told-only TALL (degree kind n)) (written (zeros (suc (degree kind n))) l) refl refl
+
+  at-done :
+      code kind n h (length l) ≡ DONE
+      → Answers kind n h (record { code = DONE; degree = degree kind n; additions = additionsFor kind n; height = height kind n; gain = gain kind n }) (written (coefficients kind n) l) l
+  unfolding answered left
+  at-done = by-code DONE _ (written (coefficients kind n) l) refl refl
+
+  -- ---- after the making
+  module _
+      (e : knownKind kind ≡ true) (f : goodIndex n ≡ true) (g : ltZ h (pos 1) ≡ false) (d : ℕ) (ed : d ≡ degree kind n) (room : d < length l)
+      (m : List ℤ) (r : Layout) (laid : Laid kind n h m r)
+    where
+      last-code : code kind n h (length l) ≡ r .code
+      last-code = ask-last kind n h (length l) e f g (omega arith) ∙ sym (laid .code)
+
+      in-front : (new : List ℤ) → length new ≡ suc (degree kind n) → m ≡ new → m ++ drop (d + 1) l ≡ written new l
+      unfolding written
+      in-front new len q = ap₂ (λ x k. x ++ drop k l) q (ap (λ x. x + 1) ed ∙ add-one (degree kind n) ∙ sym len)
+
+      two : (b t : Bool) → cond b OVER (cond t TALL DONE) ≢ DONE → (cond b OVER (cond t TALL DONE) ≡ OVER) ⊎ (cond b OVER (cond t TALL DONE) ≡ TALL)
+      two true t q = inl refl
+      two false true q = inr refl
+      two false false q = absurd (q refl)
+
+      which : r .code ≢ DONE → (r .code ≡ OVER) ⊎ (r .code ≡ TALL)
+      unfolding layCode
+      which q =
+          ⊎-elim (λ x. inl (laid .code ∙ x)) (λ x. inr (laid .code ∙ x))
+          (two (overAmong largest kind (rOf n) (divisorsDue (rOf n))) (ltZ h (pos (height kind n))) (λ x. q (laid .code ∙ x)))
+
+      zeroed : r .code ≢ DONE → m ++ drop (d + 1) l ≡ written (zeros (suc (degree kind n))) l
+      unfolding zeros
+      zeroed q =
+          in-front (zeros (suc (degree kind n))) (length-replicate (suc (degree kind n)) 0ℤ)
+          (laid .leaves ∙ ap (λ b. cond b (coefficients kind n) (zeros (suc (degree kind n)))) (ne-eqb (r .code) DONE q))
+
+      pub refuses : r .code ≢ DONE → Answers kind n h (told-only (r .code) d) (m ++ drop (d + 1) l) l
+      refuses q = ⊎-elim (λ x. go OVER x at-over) (λ x. go TALL x at-tall) (which q)
+        where
+          go : (c : ℕ) → r .code ≡ c → (code kind n h (length l) ≡ c → Answers kind n h (told-only c (degree kind n)) (written (zeros (suc (degree kind n))) l) l) → Answers kind n h (told-only (r .code) d) (m ++ drop (d + 1) l) l
+          go c x s = let y = s (last-code ∙ x) in (ap₂ told-only x ed ∙ y .0, zeroed q ∙ y .1)
+
+      pub delivers : r .code ≡ DONE → (k : ℕ) → k ≡ gain kind n → Answers kind n h (record { code = DONE; degree = d; additions = r .additions; height = r .height; gain = k }) (m ++ drop (d + 1) l) l
+      unfolding coefficients
+      delivers q k w =
+          let y = at-done (last-code ∙ q) in (
+            same ed (laid .additions q) (laid .height q) w ∙ y .0,
+            in-front (coefficients kind n) (length-firsts (suc (degree kind n)) (polynomial kind n))
+                (laid .leaves ∙ ap (λ b. cond b (coefficients kind n) (zeros (suc (degree kind n)))) (eq-eqb (r .code) DONE q)) ∙ y .1,
+          )
+        where
+          same : {x y z u x′ y′ z′ u′ : ℕ} → x ≡ x′ → y ≡ y′ → z ≡ z′ → u ≡ u′ → _≡_ {A = Answer} (record { code = DONE; degree = x; additions = y; height = z; gain = u }) (record { code = DONE; degree = x′; additions = y′; height = z′; gain = u′ })
+          same p q r s i = record { code = DONE; degree = p i; additions = q i; height = r i; gain = s i }
+
+-- ---- the degree, as it is computed
+module _ (kind n : ℕ) (x : Apart) (e : x ≡ apartOf n) where
+  pub phi-is : x .phi ≡ phi n
+  unfolding apartOf
+  phi-is = ap (λ (y : Apart). y .phi) e
+
+  pub phi-within : x .phi ≤ n
+  phi-within = omega (arith, phi-is, phi-le n)
+
+  pub degree-is : (d : ℕ) → d ≡ cond (eqb kind 1) (x .phi) (n - x .phi) → d ≡ degree kind n
+  unfolding degree
+  degree-is d q = q ∙ ap (λ f. cond (eqb kind 1) f (n - f)) phi-is
+
+-- the tests of `degree_of`: above 65,535 there is no degree, and at 0 it is 0
+none-at-zero : (kind : ℕ) → degree kind 0 ≡ 0
+unfolding degree phi countTo
+none-at-zero kind = go (eqb kind 1)
+  where
+    go : (b : Bool) → cond b (phi 0) (0 - phi 0) ≡ 0
+    go true = refl
+    go false = refl
+
+pub no-degree : (kind n : ℕ) → goodIndex n ≡ false → 0 ≡ cond (ltb 65535 n) 0 (degree kind n)
+unfolding goodIndex
+no-degree kind n e =
+    by-order 65535 n (λ h. rw (lt-ltb 65535 n h)) (λ h. rw (le-ltb 65535 n h) (inside h (ℕ-discrete n 0)))
+  where
+    inside : n ≤ 65535 → Dec (n ≡ 0) → 0 ≡ degree kind n
+    inside h (yes z) = sym (ap (degree kind) z ∙ none-at-zero kind)
+    inside h (no z) = absurd (not-both (test-and (test-lt 0 n) (test-le n 65535) .says (NatL.pos-of-ne-zero z, h)) e)
+
+pub its-degree : (kind n d : ℕ) → n ≤ 65535 → d ≡ degree kind n → d ≡ cond (ltb 65535 n) 0 (degree kind n)
+its-degree kind n d h e = e ∙ sym (ap (λ b. cond b 0 (degree kind n)) (le-ltb 65535 n h))

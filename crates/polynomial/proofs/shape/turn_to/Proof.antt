@@ -1,0 +1,27 @@
+-- `turn_to` meets its contract, by the branch.
+use borrow.Author.Needs.{needs}
+use Rattle.polynomial.proofs.shape.turn_to.Statement.{statement}
+use Rattle.polynomial.proofs.shape.turn_to.Tie as tie
+
+negate-to-requires : tie.Need-negate-to-requires
+negate-to-requires c κs = search needs
+
+copy-to-requires : tie.Need-copy-to-requires
+copy-to-requires c κs = search needs
+
+same-length : tie.Need-same-length
+same-length c = search needs
+
+returns : tie.Need-returns
+returns c = rw (c .before .before .before .if1 .taken) (c .before .negate-to .ensures)
+
+same-length-2 : tie.Need-same-length-2
+same-length-2 c = search needs
+
+returns-2 : tie.Need-returns-2
+returns-2 c = rw (c .before .before .before .if1 .left) (c .before .copy-to .ensures)
+
+pub turn-to-spec : {M : Type 1} → statement M
+turn-to-spec =
+    tie.close
+    (tie.spec negate-to-requires copy-to-requires same-length returns same-length-2 returns-2)

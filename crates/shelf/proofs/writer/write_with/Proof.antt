@@ -1,0 +1,138 @@
+-- `write_with`: each return by the tests that led there (Writing).
+use Prim.Native.Nat.{_+_, _*_, _≤_}
+use mathlib.Core.Path.{_≡_, sym, _∙_}
+use mathlib.Core.Bool.{true, false, _||_}
+use lib.ListN.{length}
+use lib.Dec.{eqb, ltb}
+use native.Mathlib.Omega.{arith}
+use borrow.Author.Needs.{needs}
+use borrow.Author.Tests.{not-true, not-false}
+use Rattle.shelf.specs.Numbers.{width}
+use Rattle.shelf.specs.Format.{size, isKind, writeTells}
+use Rattle.shelf.proofs.Least.{Fitting, width-none, width-made, width-fits}
+use Rattle.shelf.proofs.Writing.{kind-wrong, index-wrong, count-wrong, too-low, no-room, stored, size-made, index-zero, index-above, index-right, few, kind-small, nonzero}
+use Rattle.shelf.proofs.writer.write_with.Statement.{statement}
+use Rattle.shelf.proofs.writer.write_with.Tie as tie
+
+-- the function's start, from the places past its tests: kind, index, count, OVER
+abbrev from1 : tie.Else1 → tie.Start
+from1 c = c .before .before .before
+
+abbrev from3 : tie.Else3 → tie.Start
+from3 c = from1 (c .before .before)
+
+abbrev from4 : tie.Else4 → tie.Start
+from4 c = from3 (c .before)
+
+abbrev from5 : tie.Else5 → tie.Start
+from5 c = from4 (c .before .before .before)
+
+-- what those tests showed
+kind-ok : (c : tie.Else1) → isKind (from1 c .args .kind) ≡ true
+kind-ok c = sym (c .before .is-kind .ensures) ∙ not-false _ (c .if1 .left)
+
+index-ok : (c : tie.Else3) → (eqb (from3 c .args .n) 0 || ltb 65535 (from3 c .args .n)) ≡ false
+index-ok c = index-right _ (c .before .if2 .left) (c .if3 .left)
+
+made : (c : tie.Else5) → c .before .least-width .result ≡ width (from5 c .args .coeffs .now)
+made c = width-made _ _ _ (c .before .before .height .ensures) (c .before .least-width .ensures)
+
+fit : (c : tie.Else5) → Fitting (from5 c .args .coeffs .now) (c .before .least-width .result)
+fit c = width-fits _ _ (made c) (nonzero _ (c .if5 .left))
+
+whole : (c : tie.Else5) → 10 + length (from5 c .args .coeffs .now) * c .before .least-width .result ≡ size (from5 c .args .coeffs .now)
+whole c = size-made _ _ (made c)
+
+small : (c : tie.Else5) → length (from5 c .args .coeffs .now) * c .before .least-width .result ≤ 524288
+small c = few _ _ _ (c .before .before .before .if4 .left) (from5 c .pre) (fit c .high)
+
+is-kind-requires : tie.Need-is-kind-requires
+is-kind-requires c κs = search needs
+
+returns : tie.Need-returns
+unfolding writeTells
+returns c = kind-wrong _ _ _ _ _ (sym (c .before .is-kind .ensures) ∙ not-true _ (c .if1 .taken))
+
+returns-2 : tie.Need-returns-2
+unfolding writeTells
+returns-2 c = index-wrong _ _ _ _ _ (kind-ok (c .before)) (index-zero _ (c .if2 .taken))
+
+returns-3 : tie.Need-returns-3
+unfolding writeTells
+returns-3 c = index-wrong _ _ _ _ _ (kind-ok (c .before .before)) (index-above _ (c .before .if2 .left) (c .if3 .taken))
+
+add-if4 : tie.Need-add-if4
+add-if4 c = search needs
+
+returns-4 : tie.Need-returns-4
+unfolding writeTells
+returns-4 c =
+    let e = c .before in
+    count-wrong _ _ _ _ _ (kind-ok (e .before .before)) (index-ok e) (c .if4 .taken)
+
+height-requires : tie.Need-height-requires
+height-requires c κs = search needs
+
+least-width-requires : tie.Need-least-width-requires
+least-width-requires c κs = search needs
+
+returns-5 : tie.Need-returns-5
+unfolding writeTells
+returns-5 c =
+    let counted = c .before .before .before in
+    let e = counted .before in
+    let w = width-made _ _ _ (c .before .before .height .ensures) (c .before .least-width .ensures) in
+    too-low _ _ _ _ _ (kind-ok (e .before .before)) (index-ok e) (counted .if4 .left) (width-none _ (sym w ∙ c .if5 .taken))
+
+mul-size : tie.Need-mul-size
+mul-size c = omega (arith, small c)
+
+add-size : tie.Need-add-size
+add-size c = omega (arith, small c)
+
+returns-6 : tie.Need-returns-6
+unfolding writeTells
+returns-6 c =
+    let counted = c .before .before .before .before in
+    let e = counted .before in
+    no-room _ _ _ _ _ (kind-ok (e .before .before)) (index-ok e) (counted .if4 .left) (fit (c .before) .within) (omega (arith, whole (c .before)))
+
+store-requires : tie.Need-store-requires
+store-requires c κs =
+    let over = c .before .before in
+    let e = over .before .before .before .before in
+    (omega (arith, kind-small _ (kind-ok (e .before .before))), made over, fit over .low, omega (arith, whole over))
+
+same-length : tie.Need-same-length
+same-length c = search needs
+
+returns-7 : tie.Need-returns-7
+unfolding writeTells
+returns-7 c =
+    let over = c .before .before .before .before .before in
+    let counted = over .before .before .before in
+    let e = counted .before in
+    let a = from5 over .args in
+    let p = stored (a .degree) (a .kind) (a .n) (a .coeffs .now) (a .bytes .now) (kind-ok (e .before .before)) (index-ok e) (counted .if4 .left)
+    (fit over .within) (omega (arith, whole over)) in
+    (rw (whole over) (p .0), c .before .before .store .ensures ∙ p .1)
+
+pub write-with-spec : {M : Type 1} → statement M
+write-with-spec =
+    tie.close
+    (tie.spec
+    is-kind-requires
+    returns
+    returns-2
+    returns-3
+    add-if4
+    returns-4
+    height-requires
+    least-width-requires
+    returns-5
+    mul-size
+    add-size
+    returns-6
+    store-requires
+    same-length
+    returns-7)

@@ -1,0 +1,72 @@
+-- How far a step can make the entries grow: a comb at most doubles the largest magnitude b, and an accumulate at size d makes entry i
+-- at most b (i / d + 1). So a step whose growth stays within the range can't be OVER, and needs no test.
+use mathlib.Core.Path.{_≡_}
+use mathlib.Core.Bool.{true, false}
+use mathlib.Core.List.{List}
+use Prim.Native.Nat.{ℕ, zero, suc, _+_, _*_, _-_, _/_, _<_, _≤_}
+use native.Mathlib.Nat.{not-suc-le-zero, le-trans, mul-add, mul-one, mul-le-mul-left, div-eq-of-lt, div-eq-sub-div, le-div-iff-mul-le, div-mul-le-self}
+use native.Mathlib.Omega.{arith}
+use lib.ListN.{length, List·getD-eq-default}
+use lib.IntN.{ℤ, natAbs}
+use Rattle.definitions.specs.Integers.{0ℤ}
+use Rattle.definitions.specs.Series.{Series}
+use Rattle.definitions.specs.Steps.{Sort, comb, accumulate, combed, accumulated, stepped, inRange, entries, stepOver, stepList}
+use Rattle.step_laws.specs.Tests.{by-order}
+use Rattle.step_laws.specs.Signed.{abs-⊕, abs-⊝, in-range}
+use Rattle.step_laws.specs.Summed.{accumulated-from, accumulated-below}
+use Rattle.step_laws.specs.Step.{combed-from, stepped-below, getD-stepList, length-stepList, not-over-all}
+
+-- no value of a is larger than b
+abbrev pub Bounded : ℕ → Series → Type 0
+Bounded b a = (k : ℕ) → natAbs (a k) ≤ b
+
+-- the largest magnitude after a step on n entries of magnitude at most b
+unfoldable pub growth : Sort → ℕ → ℕ → ℕ → ℕ
+growth comb d n b = b + b
+growth accumulate d n b = b * (n / d + 1)
+
+module _ (d b : ℕ) (a : Series) (h : Bounded b a) where
+  pub combed-bound : (i : ℕ) → natAbs (combed d a i) ≤ b + b
+  unfolding stepped
+  combed-bound i =
+      by-order i d (λ l. rw (stepped-below d a comb i l) (omega (arith, h i)))
+      (λ l. rw (combed-from d a i l) (omega (arith, abs-⊝ (a i) (a (i - d)), h i, h (i - d))))
+
+  -- one more turn of d adds at most b
+  turn : 1 ≤ d → (i : ℕ) → d ≤ i → b + b * ((i - d) / d + 1) ≡ b * (i / d + 1)
+  turn one i l =
+      let q = (i - d) / d in
+      let e : b * (q + 1 + 1) ≡ b * (q + 1) + b * 1 = mul-add b (q + 1) 1 in
+      rw (div-eq-sub-div one l) (omega (arith, e, mul-one b))
+
+  up-to : 1 ≤ d → (n i : ℕ) → i < n → natAbs (accumulated d a i) ≤ b * (i / d + 1)
+  up-to one zero i m = absurd (not-suc-le-zero m)
+  up-to one (suc n) i m =
+      by-order i d (λ l. rw (accumulated-below d a i l, div-eq-of-lt l) (omega (arith, h i, mul-one b)))
+      (λ l.
+      let rest = up-to one n (i - d) (omega arith) in
+      rw (accumulated-from d a i one l, ← turn one i l) (omega (arith, abs-⊕ (a i) (accumulated d a (i - d)), h i, rest)))
+
+  pub accumulated-bound : 1 ≤ d → (i : ℕ) → natAbs (accumulated d a i) ≤ b * (i / d + 1)
+  accumulated-bound one i = up-to one (suc i) i (omega arith)
+
+-- the same of a list and of either sort
+module _ (s : Sort) (d b : ℕ) (one : 1 ≤ d) (l : List ℤ) (h : Bounded b (entries l)) where
+  stepped-bound : (s : Sort) (i : ℕ) → i < length l → natAbs (stepped s d (entries l) i) ≤ growth s d (length l) b
+  unfolding stepped growth
+  stepped-bound comb i m = combed-bound d b (entries l) h i
+  stepped-bound accumulate i m =
+      le-trans (accumulated-bound d b (entries l) h one i)
+      (mul-le-mul-left b (omega (arith, le-div-iff-mul-le {x = i / d} {y = length l} one .1 (omega (arith, div-mul-le-self i d)))))
+
+  pub growth-inside : (w : ℕ) → growth s d (length l) b ≤ w → (i : ℕ) → i < length l → inRange w (stepped s d (entries l) i) ≡ true
+  growth-inside w g i m = in-range w (stepped s d (entries l) i) (omega (arith, stepped-bound s i m))
+
+  pub growth-not-over : (w : ℕ) → growth s d (length l) b ≤ w → stepOver w s d l ≡ false
+  growth-not-over w g = not-over-all s d l w (λ i from m. growth-inside w g i m)
+
+  pub stepList-bound : Bounded (growth s d (length l) b) (entries (stepList s d l))
+  unfolding entries
+  stepList-bound k =
+      by-order k (length l) (λ m. rw (getD-stepList s d l k m) (stepped-bound s k m))
+      (λ m. rw (List·getD-eq-default (stepList s d l) 0ℤ {n = k} (rw (length-stepList s d l) m)) (omega arith))

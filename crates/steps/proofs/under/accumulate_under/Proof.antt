@@ -1,0 +1,76 @@
+-- `steps::under::accumulate_under` meets its contract: as a running sum, or by fours and then what they leave (`Rest`).
+use mathlib.Core.Path.{refl, sym, ap, subst}
+use Prim.Native.Nat.{_<_}
+use native.Mathlib.Omega.{arith}
+use lib.ListN.{length}
+use Rattle.definitions.specs.Steps.{accumulate, accumulated, entries, stepped}
+use Rattle.step_laws.specs.Step.{long-stays}
+use Rattle.steps.specs.Passes.{Fit}
+use Rattle.steps.proofs.Rest.{over-fit, rest-is, accumulate-rest}
+use borrow.Author.Needs.{needs}
+use Rattle.steps.proofs.under.accumulate_under.Statement.{statement}
+use Rattle.steps.proofs.under.accumulate_under.Tie as tie
+
+returns : tie.Need-returns
+returns c = sym (long-stays accumulate (c .before .args .d) (c .before .args .a .now) (c .if1 .taken))
+
+running-requires : tie.Need-running-requires
+unfolding stepped
+running-requires c κs =
+    let q = c .before .before .before in
+    let l = q .args .a .now in (
+      omega arith,
+      subst (λ x. Fit x (length l) (accumulated x (entries l))) (c .before .if2 .taken) (over-fit accumulate (q .args .d) l (q .pre .1)),
+    )
+
+same-length : tie.Need-same-length
+same-length c = search needs
+
+returns-2 : tie.Need-returns-2
+unfolding stepped
+returns-2 c =
+    let q = c .before .before .before .before .before in
+    let l = q .args .a .now in
+    rest-is accumulate (q .args .d) l (c .before .running .ensures) refl
+    (λ k b. ap (λ x. accumulated x (entries l) k) (sym (c .before .before .before .if2 .taken)))
+
+accumulate-fours-requires : tie.Need-accumulate-fours-requires
+unfolding stepped
+accumulate-fours-requires c κs =
+    let q = c .before .before .before in
+    (q .pre .0, omega arith, over-fit accumulate (q .args .d) (q .args .a .now) (q .pre .1))
+
+add-from-requires : tie.Need-add-from-requires
+unfolding stepped
+add-from-requires c κs =
+    let q = c .before .before .before .before .before .before in
+    let e = c .before .before .accumulate-fours .ensures in (
+      (q .pre .0, e .0 .0, omega (arith, e .0 .1, e .1 .len)),
+      λ k low high.
+          let n : k < length (q .args .a .now) = omega (arith, e .1 .len) in
+          rw (accumulate-rest (q .args .a .now) (e .0 .0) (e .0 .1) (q .pre .0) (e .1) k n)
+          (over-fit accumulate (q .args .d) (q .args .a .now) (q .pre .1) k (omega (arith, e .0 .0)) n),
+    )
+
+same-length-2 : tie.Need-same-length-2
+same-length-2 c = search needs
+
+returns-3 : tie.Need-returns-3
+returns-3 c =
+    let q = c .before .before .before .before .before .before .before .before in
+    let e = c .before .before .before .before .accumulate-fours .ensures in
+    rest-is accumulate (q .args .d) (q .args .a .now) (c .before .add-from .ensures) (e .1 .len)
+    (accumulate-rest (q .args .a .now) (e .0 .0) (e .0 .1) (q .pre .0) (e .1))
+
+pub accumulate-under-spec : {M : Type 1} → statement M
+accumulate-under-spec =
+    tie.close
+    (tie.spec
+    returns
+    running-requires
+    same-length
+    returns-2
+    accumulate-fours-requires
+    add-from-requires
+    same-length-2
+    returns-3)

@@ -1,0 +1,65 @@
+-- `steps::under::comb_fours` meets its contract: the invariant is the split at i.
+use mathlib.Core.Path.{_≡_, refl}
+use Prim.Native.Nat.{ℕ, _+_, _-_, _<_, _≤_}
+use native.Mathlib.Omega.{arith}
+use lib.ListN.{length}
+use Rattle.definitions.specs.Steps.{comb, combed, entries}
+use Rattle.step_laws.specs.Step.{combed-from}
+use Rattle.steps.specs.Passes.{Split, turnAt}
+use Rattle.steps.proofs.Split.{minus-turn}
+use Rattle.steps.proofs.Turns.{split-down}
+use Rattle.steps.proofs.Fours.{fours-down}
+use Rattle.steps.proofs.under.comb_fours.Statement.{statement}
+use Rattle.steps.proofs.under.comb_fours.Tie as tie
+
+abbrev Inv-loop : tie.InvT-loop
+Inv-loop a₀ d i₀ a i = (d ≤ i) × (i ≤ length a₀) × Split a (length a₀) i (entries a₀) (combed d (entries a₀))
+
+abbrev μ-loop : tie.MeasureT-loop
+μ-loop a₀ d i₀ a i = i
+
+loop-holds : tie.Need-loop-holds Inv-loop μ-loop
+loop-holds c = (c .pre .1, omega arith, split-down (c .args .d) (c .args .a .now) _ refl)
+
+sub-loop : tie.Need-sub-loop Inv-loop μ-loop
+sub-loop c = c .loop .inv .0
+
+sub-i : tie.Need-sub-i Inv-loop μ-loop
+sub-i c = omega arith
+
+-- what four turns compute
+values : (c : tie.In-loop Inv-loop μ-loop) (k : ℕ) → c .before .loop .i - 4 ≤ k → k < c .before .loop .i - 4 + 4 → turnAt comb (c .before .before .args .d) (c .before .loop .a) k ≡ combed (c .before .before .args .d) (entries (c .before .before .args .a .now)) k
+values c k low high =
+    let p = c .before .before in
+    minus-turn (c .before .loop .inv .2) (p .args .d) k (p .pre .0) (omega arith) (omega arith) (omega arith)
+    (combed-from (p .args .d) (entries (p .args .a .now)) k (omega arith))
+
+four-requires : tie.Need-four-requires Inv-loop μ-loop
+four-requires c κs = (
+  omega arith,
+  omega (arith, c .before .before .loop .inv .2 .len),
+  λ k low high. rw (values (c .before) k low high) (c .before .before .before .pre .2 k (omega arith) (omega arith)),
+)
+
+loop-less : tie.Need-loop-less Inv-loop μ-loop
+loop-less c = omega arith
+
+loop-again : tie.Need-loop-again Inv-loop μ-loop
+loop-again c =
+    let t = c .before .before .before in (
+      omega arith,
+      omega arith,
+      rw (c .before .four .ensures)
+          (fours-down (t .before .loop .inv .2) (t .before .loop .i - 4) (omega arith) (turnAt comb (t .before .before .args .d) (t .before .loop .a)) (omega arith) (values t)),
+    )
+
+same-length : tie.Need-same-length Inv-loop μ-loop
+same-length c = c .before .loop .inv .2 .len
+
+returns : tie.Need-returns Inv-loop μ-loop
+returns c = ((c .before .loop .inv .0, c .before .loop .inv .1), c .before .loop .inv .2)
+
+pub comb-fours-spec : {M : Type 1} → statement M
+comb-fours-spec =
+    tie.close
+    (tie.spec Inv-loop μ-loop loop-holds sub-loop sub-i four-requires loop-less loop-again same-length returns)

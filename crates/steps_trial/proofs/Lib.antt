@@ -1,0 +1,2 @@
+-- What the proof of `magnitude` uses.
+pub mod Negative

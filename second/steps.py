@@ -1,0 +1,38 @@
+#!/usr/bin/env python3
+"""What crates/steps_trial must print, from document 01's definition of a step and Python's whole numbers.
+
+A comb's new entry is a(i) - a(i - d). An accumulate's is the sum of a(i), a(i - d), a(i - 2 d), ..: no pass, no order of
+places, no undoing. Run it from the repository: second/steps.py > crates/steps_trial/stdout
+"""
+MOST = 2**63 - 1
+NONE = -(2**63)
+
+
+def step(sort, d, a):
+    """The code, the count and what stands in the slice afterwards."""
+    if d < 1 or d > 65535:
+        return 7, 0, a
+    if sort == "C":
+        new = [a[i] - a[i - d] if i >= d else a[i] for i in range(len(a))]
+    else:
+        new = [sum(a[i - j * d] for j in range(i // d + 1)) for i in range(len(a))]
+    if any(abs(new[i]) > MOST for i in range(d, len(a))):
+        return 5, 0, a
+    return 0, max(len(a) - d, 0), new
+
+
+SLICES = [
+    [1, 2, 3, 4, 5, 6, 7, 8],
+    [],
+    [MOST, NONE, 0, -1, 1, MOST, -MOST, 5],
+    [NONE] * 8,
+    [-1, 0, NONE, 0, -1, NONE, 1, NONE],
+    [1, 0, NONE, 1, 0, MOST, 0, NONE],
+    [0, 2**62, 2**62 - 1, 0, 0, -(2**62), -(2**62), 0],
+]
+
+for a in SLICES:
+    for d in (0, 1, 2, 3, 7, 8, 9, 65535, 65536, 2**64 - 1):
+        for sort in "CA":
+            code, count, left = step(sort, d, a)
+            print(sort, d, code, count, ":" + "".join(f" {v}" for v in left))
