@@ -1,6 +1,7 @@
 // `list` (document 01, 'The listing'): lines of standard input to answers on standard output. What is printed is made by the proved library
 // `listing`; here its pieces are read and written. A run keeps 40 bytes of a line, so memory does not grow with the input.
 
+ghost use mathlib.Core.Path.{_≡_};
 ghost use Prim.Native.Nat.{_≤_};
 ghost use lib.ListN.{length};
 ghost use Rattle.listing.specs.Stream.{MOST};
@@ -63,9 +64,16 @@ fn list_last(line: Line, out: &mut [u8])
     }
 }
 
+// The output goes out in pieces of up to 128 KiB. Only the length is known of it, so that no proof goes through its bytes.
+fn large() -> [u8; 131072]
+    ensures { λ r. ⌜ 131072 ≡ length r ⌝ }
+{
+    [0; 131072]
+}
+
 fn main() {
-    let mut chunk = [0u8; 65536];
-    let mut out = [0u8; 131072];
+    let mut chunk = io::large_buffer();
+    let mut out = large();
     let made = listing::heading(&mut out);
     if !io::write_all(STDOUT_FILENO, &out[..made]) {
         return;

@@ -6,6 +6,12 @@ use borrow.Author.Needs.{needs}
 use Rattle.list.proofs.main.Statement.{statement}
 use Rattle.list.proofs.main.Tie as tie
 
+large-buffer-requires : tie.Need-large-buffer-requires
+large-buffer-requires c κs = search needs
+
+large-requires : tie.Need-large-requires
+large-requires c κs = search needs
+
 slice-aggregate-heading : tie.Need-slice-aggregate-heading
 slice-aggregate-heading c = search needs
 
@@ -13,7 +19,7 @@ heading-requires : tie.Need-heading-requires
 heading-requires c κs = search needs
 
 array-share-prefix-out : tie.Need-array-share-prefix-out
-array-share-prefix-out c = omega (arith, c .before .heading .ensures .1, c .before .heading .kept .0)
+array-share-prefix-out c = search needs
 
 slice-aggregate-write-all : tie.Need-slice-aggregate-write-all
 slice-aggregate-write-all c = sym (length-take-le _ _ (omega (arith, c .before .before .heading .ensures .1, c .before .before .heading .kept .0)))
@@ -31,13 +37,13 @@ slice-aggregate-list-all-2 : tie.Need-slice-aggregate-list-all-2
 slice-aggregate-list-all-2 c = search needs
 
 list-all-requires : tie.Need-list-all-requires
-list-all-requires c κs = omega (arith, c .before .before .before .before .before .before .heading .kept .0)
+list-all-requires c κs = search needs
 
 slice-aggregate-list-last : tie.Need-slice-aggregate-list-last
 slice-aggregate-list-last c = search needs
 
 list-last-requires : tie.Need-list-last-requires
-list-last-requires c κs = omega (arith, c .before .before .before .before .list-all .kept .1 .0)
+list-last-requires c κs = search needs
 
 returns-2 : tie.Need-returns-2
 returns-2 c = search needs
@@ -49,6 +55,8 @@ pub main-spec : {M : Type 1} → statement M
 main-spec =
     tie.close
     (tie.spec
+    large-buffer-requires
+    large-requires
     slice-aggregate-heading
     heading-requires
     array-share-prefix-out
