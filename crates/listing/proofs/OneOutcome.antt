@@ -1,0 +1,71 @@
+-- One outcome for each input: two outcomes of a public function that meet its contract, read off its own clauses, have equal
+-- answers and leave equal buffers.
+use mathlib.Core.Path.{_≡_, sym, _∙_, ap}
+use mathlib.Core.List.{List}
+use Prim.Native.Nat.{ℕ, _+_}
+use lib.ListN.{length, take}
+use lib.Seq.{sets}
+use contract.Lifetimes.{Lfts}
+use borrow.Fn.Kinds.{endedOf}
+use borrow.Fn.World.{ArgsD, ResD}
+use denote.Triple.Clauses.{AtExit}
+use denote.Ref.{now}
+use Rattle.listing.specs.Ran.{Ran}
+use Rattle.listing.specs.Stream.{after, printed}
+use Rattle.listing.specs.declared.Line.{Line}
+use Rattle.listing.specs.declared.Progress.{Progress}
+use Rattle.listing.proofs.read.read_line
+use Rattle.listing.proofs.read.read_line.Reads as read-line-reads
+use Rattle.listing.proofs.read.read_line.Kinds as read-line-kinds
+use Rattle.listing.proofs.reply.answer_line
+use Rattle.listing.proofs.reply.answer_line.Reads as answer-line-reads
+use Rattle.listing.proofs.reply.answer_line.Kinds as answer-line-kinds
+use Rattle.listing.proofs.stream.heading
+use Rattle.listing.proofs.stream.heading.Reads as heading-reads
+use Rattle.listing.proofs.stream.heading.Kinds as heading-kinds
+use Rattle.listing.proofs.stream.start
+use Rattle.listing.proofs.stream.start.Reads as start-reads
+use Rattle.listing.proofs.stream.start.Kinds as start-kinds
+use Rattle.listing.proofs.stream.run
+use Rattle.listing.proofs.stream.run.Reads as run-reads
+use Rattle.listing.proofs.stream.run.Kinds as run-kinds
+
+module _ (κs : Lfts 1) (a : ArgsD read_line.signature κs) (z z′ : ResD read_line.signature κs) (e e′ : AtExit (endedOf 1 read-line-kinds.ps read-line-kinds.r) κs) where
+  pub one-request : read-line-reads.Post κs a z e → read-line-reads.Post κs a z′ e′ → z ≡ z′
+  one-request p p′ = p .0 ∙ sym (p′ .0)
+
+module _ (κs : Lfts 0) (a : ArgsD start.signature κs) (z z′ : ResD start.signature κs) (e e′ : AtExit (endedOf 0 start-kinds.ps start-kinds.r) κs) where
+  pub one-start : start-reads.Post κs a z e → start-reads.Post κs a z′ e′ → z ≡ z′
+  one-start p p′ = p ∙ sym p′
+
+module _ (κs : Lfts 1) (a : ArgsD heading.signature κs) (z z′ : ResD heading.signature κs) (e e′ : AtExit (endedOf 1 heading-kinds.ps heading-kinds.r) κs) where
+  pub one-heading : heading-reads.Post κs a z e → heading-reads.Post κs a z′ e′ → (z ≡ z′) × (now (e .0) ≡ now (e′ .0))
+  one-heading p p′ = (p .0 .place ∙ sym (p′ .0 .place), p .0 .leaves ∙ sym (p′ .0 .leaves))
+
+module _ (κs : Lfts 2) (a : ArgsD answer_line.signature κs) (z z′ : ResD answer_line.signature κs) (e e′ : AtExit (endedOf 2 answer-line-kinds.ps answer-line-kinds.r) κs) where
+  pub one-reply : answer-line-reads.Post κs a z e → answer-line-reads.Post κs a z′ e′ → (z ≡ z′) × (now (e .1 .1 .0) ≡ now (e′ .1 .1 .0))
+  one-reply p p′ = (p .place ∙ sym (p′ .place), p .leaves ∙ sym (p′ .leaves))
+
+-- two runs over one piece
+module _ {line : Line} {piece l m m′ : List ℕ} {r r′ : Progress} (p : Ran line piece l m r) (p′ : Ran line piece l m′ r′) where
+  same-taken : r .taken ≡ r′ .taken
+  same-taken = p .took ∙ sym (p′ .took)
+
+  same-text : printed line (take (r .taken) piece) ≡ printed line (take (r′ .taken) piece)
+  same-text = ap (λ t. printed line (take t piece)) same-taken
+
+  same-line : r .line ≡ r′ .line
+  same-line = p .left ∙ ap (λ t. after line (take t piece)) same-taken ∙ sym (p′ .left)
+
+  same-made : r .made ≡ r′ .made
+  same-made = p .puts .place ∙ ap (λ t. 0 + length t) same-text ∙ sym (p′ .puts .place)
+
+  one-progress : r ≡ r′
+  one-progress = λ i. record { line = same-line i; taken = same-taken i; made = same-made i }
+
+  one-buffer : m ≡ m′
+  one-buffer = p .puts .leaves ∙ ap (sets l 0) same-text ∙ sym (p′ .puts .leaves)
+
+module _ (κs : Lfts 2) (a : ArgsD run.signature κs) (z z′ : ResD run.signature κs) (e e′ : AtExit (endedOf 2 run-kinds.ps run-kinds.r) κs) where
+  pub one-run : run-reads.Post κs a z e → run-reads.Post κs a z′ e′ → (z ≡ z′) × (now (e .1 .1 .0) ≡ now (e′ .1 .1 .0))
+  one-run p p′ = (one-progress p p′, one-buffer p p′)

@@ -1,0 +1,96 @@
+// Writing numbers into a byte buffer at a place. Each function answers the next place; the caller sees to the room.
+
+ghost use mathlib.Core.Path.{_≡_};
+ghost use mathlib.Core.List.{List, [], _∷_};
+ghost use Prim.Native.Nat.{ℕ, _+_, _*_, _≤_, _<_};
+ghost use lib.ListN.{length, take};
+ghost use lib.IntN.{pos, natAbs};
+ghost use Rattle.listing.specs.Text.{decimal, spaced, sign};
+ghost use Rattle.listing.specs.Puts.{Puts};
+
+pub(crate) fn put(out: &mut [u8], at: usize, b: u8) -> usize
+    requires { ⌜ at < length (now out) ⌝ }
+    ensures { λ r. ⌜ Puts (b ∷ []) at (now (out .entry)) (now (out .exit)) r ⌝ }
+{
+    out[at] = b;
+    at + 1
+}
+
+// A number's digits: those of its tenth, and the last one.
+fn put_digits(out: &mut [u8], at: usize, n: u64) -> usize
+    requires { ⌜ at + length (decimal n) ≤ length (now out) ⌝ }
+    ensures { λ r. ⌜ Puts (decimal n) at (now (out .entry)) (now (out .exit)) r ⌝ }
+{
+    if n < 10 {
+        return put(out, at, 48 + n as u8);
+    }
+    let p = put_digits(out, at, n / 10);
+    put(out, p, 48 + (n % 10) as u8)
+}
+
+// The same; nearly all numbers have one digit.
+fn put_number(out: &mut [u8], at: usize, n: u64) -> usize
+    requires { ⌜ at + 20 ≤ length (now out) ⌝ }
+    ensures { λ r. ⌜ Puts (decimal n) at (now (out .entry)) (now (out .exit)) r ⌝ }
+{
+    if n < 10 {
+        return put(out, at, 48 + n as u8);
+    }
+    put_digits(out, at, n)
+}
+
+// A space and a number.
+pub(crate) fn put_item(out: &mut [u8], at: usize, n: u64) -> usize
+    requires { ⌜ at + 21 ≤ length (now out) ⌝ }
+    ensures { λ r. ⌜ Puts (spaced (pos n ∷ [])) at (now (out .entry)) (now (out .exit)) r ⌝ }
+    ensures { λ r. ⌜ r ≤ at + 21 ⌝ }
+{
+    let p = put(out, at, b' ');
+    put_number(out, p, n)
+}
+
+// How large a number is, without its sign; of -2^63 too.
+fn magnitude(c: i64) -> u64
+    ensures { λ r. ⌜ r ≡ natAbs c ⌝ }
+{
+    if c < 0 {
+        return (-(c + 1)) as u64 + 1;
+    }
+    c as u64
+}
+
+fn put_sign(out: &mut [u8], at: usize, c: i64) -> usize
+    requires { ⌜ at < length (now out) ⌝ }
+    ensures { λ r. ⌜ Puts (sign c) at (now (out .entry)) (now (out .exit)) r ⌝ }
+{
+    if c < 0 {
+        return put(out, at, b'-');
+    }
+    at
+}
+
+// A space and a coefficient.
+fn put_coefficient(out: &mut [u8], at: usize, c: i64) -> usize
+    requires { ⌜ at + 22 ≤ length (now out) ⌝ }
+    ensures { λ r. ⌜ Puts (spaced (c ∷ [])) at (now (out .entry)) (now (out .exit)) r ⌝ }
+    ensures { λ r. ⌜ r ≤ at + 22 ⌝ }
+{
+    let p = put(out, at, b' ');
+    let q = put_sign(out, p, c);
+    put_number(out, q, magnitude(c))
+}
+
+// The first so many coefficients.
+pub(crate) fn put_coefficients(out: &mut [u8], at: usize, entries: &[i64], count: usize) -> usize
+    requires { ⌜ (count ≤ length (now entries)) × (at + 22 * count ≤ length (now out)) ⌝ }
+    ensures { λ r. ⌜ Puts (spaced (take count (now (entries .entry)))) at (now (out .entry)) (now (out .exit)) r ⌝ }
+    ensures { λ r. ⌜ r ≤ at + 22 * count ⌝ }
+{
+    let mut p = at;
+    let mut i = 0;
+    while i < count {
+        p = put_coefficient(out, p, entries[i]);
+        i += 1;
+    }
+    p
+}
