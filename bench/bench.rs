@@ -6,7 +6,7 @@ mod plain;
 use plain::Answer as Told;
 use std::time::Instant;
 
-const ROUNDS: usize = 9;
+const ROUNDS: usize = 5;
 const LARGEST: usize = 65535;
 const NO_LIMIT: i64 = i64::MAX;
 

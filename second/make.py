@@ -74,6 +74,12 @@ def printed(script):
     yield run.stdout.decode()
 
 
+def listed():
+    """What `list` prints for the input that stands beside it."""
+    with open(os.path.join(CRATES, "list/stdin"), "rb") as file:
+        return listing.listing(file.read())
+
+
 def store(path, parts):
     with open(os.path.join(CRATES, path), "wb") as file:
         for part in parts:
@@ -84,9 +90,7 @@ def store(path, parts):
 if __name__ == "__main__":
     store("steps_trial/stdout", printed("steps.py"))
     store("shelf_trial/stdout", printed("shelf.py"))
-    if os.path.isdir(os.path.join(CRATES, "list")):
-        store("list/stdin", [listing.asked()])
-        store("list/stdout", listing.listing(listing.asked()))
+    store("list/stdout", listed())
     store("trial_table/src/choice.rt", indices())
     store("trial_refusals/src/asked.rt", asked())
     store("trial_refusals/stdout", refused())
