@@ -1,4 +1,5 @@
--- The partial request (document 01, 'The steps on the lower half'): kind, index n, a number j of divisors, and a buffer of so many entries.
+-- The partial request (document 01, 'The steps on the lower half'): kind, index n, a number j of divisors, and a buffer
+-- of so many entries.
 use Prim.Native.Nat.{ℕ, _+_, _-_}
 use mathlib.Core.Bool.{cond, not, _||_}
 use mathlib.Core.List.{List}

@@ -1,4 +1,5 @@
-// What the requests answer, one struct each, with document 01's codes. Every number is 64 bits; the order of the fields is that of the C library.
+// What the requests answer, one struct each, with document 01's codes. Every number is 64 bits; the order of the fields
+// is that of the C library.
 
 pub const DONE: u64 = 0;
 

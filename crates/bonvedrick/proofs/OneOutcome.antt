@@ -1,5 +1,5 @@
--- For each input the contract of each function of the C library leaves one outcome: two that meet it, as the checker reads it off the
--- clauses, have the same answer and leave the same in the lent slice.
+-- For each input the contract of each function of the C library leaves one outcome: two that meet it, as the checker
+-- reads it off the clauses, have the same answer and leave the same in the lent slice.
 use mathlib.Core.Path.{_≡_, sym, _∙_}
 use contract.Lifetimes.{Lfts}
 use borrow.Fn.Kinds.{endedOf}
@@ -26,33 +26,41 @@ use Rattle.bonvedrick.proofs.bv_accumulate.Kinds as accumulate-kinds
 use Rattle.bonvedrick.proofs.bv_accumulate.Reads as accumulate-reads
 
 pub polynomial-one :
-    (κs : Lfts 1) (a : ArgsD polynomial.signature κs) (z z′ : ResD polynomial.signature κs) (e e′ : AtExit (endedOf 1 polynomial-kinds.ps polynomial-kinds.r) κs) →
-    polynomial-reads.Post κs a z e → polynomial-reads.Post κs a z′ e′ → (z ≡ z′) × (now (e .1 .1 .1 .0) ≡ now (e′ .1 .1 .1 .0))
+    (κs : Lfts 1) (a : ArgsD polynomial.signature κs) (z z′ : ResD polynomial.signature κs)
+    (e e′ : AtExit (endedOf 1 polynomial-kinds.ps polynomial-kinds.r) κs) →
+    polynomial-reads.Post κs a z e → polynomial-reads.Post κs a z′ e′
+    → (z ≡ z′) × (now (e .1 .1 .1 .0) ≡ now (e′ .1 .1 .1 .0))
 polynomial-one κs a z z′ e e′ p p′ = (p .0 ∙ sym (p′ .0), p .1 ∙ sym (p′ .1))
 
 pub partial-one :
-    (κs : Lfts 1) (a : ArgsD partial.signature κs) (z z′ : ResD partial.signature κs) (e e′ : AtExit (endedOf 1 partial-kinds.ps partial-kinds.r) κs) →
-    partial-reads.Post κs a z e → partial-reads.Post κs a z′ e′ → (z ≡ z′) × (now (e .1 .1 .1 .0) ≡ now (e′ .1 .1 .1 .0))
+    (κs : Lfts 1) (a : ArgsD partial.signature κs) (z z′ : ResD partial.signature κs)
+    (e e′ : AtExit (endedOf 1 partial-kinds.ps partial-kinds.r) κs) →
+    partial-reads.Post κs a z e → partial-reads.Post κs a z′ e′
+    → (z ≡ z′) × (now (e .1 .1 .1 .0) ≡ now (e′ .1 .1 .1 .0))
 partial-one κs a z z′ e e′ p p′ = (p .0 ∙ sym (p′ .0), p .1 ∙ sym (p′ .1))
 
 pub write-one :
-    (κs : Lfts 2) (a : ArgsD write.signature κs) (z z′ : ResD write.signature κs) (e e′ : AtExit (endedOf 2 write-kinds.ps write-kinds.r) κs) →
+    (κs : Lfts 2) (a : ArgsD write.signature κs) (z z′ : ResD write.signature κs)
+    (e e′ : AtExit (endedOf 2 write-kinds.ps write-kinds.r) κs) →
     write-reads.Post κs a z e → write-reads.Post κs a z′ e′ → (z ≡ z′) × (now (e .1 .1 .1 .0) ≡ now (e′ .1 .1 .1 .0))
 write-one κs a z z′ e e′ p p′ = (p .0 ∙ sym (p′ .0), p .1 ∙ sym (p′ .1))
 
 pub read-one :
-    (κs : Lfts 2) (a : ArgsD read.signature κs) (z z′ : ResD read.signature κs) (e e′ : AtExit (endedOf 2 read-kinds.ps read-kinds.r) κs) →
+    (κs : Lfts 2) (a : ArgsD read.signature κs) (z z′ : ResD read.signature κs)
+    (e e′ : AtExit (endedOf 2 read-kinds.ps read-kinds.r) κs) →
     read-reads.Post κs a z e → read-reads.Post κs a z′ e′ → (z ≡ z′) × (now (e .1 .0) ≡ now (e′ .1 .0))
 read-one κs a z z′ e e′ p p′ = (p .0 ∙ sym (p′ .0), p .1 ∙ sym (p′ .1))
 
 pub comb-one :
-    (κs : Lfts 1) (a : ArgsD comb.signature κs) (z z′ : ResD comb.signature κs) (e e′ : AtExit (endedOf 1 comb-kinds.ps comb-kinds.r) κs) →
+    (κs : Lfts 1) (a : ArgsD comb.signature κs) (z z′ : ResD comb.signature κs)
+    (e e′ : AtExit (endedOf 1 comb-kinds.ps comb-kinds.r) κs) →
     comb-reads.Post κs a z e → comb-reads.Post κs a z′ e′ → (z ≡ z′) × (now (e .1 .0) ≡ now (e′ .1 .0))
 comb-one κs a z z′ e e′ p p′ =
     ((λ i. record { code = (p .0 ∙ sym (p′ .0)) i; count = (p .1 .0 ∙ sym (p′ .1 .0)) i }), p .1 .1 ∙ sym (p′ .1 .1))
 
 pub accumulate-one :
-    (κs : Lfts 1) (a : ArgsD accumulate.signature κs) (z z′ : ResD accumulate.signature κs) (e e′ : AtExit (endedOf 1 accumulate-kinds.ps accumulate-kinds.r) κs) →
+    (κs : Lfts 1) (a : ArgsD accumulate.signature κs) (z z′ : ResD accumulate.signature κs)
+    (e e′ : AtExit (endedOf 1 accumulate-kinds.ps accumulate-kinds.r) κs) →
     accumulate-reads.Post κs a z e → accumulate-reads.Post κs a z′ e′ → (z ≡ z′) × (now (e .1 .0) ≡ now (e′ .1 .0))
 accumulate-one κs a z z′ e e′ p p′ =
     ((λ i. record { code = (p .0 ∙ sym (p′ .0)) i; count = (p .1 .0 ∙ sym (p′ .1 .0)) i }), p .1 .1 ∙ sym (p′ .1 .1))

@@ -11,7 +11,8 @@ use Rattle.bonvedrick.specs.declared.BvWritten.{BvWritten}
 use Rattle.bonvedrick.specs.declared.BvRecord.{BvRecord}
 
 abbrev pub sameAnswer : Answer → BvAnswer
-sameAnswer a = record { code = a .code; degree = a .degree; additions = a .additions; height = a .height; gain = a .gain }
+sameAnswer a =
+    record { code = a .code; degree = a .degree; additions = a .additions; height = a .height; gain = a .gain }
 
 abbrev pub sameStop : Stop → BvStop
 sameStop a = record { code = a .code; degree = a .degree; additions = a .additions; due = a .due }

@@ -1,5 +1,5 @@
-// The requests of the library for C, Rust and Python (include/bonvedrick.h). Each function is its request under a plain name: nothing is
-// asked of the caller, and the contract is that of the request, over structs laid out as C's.
+// The requests of the library for C, Rust and Python (include/bonvedrick.h). Each function is its request under a plain
+// name: nothing is asked of the caller, and the contract is that of the request, over structs laid out as C's.
 mod same;
 
 use steps::Sort;
@@ -109,8 +109,10 @@ pub extern "C" fn bv_accumulate(size: u64, buf: &mut [i64]) -> BvStep
 // The record of some coefficients, in the bytes lent.
 #[no_mangle]
 pub extern "C" fn bv_write(kind: u64, n: u64, coeffs: &[i64], bytes: &mut [u8]) -> BvWritten
-    ensures answer { λ r. ⌜ r ≡ sameWritten (writeAnswer (degree kind n) kind n (now (coeffs .entry)) (length (now (bytes .entry)))) ⌝ }
-    ensures leaves { λ _. ⌜ now (bytes .exit) ≡ writeLeaves (degree kind n) kind n (now (coeffs .entry)) (now (bytes .entry)) ⌝ }
+    ensures answer { λ r.
+        ⌜ r ≡ sameWritten (writeAnswer (degree kind n) kind n (now (coeffs .entry)) (length (now (bytes .entry)))) ⌝ }
+    ensures leaves { λ _.
+        ⌜ now (bytes .exit) ≡ writeLeaves (degree kind n) kind n (now (coeffs .entry)) (now (bytes .entry)) ⌝ }
 {
     same::written(shelf::write(kind, n, coeffs, bytes))
 }
@@ -118,8 +120,11 @@ pub extern "C" fn bv_write(kind: u64, n: u64, coeffs: &[i64], bytes: &mut [u8]) 
 // The coefficients of the record that some bytes start with, in the entries lent.
 #[no_mangle]
 pub extern "C" fn bv_read(bytes: &[u8], coeffs: &mut [i64]) -> BvRecord
-    ensures answer { λ r. ⌜ r ≡ sameRecord (readAnswer (degreeIn (now (bytes .entry))) (now (bytes .entry)) (length (now (coeffs .entry)))) ⌝ }
-    ensures leaves { λ _. ⌜ now (coeffs .exit) ≡ readLeaves (degreeIn (now (bytes .entry))) (now (bytes .entry)) (now (coeffs .entry)) ⌝ }
+    ensures answer { λ r.
+        ⌜ r ≡ sameRecord
+        (readAnswer (degreeIn (now (bytes .entry))) (now (bytes .entry)) (length (now (coeffs .entry)))) ⌝ }
+    ensures leaves { λ _.
+        ⌜ now (coeffs .exit) ≡ readLeaves (degreeIn (now (bytes .entry))) (now (bytes .entry)) (now (coeffs .entry)) ⌝ }
 {
     same::record_of(shelf::read(bytes, coeffs))
 }

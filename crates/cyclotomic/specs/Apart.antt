@@ -1,5 +1,6 @@
--- How a polynomial is made from that of r (document 01, 'How n is taken apart'): F(1), F(2), I(1), I(2) as printed; for odd squarefree r > 1, F(2r) is F(r) with -z for z and
--- I(2r) is I(r), so negated, times 1 - z^r, the two copies never overlapping; and F(n), I(n) are those of m with z^t for z.
+-- How a polynomial is made from that of r (document 01, 'How n is taken apart'): F(1), F(2), I(1), I(2) as printed; for
+-- odd squarefree r > 1, F(2r) is F(r) with -z for z and I(2r) is I(r), so negated, times 1 - z^r, the two copies never
+-- overlapping; and F(n), I(n) are those of m with z^t for z.
 use Prim.Native.Nat.{ℕ, zero, suc, _+_, _*_, _-_, _%_, _≤_, _<_, _∣_}
 use mathlib.Core.Path.{_≡_, refl, sym, _∙_, ap, ap₂}
 use mathlib.Core.Bool.{Bool, true, false, cond}
@@ -16,7 +17,9 @@ use Rattle.definitions.specs.Polynomials.{z^-1, F, I, polynomial, degree}
 use Rattle.integers.specs.Solver.{:1, _:+_, _:*_, :-, x, y, z, w}
 use Rattle.integers.specs.Whole.{⊕-zero, zero-⊕, ⊖-zero}
 use Rattle.series.specs.Laws.{Unitˢ, at-+ˢ, at--ˢ, cancel, ·-comm, ·-one, ringˢ}
-use Rattle.series.specs.Maps.{z^-add, shift-below, shift-at, spread-mul, spread-zero, spread-one, spread-spread, alternate-mul, alternate-add, alternate-neg, alternate-constant, alternate-z^-odd, alternate-none, alternate-spread}
+use Rattle.series.specs.Maps.{z^-add, shift-below, shift-at, spread-mul, spread-zero, spread-one, spread-spread}
+use Rattle.series.specs.Maps.{alternate-mul, alternate-add, alternate-neg, alternate-constant, alternate-z^-odd}
+use Rattle.series.specs.Maps.{alternate-none, alternate-spread}
 use Rattle.numbers.specs.Primes.{Prime, prime-pos, prime-two, prime-same}
 use Rattle.numbers.specs.Phi.{phi-pos}
 use Rattle.numbers.specs.Apart.{OddSquarefree, by-odd-primes, by-repeats, m-times-t, prime-m}
@@ -36,7 +39,8 @@ I-one = sym (only-inverse 1 𝟙 (·-one (F 1) ∙ F-one))
 pub F-two : F 2 ≡ z^ 1 +ˢ 𝟙
 F-two =
     cancel (F 2) (z^ 1 +ˢ 𝟙) (F 1) (unit-F 1)
-    (prime-new 2 prime-two 1 (omega arith) (λ d. omega (arith, NatL.eq-one-of-dvd-one d)) ∙ ap (spread 2) F-one ∙ spread-z^-1 2 (omega arith) 1
+    (prime-new 2 prime-two 1 (omega arith) (λ d. omega (arith, NatL.eq-one-of-dvd-one d)) ∙ ap (spread 2) F-one
+    ∙ spread-z^-1 2 (omega arith) 1
     ∙ double 1 ∙ ap (λ q. (z^ 1 +ˢ 𝟙) · q) (sym F-one))
 
 pub I-two : I 2 ≡ z^-1 1
@@ -63,10 +67,12 @@ sign-alternate = by-odd-primes (λ r. Signed r (alternate (F r) · F r) (spread 
         ∙ ringˢ ((z^ 1 +ˢ 𝟙) ∷ z^-1 1 ∷ []) (:- x :* y) (:- (x :* y)) refl
         ∙ ap -ˢ (sym (double 1) ∙ sym (spread-z^-1 2 (omega arith) 1) ∙ ap (spread 2) (sym F-one)))
 
-    next : (r p : ℕ) → OddSquarefree r → Prime p → p ≢ 2 → ¬ (p ∣ r) → Signed r (alternate (F r) · F r) (spread 2 (F r)) → Signed (r * p) (alternate (F (r * p)) · F (r * p)) (spread 2 (F (r * p)))
+    next : (r p : ℕ) → OddSquarefree r → Prime p → p ≢ 2 → ¬ (p ∣ r) → Signed r (alternate (F r) · F r) (spread 2 (F r))
+        → Signed (r * p) (alternate (F (r * p)) · F (r * p)) (spread 2 (F (r * p)))
     next r p O P u d s =
         signed
-        (sign-step r p l (alternate (F r) · F r) (alternate (F (r * p)) · F (r * p)) (spread 2 (F r)) (spread 2 (F (r * p)))
+        (sign-step r p l (alternate (F r) · F r) (alternate (F (r * p)) · F (r * p)) (spread 2 (F r))
+        (spread 2 (F (r * p)))
         (unit-spread (F r) (unit-F r)) left right s)
       where
         l : 0 < p
@@ -83,20 +89,24 @@ sign-alternate = by-odd-primes (λ r. Signed r (alternate (F r) · F r) (spread 
 
         left : alternate (F (r * p)) · F (r * p) · (alternate (F r) · F r) ≡ spread p (alternate (F r) · F r)
         left =
-            ringˢ (alternate (F (r * p)) ∷ F (r * p) ∷ alternate (F r) ∷ F r ∷ []) (x :* y :* (z :* w)) (x :* z :* (y :* w)) refl
-            ∙ ap₂ _·_ (sym (alternate-mul (F (r * p)) (F r)) ∙ ap alternate new ∙ sym (alternate-spread p odd-p (F r))) new
+            ringˢ (alternate (F (r * p)) ∷ F (r * p) ∷ alternate (F r) ∷ F r ∷ []) (x :* y :* (z :* w))
+            (x :* z :* (y :* w)) refl
+            ∙ ap₂ _·_ (sym (alternate-mul (F (r * p)) (F r)) ∙ ap alternate new ∙ sym (alternate-spread p odd-p (F r)))
+            new
             ∙ sym (spread-mul p l (alternate (F r)) (F r))
 
         right : spread 2 (F (r * p)) · spread 2 (F r) ≡ spread p (spread 2 (F r))
         right =
-            sym (spread-mul 2 (omega arith) (F (r * p)) (F r)) ∙ ap (spread 2) new ∙ spread-spread 2 p (omega arith) l (F r)
+            sym (spread-mul 2 (omega arith) (F (r * p)) (F r)) ∙ ap (spread 2) new
+            ∙ spread-spread 2 p (omega arith) l (F r)
             ∙ ap (λ t. spread t (F r)) (NatL.mul-comm p 2) ∙ sym (spread-spread p 2 l (omega arith) (F r))
 
 -- F(2r) is F(r) with the coefficients at odd degrees negated
 pub F-twice : (r : ℕ) → OddSquarefree r → r ≢ 1 → F (2 * r) ≡ alternate (F r)
 F-twice r O h =
     ap F (NatL.mul-comm 2 r)
-    ∙ cancel (F (r * 2)) (alternate (F r)) (F r) (unit-F r) (prime-new 2 prime-two r (O .pos) (O .odd) ∙ sym (unsigned (sign-alternate r O) h))
+    ∙ cancel (F (r * 2)) (alternate (F r)) (F r) (unit-F r) (prime-new 2 prime-two r (O .pos) (O .odd)
+    ∙ sym (unsigned (sign-alternate r O) h))
 
 -- I(2r) is I(r), so negated, times 1 - z^r
 pub I-twice : (r : ℕ) → OddSquarefree r → r ≢ 1 → I (2 * r) ≡ alternate (I r) · (𝟙 +ˢ -ˢ (z^ r))
@@ -106,11 +116,13 @@ I-twice r O h =
     (only-inverse (2 * r) (alternate (I r) · (𝟙 +ˢ -ˢ (z^ r)))
     (ap (λ q. q · (alternate (I r) · (𝟙 +ˢ -ˢ (z^ r)))) (F-twice r O h)
     ∙ ringˢ (alternate (F r) ∷ alternate (I r) ∷ z^ r ∷ []) (x :* (y :* (:1 :+ :- z))) (x :* y :* (:1 :+ :- z)) refl
-    ∙ ap (λ q. q · (𝟙 +ˢ -ˢ (z^ r))) (sym (alternate-mul (F r) (I r)) ∙ ap alternate (pair-law r) ∙ alternate-z^-1 r (odd r (O .odd)))
+    ∙ ap (λ q. q · (𝟙 +ˢ -ˢ (z^ r))) (sym (alternate-mul (F r) (I r)) ∙ ap alternate (pair-law r)
+    ∙ alternate-z^-1 r (odd r (O .odd)))
     ∙ ringˢ (z^ r ∷ []) (:- (x :+ :1) :* (:1 :+ :- x)) ((x :+ :1) :* (x :+ :- :1)) refl
     ∙ sym (double r) ∙ ap z^-1 (sym (NatL.two-mul r))))
 
--- the two copies never overlap: I(r) ends below degree r, so the first copy stands below r and the second, negated, from r on
+-- the two copies never overlap: I(r) ends below degree r, so the first copy stands below r and the second, negated,
+-- from r on
 pub copies-apart : (r : ℕ) → 0 < r → (i : ℕ) → r ≤ i → I r i ≡ 0ℤ
 copies-apart r l i h = monic-I r l .above i (omega (arith, phi-pos r l))
 
@@ -122,12 +134,14 @@ copies r i f =
 pub first-copy : (r : ℕ) → OddSquarefree r → r ≢ 1 → (i : ℕ) → i < r → I (2 * r) i ≡ alternate (I r) i
 first-copy r O h i l =
     ap (λ q. q i) (I-twice r O h) ∙ copies r i (alternate (I r))
-    ∙ ap (λ a. alternate (I r) i ⊝ a) (shift-below r (alternate (I r)) i l) ∙ ap (λ a. alternate (I r) i ⊕ a) ⊖-zero ∙ ⊕-zero (alternate (I r) i)
+    ∙ ap (λ a. alternate (I r) i ⊝ a) (shift-below r (alternate (I r)) i l) ∙ ap (λ a. alternate (I r) i ⊕ a) ⊖-zero
+    ∙ ⊕-zero (alternate (I r) i)
 
 pub second-copy : (r : ℕ) → OddSquarefree r → r ≢ 1 → (i : ℕ) → I (2 * r) (r + i) ≡ ⊖ (alternate (I r) i)
 second-copy r O h i =
     ap (λ q. q (r + i)) (I-twice r O h) ∙ copies r (r + i) (alternate (I r))
-    ∙ ap₂ _⊝_ (alternate-none (r + i) (I r) (copies-apart r (O .pos) (r + i) (omega arith))) (shift-at r (alternate (I r)) i)
+    ∙ ap₂ _⊝_ (alternate-none (r + i) (I r) (copies-apart r (O .pos) (r + i) (omega arith)))
+    (shift-at r (alternate (I r)) i)
     ∙ zero-⊕ (⊖ (alternate (I r) i))
 
 -- ---- n from m
@@ -156,7 +170,8 @@ module _ (m : ℕ) (l : 0 < m) where
   I-repeated t h d =
       sym
       (only-inverse (m * t) (spread t (I m))
-      (ap (λ q. q · spread t (I m)) (F-repeated t h d) ∙ sym (spread-mul t h (F m) (I m)) ∙ ap (spread t) (pair-law m) ∙ spread-z^-1 t h m))
+      (ap (λ q. q · spread t (I m)) (F-repeated t h d) ∙ sym (spread-mul t h (F m) (I m)) ∙ ap (spread t) (pair-law m)
+      ∙ spread-z^-1 t h m))
 
 -- F(n) and I(n) are those of m with z^t put for z
 pub taken-apart : (kind n : ℕ) → 0 < n → polynomial kind n ≡ spread (tOf n) (polynomial kind (mOf n))

@@ -1,5 +1,5 @@
--- F(n) is monic of degree phi(n) (`monic-F`), and I(n) of degree n - phi(n) (`monic-I`): from one prime to the next, degrees multiply by p where z^p is put for z, and
--- phi does the same.
+-- F(n) is monic of degree phi(n) (`monic-F`), and I(n) of degree n - phi(n) (`monic-I`): from one prime to the next,
+-- degrees multiply by p where z^p is put for z, and phi does the same.
 use Prim.Native.Nat.{ℕ, zero, suc, _+_, _*_, _-_, _≤_, _<_, _∣_}
 use mathlib.Core.Path.{_≡_, refl, sym, _∙_, ap, ap₂}
 use mathlib.Core.Bool.{cond, true, false}
@@ -37,7 +37,11 @@ z^-1-at n i l = at-+ˢ (z^ n) (-ˢ 𝟙) i ∙ ap (λ a. z^ n i ⊕ a) (at--ˢ �
 
 pub monic-z^-1 : (n : ℕ) → 0 < n → Monic n (z^-1 n)
 monic-z^-1 n l =
-    record { top = z^-1-at n n l ∙ at-z^ n; above = λ i h. z^-1-at n i (omega arith) ∙ off-z^ n i (λ e. not-same i h e) }
+    record {
+      top = z^-1-at n n l ∙ at-z^ n;
+      above = λ i h. z^-1-at n i (omega arith)
+          ∙ off-z^ n i (λ e. not-same i h e);
+    }
   where
     not-same : (i : ℕ) → suc n ≤ i → i ≡ n → ⊥
     not-same i h e = omega arith

@@ -1,6 +1,7 @@
--- The family exists and is the only one. The product of F(d) over the divisors d of n is z^n - 1 for every n above 0 (`product-law`), and whatever family has that
--- product law is F (`only-family`): two families with equal products over the divisors are equal, since all but the factor at n itself cancel (`same-family`).
--- F(n) I(n) = z^n - 1 (`pair-law`), and I(n) is the only such series (`only-inverse`).
+-- The family exists and is the only one. The product of F(d) over the divisors d of n is z^n - 1 for every n above 0
+-- (`product-law`), and whatever family has that product law is F (`only-family`): two families with equal products over
+-- the divisors are equal, since all but the factor at n itself cancel (`same-family`). F(n) I(n) = z^n - 1
+-- (`pair-law`), and I(n) is the only such series (`only-inverse`).
 use Prim.Native.Nat.{ℕ, zero, suc, _+_, _*_, _≤_, _<_, _∣_}
 use mathlib.Core.Path.{_≡_, refl, sym, _∙_, ap, ap₂}
 use mathlib.Core.Bool.{Bool, true, false, cond, not}
@@ -18,7 +19,8 @@ use Rattle.definitions.specs.Numbers.{divides}
 use Rattle.definitions.specs.Polynomials.{productTo, atDivisors, overDivisors, z^-1, familyTo, F, I}
 use Rattle.integers.specs.Solver.{:1, _:*_, :-, x}
 use Rattle.integers.specs.Whole.{zero-⊕, ringℤ, ⊗-one}
-use Rattle.series.specs.Laws.{Unitˢ, at-+ˢ, at--ˢ, div-mul, div-unique, cancel, unit-mul, unit-one, unit-div, ·-assoc, ·-comm, one-·, ·-one}
+use Rattle.series.specs.Laws.{Unitˢ, at-+ˢ, at--ˢ, div-mul, div-unique, cancel, unit-mul, unit-one, unit-div, ·-assoc}
+use Rattle.series.specs.Laws.{·-comm, one-·, ·-one}
 use Rattle.series.specs.Maps.{off-z^}
 use Rattle.numbers.specs.Folds.{Monoid, foldTo, fold-same}
 use Rattle.numbers.specs.Tests.{strong, either, divides-yes}
@@ -39,17 +41,20 @@ pub unit-product : (g : ℕ → Series) (k : ℕ) → ((d : ℕ) → 0 < d → d
 unfolding productTo
 unit-product g zero u = unit-one
 unit-product g (suc k) u =
-    unit-mul (productTo k g) (g (suc k)) (unit-product g k (λ d l h. u d l (omega arith))) (u (suc k) (omega arith) (omega arith))
+    unit-mul (productTo k g) (g (suc k)) (unit-product g k (λ d l h. u d l (omega arith)))
+    (u (suc k) (omega arith) (omega arith))
 
 unit-cond : (b : Bool) (f : Series) → Unitˢ f → Unitˢ (cond b f 𝟙)
 unit-cond true f u = u
 unit-cond false f u = unit-one
 
-pub unit-divisors : (n : ℕ) (g : ℕ → Series) (k : ℕ) → ((d : ℕ) → 0 < d → d ≤ k → Unitˢ (g d)) → Unitˢ (productTo k (atDivisors n g))
+pub unit-divisors : (n : ℕ) (g : ℕ → Series) (k : ℕ) → ((d : ℕ) → 0 < d → d ≤ k → Unitˢ (g d))
+    → Unitˢ (productTo k (atDivisors n g))
 unfolding atDivisors
 unit-divisors n g k u = unit-product (atDivisors n g) k (λ d l h. unit-cond (divides d n) (g d) (u d l h))
 
-divisors-same : {g h : ℕ → Series} (n k : ℕ) → ((d : ℕ) → 0 < d → d ≤ k → g d ≡ h d) → productTo k (atDivisors n g) ≡ productTo k (atDivisors n h)
+divisors-same : {g h : ℕ → Series} (n k : ℕ) → ((d : ℕ) → 0 < d → d ≤ k → g d ≡ h d) → productTo k (atDivisors n g)
+    ≡ productTo k (atDivisors n h)
 unfolding atDivisors
 divisors-same n k e = product-same k (λ d l h. ap (λ f. cond (divides d n) f 𝟙) (e d l h))
 
@@ -57,7 +62,8 @@ divisors-same n k e = product-same k (λ d l h. ap (λ f. cond (divides d n) f �
 pub last-divisor : (k : ℕ) (g : ℕ → Series) → overDivisors (suc k) g ≡ productTo k (atDivisors (suc k) g) · g (suc k)
 unfolding overDivisors productTo atDivisors
 last-divisor k g =
-    ap (λ b. productTo k (atDivisors (suc k) g) · cond b (g (suc k)) 𝟙) (divides-yes (suc k) (suc k) (NatL.dvd-refl (suc k)))
+    ap (λ b. productTo k (atDivisors (suc k) g) · cond b (g (suc k)) 𝟙)
+    (divides-yes (suc k) (suc k) (NatL.dvd-refl (suc k)))
 
 -- ---- z^n - 1 is a unit
 pub z^-1-zero : (n : ℕ) → 0 < n → z^-1 n zero ≡ ⊖ 1ℤ
@@ -156,4 +162,5 @@ pub inverse-product : (k : ℕ) → I (suc k) ≡ productTo k (atDivisors (suc k
 inverse-product k =
     sym
     (only-inverse (suc k) (productTo k (atDivisors (suc k) F))
-    (·-comm (F (suc k)) (productTo k (atDivisors (suc k) F)) ∙ sym (last-divisor k F) ∙ product-law (suc k) (omega arith)))
+    (·-comm (F (suc k)) (productTo k (atDivisors (suc k) F)) ∙ sym (last-divisor k F)
+    ∙ product-law (suc k) (omega arith)))

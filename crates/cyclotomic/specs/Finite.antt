@@ -1,7 +1,8 @@
--- Each F(n) is a polynomial. With q coprime to n, F(n) with z^q for z is a polynomial multiple of F(n) (`multiple` in `Good`); at a new prime that multiple is F(np), so
--- one induction gives both. It needs no division of polynomials: let J be the product of F(d) over the divisors d below n, so F(n) J = z^n - 1 =: m, and let
--- q q' = 1 + n c. By induction J(z^q') = J K, and putting z^q for z, J(z^q) K(z^q) = J(z^(q q')) = J + m Y, since z^(q q') is z modulo m. Times F(n)(z^q):
--- F(n)(z^q) J = m(z^q) K(z^q) - m Y F(n)(z^q) = m X = F(n) J X, and J is a unit.
+-- Each F(n) is a polynomial. With q coprime to n, F(n) with z^q for z is a polynomial multiple of F(n) (`multiple` in
+-- `Good`); at a new prime that multiple is F(np), so one induction gives both. It needs no division of polynomials: let
+-- J be the product of F(d) over the divisors d below n, so F(n) J = z^n - 1 =: m, and let q q' = 1 + n c. By induction
+-- J(z^q') = J K, and putting z^q for z, J(z^q) K(z^q) = J(z^(q q')) = J + m Y, since z^(q q') is z modulo m. Times
+-- F(n)(z^q): F(n)(z^q) J = m(z^q) K(z^q) - m Y F(n)(z^q) = m X = F(n) J X, and J is a unit.
 use Prim.Native.Nat.{ℕ, zero, suc, _+_, _*_, _≤_, _<_, _∣_, _/_}
 use mathlib.Core.Path.{_≡_, refl, sym, _∙_, ap, ap₂, fun-ext}
 use mathlib.Core.Bool.{Bool, true, false, cond}
@@ -18,8 +19,10 @@ use Rattle.definitions.specs.Polynomials.{productTo, atDivisors, z^-1, F, I}
 use Rattle.integers.specs.Solver.{v, :0, :1, _:+_, _:*_, :-, x, z, w, u}
 use Rattle.integers.specs.Solver.{y as y′}
 use Rattle.integers.specs.Whole.{⊕-zero, zero-⊕}
-use Rattle.series.specs.Laws.{Unitˢ, at-+ˢ, at-mul-zero, at-𝟘, ·-comm, ·-one, one-·, cancel, ringˢ, div-unique, unit-one}
-use Rattle.series.specs.Maps.{z^-zero, z^-add, shift-below, shift-at, spread-add, spread-mul, spread-constant, spread-z^, spread-spread}
+use Rattle.series.specs.Laws.{Unitˢ, at-+ˢ, at-mul-zero, at-𝟘, ·-comm, ·-one, one-·, cancel, ringˢ, div-unique}
+use Rattle.series.specs.Laws.{unit-one}
+use Rattle.series.specs.Maps.{z^-zero, z^-add, shift-below, shift-at, spread-add, spread-mul, spread-constant}
+use Rattle.series.specs.Maps.{spread-z^, spread-spread}
 use Rattle.series.specs.Degree.{ZeroFrom, Poly, poly-add, poly-neg, poly-mul, poly-constant, poly-z^, poly-spread}
 use Rattle.numbers.specs.Tests.{strong, either, yes-divides}
 use Rattle.numbers.specs.Primes.{Prime, Coprime, prime-pos, prime-divisor, prime-coprime, quotient-pos}
@@ -57,7 +60,8 @@ head-tail f = fun-ext (λ i. sym (at-+ˢ (constant (f zero)) (z^ 1 · tail f) i 
   where
     at : (i : ℕ) → constant (f zero) i ⊕ (z^ 1 · tail f) i ≡ f i
     at zero = ap (λ q. f zero ⊕ q) (shift-below 1 (tail f) 0 (omega arith)) ∙ ⊕-zero (f zero)
-    at (suc i) = zero-⊕ ((z^ 1 · tail f) (suc i)) ∙ ap (z^ 1 · tail f) (sym (NatL.add-comm 1 i ∙ omega arith)) ∙ shift-at 1 (tail f) i
+    at (suc i) = zero-⊕ ((z^ 1 · tail f) (suc i)) ∙ ap (z^ 1 · tail f) (sym (NatL.add-comm 1 i ∙ omega arith))
+        ∙ shift-at 1 (tail f) i
 
 -- z^k for z changes nothing modulo z^n - 1 where k is 1 modulo n
 module _ (n c k : ℕ) (e : k ≡ 1 + n * c) where
@@ -80,23 +84,34 @@ module _ (n c k : ℕ) (e : k ≡ 1 + n * c) where
       go : Some (λ g. z^ (n * c) ≡ 𝟙 +ˢ m · g) → Some (λ y. spread k h ≡ h +ˢ m · y)
       go (g, pg, eg) = (
         z^ 1 · (y +ˢ g · S),
-        poly-mul (z^ 1) (y +ˢ g · S) (poly-z^ 1) (poly-add y (g · S) p (poly-mul g S pg (poly-spread k (tail h) positive t))),
+        poly-mul (z^ 1) (y +ˢ g · S) (poly-z^ 1)
+            (poly-add y (g · S) p (poly-mul g S pg (poly-spread k (tail h) positive t))),
         ap (spread k) (head-tail h)
             ∙ spread-add k positive (constant (h zero)) (z^ 1 · tail h)
-            ∙ ap₂ _+ˢ_ (spread-constant k positive (h zero)) (spread-mul k positive (z^ 1) (tail h) ∙ ap (λ f. f · S) (spread-z^ k positive 1 ∙ ap z^ (NatL.one-mul k ∙ e) ∙ sym (z^-add 1 (n * c)) ∙ ap (λ f. z^ 1 · f) eg))
-            ∙ ringˢ (constant (h zero) ∷ z^ 1 ∷ m ∷ g ∷ S ∷ []) (x :+ y′ :* (:1 :+ z :* w) :* u) (x :+ y′ :* u :+ z :* (y′ :* (w :* u))) refl
+            ∙ ap₂ _+ˢ_ (spread-constant k positive (h zero)) (spread-mul k positive (z^ 1) (tail h)
+            ∙ ap (λ f. f · S) (spread-z^ k positive 1 ∙ ap z^ (NatL.one-mul k ∙ e) ∙ sym (z^-add 1 (n * c))
+            ∙ ap (λ f. z^ 1 · f) eg))
+            ∙ ringˢ (constant (h zero) ∷ z^ 1 ∷ m ∷ g ∷ S ∷ []) (x :+ y′ :* (:1 :+ z :* w) :* u)
+            (x :+ y′ :* u :+ z :* (y′ :* (w :* u))) refl
             ∙ ap (λ f. constant (h zero) +ˢ z^ 1 · f +ˢ m · (z^ 1 · (g · S))) q
-            ∙ ringˢ (constant (h zero) ∷ z^ 1 ∷ m ∷ tail h ∷ y ∷ (g · S) ∷ []) (x :+ y′ :* (w :+ z :* u) :+ z :* (y′ :* v 5)) (x :+ y′ :* w :+ z :* (y′ :* (u :+ v 5))) refl
+            ∙ ringˢ (constant (h zero) ∷ z^ 1 ∷ m ∷ tail h ∷ y ∷ (g · S) ∷ [])
+            (x :+ y′ :* (w :+ z :* u) :+ z :* (y′ :* v 5)) (x :+ y′ :* w :+ z :* (y′ :* (u :+ v 5))) refl
             ∙ ap (λ f. f +ˢ m · (z^ 1 · (y +ˢ g · S))) (sym (head-tail h)),
       )
 
   round-to : (N : ℕ) (h : Series) → ZeroFrom N h → Round h
   unfolding Round
-  round-to zero h a = (𝟘, poly-constant 0ℤ, ap (spread k) none ∙ spread-constant k positive 0ℤ ∙ ringˢ (z^-1 n ∷ []) :0 (:0 :+ x :* :0) refl ∙ ap (λ q. q +ˢ z^-1 n · 𝟘) (sym none))
+  round-to zero h a = (
+    𝟘,
+    poly-constant 0ℤ,
+    ap (spread k) none ∙ spread-constant k positive 0ℤ
+        ∙ ringˢ (z^-1 n ∷ []) :0 (:0 :+ x :* :0) refl ∙ ap (λ q. q +ˢ z^-1 n · 𝟘) (sym none),
+  )
     where
       none : h ≡ 𝟘
       none = fun-ext (λ i. a i (omega arith) ∙ sym (at-𝟘 i))
-  round-to (suc N) h a = round-step h (N, λ i l. a (suc i) (omega arith)) (round-to N (tail h) (λ i l. a (suc i) (omega arith)))
+  round-to (suc N) h a =
+      round-step h (N, λ i l. a (suc i) (omega arith)) (round-to N (tail h) (λ i l. a (suc i) (omega arith)))
 
 -- ---- what is to be shown of n: F(n) is a polynomial, and with z^q for z a polynomial multiple of itself
 Multiple : ℕ → Series → Type 0
@@ -166,16 +181,22 @@ module _ (k : ℕ) (ih : (d : ℕ) → d < suc k → 0 < d → Good d) where
     power-q : Some (λ g. spread q m ≡ m · g)
     unfolding m z^-1
     power-q =
-        let (g, p, e) = power (suc k) q in
-        (g, p, spread-z^-1 q l (suc k) ∙ ap (λ s. s +ˢ -ˢ 𝟙) e ∙ ringˢ ((z^ (suc k) +ˢ -ˢ 𝟙) ∷ g ∷ []) (:1 :+ x :* y′ :+ :- :1) (x :* y′) refl)
+        let (g, p, e) = power (suc k) q in (
+          g,
+          p,
+          spread-z^-1 q l (suc k) ∙ ap (λ s. s +ˢ -ˢ 𝟙) e
+              ∙ ringˢ ((z^ (suc k) +ˢ -ˢ 𝟙) ∷ g ∷ []) (:1 :+ x :* y′ :+ :- :1) (x :* y′) refl,
+        )
 
     goes :
         (a b : ℕ) → a * q ≡ 1 + suc k * b → 0 < a
-        → Multiple a J → Some (λ y. spread (a * q) J ≡ J +ˢ m · y) → Some (λ g. spread q m ≡ m · g) → Multiple q (F (suc k))
+        → Multiple a J → Some (λ y. spread (a * q) J ≡ J +ˢ m · y) → Some (λ g. spread q m ≡ m · g)
+        → Multiple q (F (suc k))
     unfolding Multiple m sF
     goes a b e la (K, pK, eK) (Y, pY, eY) (G, pG, eG) = (
       X,
-      poly-add (G · sK) (-ˢ (Y · sF)) (poly-mul G sK pG (poly-spread q K l pK)) (poly-neg (Y · sF) (poly-mul Y sF pY (poly-spread q (F (suc k)) l f))),
+      poly-add (G · sK) (-ˢ (Y · sF)) (poly-mul G sK pG (poly-spread q K l pK))
+          (poly-neg (Y · sF) (poly-mul Y sF pY (poly-spread q (F (suc k)) l f))),
       cancel sF (F (suc k) · X) J unit-J times-J,
     )
       where
@@ -211,7 +232,8 @@ module _ (k : ℕ) (ih : (d : ℕ) → d < suc k → 0 < d → Good d) where
           NatL.eq-one-of-dvd-one
           (NatL.dvd-add-iff-left d (NatL.dvd-mul-right-of-dvd d j b) .1 (rw e at (NatL.dvd-mul-left-of-dvd d h q)))
           in
-          goes q l f a b turned la (J-multiple a la ca) (round-to (suc k) b (a * q) turned (poly-J .0) J (poly-J .1)) (power-q q l f)
+          goes q l f a b turned la (J-multiple a la ca) (round-to (suc k) b (a * q) turned (poly-J .0) J (poly-J .1))
+          (power-q q l f)
 
 -- ---- F(n p) from F(n)
 first : Poly (F 1)

@@ -1,5 +1,6 @@
--- The height for n is that of the kept half for its r (`height-half`), and 1 where r is 1 (`height-one`). Taking n apart moves, negates and repeats coefficients,
--- so each magnitude for n is met for m, each for m is met for r, each for r in the lower half, and the other way round.
+-- The height for n is that of the kept half for its r (`height-half`), and 1 where r is 1 (`height-one`). Taking n
+-- apart moves, negates and repeats coefficients, so each magnitude for n is met for m, each for m is met for r, each
+-- for r in the lower half, and the other way round.
 use Prim.Native.Nat.{ℕ, zero, suc, _+_, _*_, _-_, _/_, _%_, _≤_, _<_, _∣_}
 use mathlib.Core.Path.{_≡_, refl, sym, _∙_, ap}
 use mathlib.Core.Bool.{Bool, true, false, cond}
@@ -49,7 +50,8 @@ module _ (kind n : ℕ) where
   unfolding height coefficients
   at-most-height p i = go (decLt i (suc (degree kind n)))
     where
-      go : Dec (i < suc (degree kind n)) → natAbs (polynomial kind n i) ≤ heightOf (firsts (suc (degree kind n)) (polynomial kind n))
+      go : Dec (i < suc (degree kind n)) → natAbs (polynomial kind n i)
+          ≤ heightOf (firsts (suc (degree kind n)) (polynomial kind n))
       go (yes l) = entry-height (suc (degree kind n)) (polynomial kind n) i l
       go (no l) = none-le (monic kind n p .above i (omega (arith, NatL.lt-of-not-le l)))
 
@@ -62,8 +64,10 @@ module _ (kind n : ℕ) (p : 0 < n) where
   m-pos : 0 < mOf n
   m-pos = NatL.pos-of-dvd-of-pos (m-divides n) p
 
-  spread-at-most : (i : ℕ) → Dec (i % tOf n ≡ 0) → natAbs (spread (tOf n) (polynomial kind (mOf n)) i) ≤ height kind (mOf n)
-  spread-at-most i (yes e) = rw (spread-on (tOf n) i (polynomial kind (mOf n)) e) (at-most-height kind (mOf n) m-pos (i / tOf n))
+  spread-at-most : (i : ℕ) → Dec (i % tOf n ≡ 0) → natAbs (spread (tOf n) (polynomial kind (mOf n)) i)
+      ≤ height kind (mOf n)
+  spread-at-most i (yes e) =
+      rw (spread-on (tOf n) i (polynomial kind (mOf n)) e) (at-most-height kind (mOf n) m-pos (i / tOf n))
   spread-at-most i (no e) = none-le (spread-off (tOf n) i (polynomial kind (mOf n)) e)
 
   moved : (i : ℕ) → polynomial kind n (i * tOf n) ≡ polynomial kind (mOf n) i
@@ -75,7 +79,8 @@ module _ (kind n : ℕ) (p : 0 < n) where
   height-m : height kind n ≡ height kind (mOf n)
   height-m =
       NatL.le-antisymm
-      (all-at-most kind n (height kind (mOf n)) (λ i. rw (taken-apart kind n p) (spread-at-most i (ℕ-discrete (i % tOf n) 0))))
+      (all-at-most kind n (height kind (mOf n))
+      (λ i. rw (taken-apart kind n p) (spread-at-most i (ℕ-discrete (i % tOf n) 0))))
       (all-at-most kind (mOf n) (height kind n) (λ i. rw moved at (at-most-height kind n p (i * tOf n))))
 
 -- ---- 2 r and r: signs change, and I(r) stands there twice
@@ -88,12 +93,16 @@ abs-alternate f i = go (parity i)
 
 module _ (r : ℕ) (O : OddSquarefree r) (h : r ≢ 1) where
   -- each magnitude for 2 r is one for r
-  down : (b : Bool) (i : ℕ) → Dec (i < r) → (j : ℕ) × (natAbs (cond b (F (2 * r)) (I (2 * r)) i) ≡ natAbs (cond b (F r) (I r) j))
+  down : (b : Bool) (i : ℕ) → Dec (i < r)
+      → (j : ℕ) × (natAbs (cond b (F (2 * r)) (I (2 * r)) i) ≡ natAbs (cond b (F r) (I r) j))
   down true i d = (i, ap (λ f. natAbs (f i)) (F-twice r O h) ∙ abs-alternate (F r) i)
   down false i (yes l) = (i, ap natAbs (first-copy r O h i l) ∙ abs-alternate (I r) i)
   down false i (no l) =
-      let e : i ≡ r + (i - r) = omega (arith, NatL.lt-of-not-le l) in
-      (i - r, ap (λ k. natAbs (I (2 * r) k)) e ∙ ap natAbs (second-copy r O h (i - r)) ∙ abs-⊖ (alternate (I r) (i - r)) ∙ abs-alternate (I r) (i - r))
+      let e : i ≡ r + (i - r) = omega (arith, NatL.lt-of-not-le l) in (
+        i - r,
+        ap (λ k. natAbs (I (2 * r) k)) e ∙ ap natAbs (second-copy r O h (i - r)) ∙ abs-⊖ (alternate (I r) (i - r))
+            ∙ abs-alternate (I r) (i - r),
+      )
 
   -- and the other way round: for I in the second copy
   up : (b : Bool) (i : ℕ) → (j : ℕ) × (natAbs (cond b (F r) (I r) i) ≡ natAbs (cond b (F (2 * r)) (I (2 * r)) j))
@@ -104,8 +113,10 @@ module _ (r : ℕ) (O : OddSquarefree r) (h : r ≢ 1) where
   unfolding polynomial
   height-twice kind =
       NatL.le-antisymm
-      (all-at-most kind (2 * r) (height kind r) (λ i. let (j, e) = down (eqb kind 1) i (decLt i r) in rw e (at-most-height kind r (O .pos) j)))
-      (all-at-most kind r (height kind (2 * r)) (λ i. let (j, e) = up (eqb kind 1) i in rw e (at-most-height kind (2 * r) (omega (arith, O .pos)) j)))
+      (all-at-most kind (2 * r) (height kind r) (λ i. let (j, e) = down (eqb kind 1) i (decLt i r) in
+      rw e (at-most-height kind r (O .pos) j)))
+      (all-at-most kind r (height kind (2 * r)) (λ i. let (j, e) = up (eqb kind 1) i in
+      rw e (at-most-height kind (2 * r) (omega (arith, O .pos)) j)))
 
 -- ---- r and its lower half: entry N - i is entry i or its negative
 abs-turned : (kind : ℕ) (a : ℤ) → natAbs (turned kind a) ≡ natAbs a
@@ -127,17 +138,21 @@ module _ (kind r : ℕ) (l : 1 < r) where
       let j = degree kind r - i in
       let low : j < halfDegree kind r + 1 = omega (arith, NatL.lt-of-not-le v) in
       let e : degree kind r - j ≡ i = omega arith in
-      rw (← e, mirrored kind r l j (omega arith), abs-turned) (entry-height (halfDegree kind r + 1) (polynomial kind r) j low)
+      rw (← e, mirrored kind r l j (omega arith), abs-turned)
+      (entry-height (halfDegree kind r + 1) (polynomial kind r) j low)
 
   pub height-lower : height kind r ≡ lower
   unfolding height coefficients
   height-lower =
       NatL.le-antisymm
-      (height-least (suc (degree kind r)) (polynomial kind r) lower (λ i u. in-lower i (omega arith) (decLt i (halfDegree kind r + 1))))
-      (height-least (halfDegree kind r + 1) (polynomial kind r) (height kind r) (λ i u. at-most-height kind r (omega arith) i))
+      (height-least (suc (degree kind r)) (polynomial kind r) lower
+      (λ i u. in-lower i (omega arith) (decLt i (halfDegree kind r + 1))))
+      (height-least (halfDegree kind r + 1) (polynomial kind r) (height kind r)
+      (λ i u. at-most-height kind r (omega arith) i))
 
 -- ---- what the height for n is
-pub height-half : (kind n : ℕ) → 0 < n → rOf n ≢ 1 → height kind n ≡ heightOf (firsts (halfDegree kind (rOf n) + 1) (polynomial kind (rOf n)))
+pub height-half : (kind n : ℕ) → 0 < n → rOf n ≢ 1
+    → height kind n ≡ heightOf (firsts (halfDegree kind (rOf n) + 1) (polynomial kind (rOf n)))
 height-half kind n p h = height-m kind n p ∙ go (decDvd 2 n) ∙ height-lower kind (rOf n) (omega (arith, r-pos n))
   where
     go : Dec (2 ∣ n) → height kind (mOf n) ≡ height kind (rOf n)
@@ -145,8 +160,10 @@ height-half kind n p h = height-m kind n p ∙ go (decDvd 2 n) ∙ height-lower 
     go (no d) = ap (height kind) (m-odd n d)
 
 -- F(1), F(2), I(1), I(2) have height 1
-height-first : (b : Bool) (n : ℕ) → n < 2 → heightOf (firsts (suc (cond b (phi (suc n)) (suc n - phi (suc n)))) (cond b (F (suc n)) (I (suc n)))) ≡ 1
-unfolding heightOf _⊕_ _⊗_ ⊖ constant _+ˢ_ -ˢ _·_ _÷_ z^ firsts someTo countTo divides shareFactor phi productTo atDivisors z^-1 familyTo F I
+height-first : (b : Bool) (n : ℕ) → n < 2
+    → heightOf (firsts (suc (cond b (phi (suc n)) (suc n - phi (suc n)))) (cond b (F (suc n)) (I (suc n)))) ≡ 1
+unfolding heightOf _⊕_ _⊗_ ⊖ constant _+ˢ_ -ˢ _·_ _÷_ z^ firsts someTo countTo divides shareFactor phi productTo
+    atDivisors z^-1 familyTo F I
 height-first true zero l = refl
 height-first true (suc zero) l = refl
 height-first false zero l = refl

@@ -1,6 +1,7 @@
--- The kept half after all divisors below r is the lower half of the polynomial of r (`kept-all`), for odd squarefree r above 1. All terms but that of r itself, 1 - z^r, are in it; so for F
--- it agrees with F(r) below degree r, and for I, where each term is inverted and the start is -1, it is -(1 - z^r) / F(r) = I(r) itself.
--- A step is a product with its term (`step-term`): so the kept half after j steps is the product of the first j terms (`step-kept`).
+-- The kept half after all divisors below r is the lower half of the polynomial of r (`kept-all`), for odd squarefree r
+-- above 1. All terms but that of r itself, 1 - z^r, are in it; so for F it agrees with F(r) below degree r, and for I,
+-- where each term is inverted and the start is -1, it is -(1 - z^r) / F(r) = I(r) itself. A step is a product with its
+-- term (`step-term`): so the kept half after j steps is the product of the first j terms (`step-kept`).
 use Prim.Native.Nat.{ℕ, zero, suc, _+_, _*_, _-_, _/_, _%_, _≤_, _<_, _∣_}
 use mathlib.Core.Path.{_≡_, refl, sym, _∙_, ap, ap₂, fun-ext}
 use mathlib.Core.Bool.{Bool, true, false, cond, not}
@@ -31,7 +32,8 @@ use Rattle.step_laws.specs.Step.{combed-from, stepped-below}
 use Rattle.step_laws.specs.Summed.{accumulated-from, accumulated-below}
 use Rattle.cyclotomic.specs.Family.{last-divisor, only-inverse}
 use Rattle.cyclotomic.specs.OnePrime.{divisors-both}
-use Rattle.cyclotomic.specs.Terms.{other, comb-below, comb-from, inverse-terms, unit-term, terms, all-terms, last-comb, over-same, over-ones}
+use Rattle.cyclotomic.specs.Terms.{other, comb-below, comb-from, inverse-terms, unit-term, terms, all-terms}
+use Rattle.cyclotomic.specs.Terms.{last-comb, over-same, over-ones}
 
 -- ---- products over a list
 pub product-append : (fs gs : List Series) → productOf (fs ++ gs) ≡ productOf fs · productOf gs
@@ -44,7 +46,8 @@ unfolding productOf
 picked t true d = ·-one (t d)
 picked t false d = refl
 
-list-product : (t : ℕ → Series) (q : ℕ → Bool) (k : ℕ) → productOf (map t (listTo k q)) ≡ productTo k (λ d. cond (q d) (t d) 𝟙)
+list-product : (t : ℕ → Series) (q : ℕ → Bool) (k : ℕ) → productOf (map t (listTo k q))
+    ≡ productTo k (λ d. cond (q d) (t d) 𝟙)
 unfolding listTo productTo productOf
 list-product t q zero = refl
 list-product t q (suc k) =
@@ -60,7 +63,8 @@ below kind k = productTo k (atDivisors (suc k) (term kind (suc k)))
 kept-product : (kind k : ℕ) → keptSeries kind (suc k) (length (divisorsBelow (suc k))) ≡ start kind · below kind k
 unfolding keptSeries divisorsBelow below atDivisors
 kept-product kind k =
-    ap (λ l. start kind · productOf (map (term kind (suc k)) l)) (take-length (listTo (suc k - 1) (λ d. divides d (suc k))))
+    ap (λ l. start kind · productOf (map (term kind (suc k)) l))
+    (take-length (listTo (suc k - 1) (λ d. divides d (suc k))))
     ∙ ap (λ j. start kind · productOf (map (term kind (suc k)) (listTo j (λ d. divides d (suc k))))) (one-less k)
     ∙ ap (λ q. start kind · q) (list-product (term kind (suc k)) (λ d. divides d (suc k)) k)
   where
@@ -71,7 +75,8 @@ kept-product kind k =
 below-F : (k : ℕ) → OddSquarefree (suc k) → suc k ≢ 1 → below 1 k · termOf comb (suc k) ≡ F (suc k)
 unfolding below terms
 below-F k O h =
-    ap (λ q. below 1 k · q) (sym (last-comb (suc k) (O .pos))) ∙ sym (last-divisor k (term 1 (suc k))) ∙ all-terms (suc k) O h
+    ap (λ q. below 1 k · q) (sym (last-comb (suc k) (O .pos))) ∙ sym (last-divisor k (term 1 (suc k)))
+    ∙ all-terms (suc k) O h
 
 -- for I each term is inverted
 below-both : (kind k : ℕ) → eqb kind 1 ≡ false → below kind k · below 1 k ≡ 𝟙
@@ -81,8 +86,10 @@ below-both kind k e =
     ∙ over-same (suc k) (λ d l h. inverts (muIsPlus (suc k / d)) d l) k
     ∙ over-ones (suc k) k
   where
-    inverts : (b : Bool) (d : ℕ) → 0 < d → termOf (cond (cond (eqb kind 1) b (not b)) comb accumulate) d · termOf (cond b comb accumulate) d ≡ 𝟙
-    inverts b d l = ap (λ c. termOf (cond (cond c b (not b)) comb accumulate) d · termOf (cond b comb accumulate) d) e ∙ by b
+    inverts : (b : Bool) (d : ℕ) → 0 < d → termOf (cond (cond (eqb kind 1) b (not b)) comb accumulate) d
+        · termOf (cond b comb accumulate) d ≡ 𝟙
+    inverts b d l = ap (λ c. termOf (cond (cond c b (not b)) comb accumulate) d · termOf (cond b comb accumulate) d) e
+        ∙ by b
       where
         by : (b : Bool) → termOf (cond (not b) comb accumulate) d · termOf (cond b comb accumulate) d ≡ 𝟙
         by true = inverse-terms comb d l
@@ -100,18 +107,23 @@ module _ (k : ℕ) (O : OddSquarefree (suc k)) (h : suc k ≢ 1) where
   kept-I kind e =
       only-inverse (suc k) (-ˢ 𝟙 · below kind k)
       (ap (λ q. q · (-ˢ 𝟙 · below kind k)) (sym (below-F k O h))
-      ∙ ringˢ (below 1 k ∷ z^ (suc k) ∷ below kind k ∷ []) (x :* (:1 :+ :- y) :* (:- :1 :* z)) (z :* x :* (y :+ :- :1)) refl
+      ∙ ringˢ (below 1 k ∷ z^ (suc k) ∷ below kind k ∷ []) (x :* (:1 :+ :- y) :* (:- :1 :* z))
+      (z :* x :* (y :+ :- :1)) refl
       ∙ ap (λ q. q · (z^ (suc k) +ˢ -ˢ 𝟙)) (below-both kind k e) ∙ one-· (z^ (suc k) +ˢ -ˢ 𝟙))
 
-  kept-agrees : (kind i : ℕ) → i < suc k → keptSeries kind (suc k) (length (divisorsBelow (suc k))) i ≡ polynomial kind (suc k) i
+  kept-agrees : (kind i : ℕ) → i < suc k → keptSeries kind (suc k) (length (divisorsBelow (suc k))) i
+      ≡ polynomial kind (suc k) i
   unfolding start polynomial
   kept-agrees kind i l = ap (λ q. q i) (kept-product kind k) ∙ go (eqb kind 1) refl
     where
-      go : (b : Bool) → eqb kind 1 ≡ b → (cond (eqb kind 1) 𝟙 (-ˢ 𝟙) · below kind k) i ≡ cond (eqb kind 1) (F (suc k)) (I (suc k)) i
+      go : (b : Bool) → eqb kind 1 ≡ b → (cond (eqb kind 1) 𝟙 (-ˢ 𝟙) · below kind k) i
+          ≡ cond (eqb kind 1) (F (suc k)) (I (suc k)) i
       go true e =
-          ap (λ n. (cond (eqb n 1) 𝟙 (-ˢ 𝟙) · below n k) i) (eqb-true kind 1 e) ∙ kept-F i l ∙ sym (ap (λ c. cond c (F (suc k)) (I (suc k)) i) e)
+          ap (λ n. (cond (eqb n 1) 𝟙 (-ˢ 𝟙) · below n k) i) (eqb-true kind 1 e) ∙ kept-F i l
+          ∙ sym (ap (λ c. cond c (F (suc k)) (I (suc k)) i) e)
       go false e =
-          ap (λ c. (cond c 𝟙 (-ˢ 𝟙) · below kind k) i) e ∙ ap (λ q. q i) (kept-I kind e) ∙ sym (ap (λ c. cond c (F (suc k)) (I (suc k)) i) e)
+          ap (λ c. (cond c 𝟙 (-ˢ 𝟙) · below kind k) i) e ∙ ap (λ q. q i) (kept-I kind e)
+          ∙ sym (ap (λ c. cond c (F (suc k)) (I (suc k)) i) e)
 
 -- D lies below r
 pub half-below : (kind r : ℕ) → 1 < r → halfDegree kind r < r
@@ -129,8 +141,10 @@ pub kept-all :
 unfolding keptHalf
 kept-all kind zero O h = absurd (NatL.not-suc-le-zero (O .pos))
 kept-all kind (suc k) O h =
-    firsts-same (halfDegree kind (suc k) + 1) (keptSeries kind (suc k) (length (divisorsBelow (suc k)))) (polynomial kind (suc k))
-    (λ i l. kept-agrees k O h kind i (omega (arith, half-below kind (suc k) (NatL.lt-of-not-le (λ b. h (omega (arith, O .pos)))))))
+    firsts-same (halfDegree kind (suc k) + 1) (keptSeries kind (suc k) (length (divisorsBelow (suc k))))
+    (polynomial kind (suc k))
+    (λ i l. kept-agrees k O h kind i
+    (omega (arith, half-below kind (suc k) (NatL.lt-of-not-le (λ b. h (omega (arith, O .pos)))))))
 
 -- ---- one step after the other
 -- a step is a product with its term
@@ -143,7 +157,8 @@ step-term comb d l f = fun-ext (λ i. go i (decLt i d))
     go i (no h) = let k : d ≤ i = omega (arith, NatL.lt-of-not-le h) in combed-from d f i k ∙ sym (comb-from d f i k)
 step-term accumulate d l f =
     sym (one-· (accumulated d f)) ∙ ap (λ q. q · accumulated d f) (sym (inverse-terms comb d l))
-    ∙ ·-assoc (termOf accumulate d) (termOf comb d) (accumulated d f) ∙ ap (λ q. termOf accumulate d · q) (fun-ext (λ i. go i (decLt i d)))
+    ∙ ·-assoc (termOf accumulate d) (termOf comb d) (accumulated d f)
+    ∙ ap (λ q. termOf accumulate d · q) (fun-ext (λ i. go i (decLt i d)))
   where
     go : (i : ℕ) → Dec (i < d) → (termOf comb d · accumulated d f) i ≡ f i
     go i (yes h) = comb-below d (accumulated d f) i h ∙ accumulated-below d f i h
@@ -153,7 +168,8 @@ step-term accumulate d l f =
         ∙ add-sub (f i) (accumulated d f (i - d))
 
 -- so on the first n entries of a series it leaves those of the product
-pub step-firsts : (s : Sort) (d : ℕ) → 0 < d → (n : ℕ) (f : Series) → stepList s d (firsts n f) ≡ firsts n (termOf s d · f)
+pub step-firsts : (s : Sort) (d : ℕ) → 0 < d → (n : ℕ) (f : Series) → stepList s d (firsts n f)
+    ≡ firsts n (termOf s d · f)
 unfolding stepList entries
 step-firsts s d l n f =
     ap (λ k. firsts k (stepped s d (λ i. getD (firsts n f) i 0ℤ))) (length-firsts n f)
@@ -161,13 +177,17 @@ step-firsts s d l n f =
     (λ i b. ap (λ q. q i) (step-term s d l (λ i. getD (firsts n f) i 0ℤ))
     ∙ agree-mul i (termOf s d) (λ i. getD (firsts n f) i 0ℤ) f (λ j c. getD-firsts n f j (omega arith)))
 
-pub kept-next : (kind r j : ℕ) → j < length (divisorsBelow r) → keptSeries kind r (suc j) ≡ term kind r (nextDivisor r j) · keptSeries kind r j
+pub kept-next : (kind r j : ℕ) → j < length (divisorsBelow r) → keptSeries kind r (suc j)
+    ≡ term kind r (nextDivisor r j) · keptSeries kind r j
 unfolding keptSeries nextDivisor productOf
 kept-next kind r j h =
     ap (λ l. start kind · productOf (map (term kind r) l)) (take-suc (divisorsBelow r) j 0 h)
-    ∙ ap (λ l. start kind · productOf l) (map-append (term kind r) (take j (divisorsBelow r)) (getD (divisorsBelow r) j 0 ∷ []))
-    ∙ ap (λ q. start kind · q) (product-append (map (term kind r) (take j (divisorsBelow r))) (term kind r (getD (divisorsBelow r) j 0) ∷ []))
-    ∙ ringˢ (start kind ∷ productOf (map (term kind r) (take j (divisorsBelow r))) ∷ term kind r (getD (divisorsBelow r) j 0) ∷ [])
+    ∙ ap (λ l. start kind · productOf l)
+    (map-append (term kind r) (take j (divisorsBelow r)) (getD (divisorsBelow r) j 0 ∷ []))
+    ∙ ap (λ q. start kind · q)
+    (product-append (map (term kind r) (take j (divisorsBelow r))) (term kind r (getD (divisorsBelow r) j 0) ∷ []))
+    ∙ ringˢ (start kind ∷ productOf (map (term kind r) (take j (divisorsBelow r)))
+    ∷ term kind r (getD (divisorsBelow r) j 0) ∷ [])
     (x :* (y :* (z :* :1))) (z :* (x :* y)) refl
 
 -- and so the kept half after one divisor more is the step on the kept half

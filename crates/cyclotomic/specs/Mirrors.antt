@@ -1,5 +1,5 @@
--- F(n) and I(n) read backwards, for n above 1: F(n) is its own mirror (`mirror-F`), and I(n) the negative of its own (`mirror-I`). F(1) = z - 1 changes its sign; from one
--- prime to the next that sign cancels.
+-- F(n) and I(n) read backwards, for n above 1: F(n) is its own mirror (`mirror-F`), and I(n) the negative of its own
+-- (`mirror-I`). F(1) = z - 1 changes its sign; from one prime to the next that sign cancels.
 use Prim.Native.Nat.{ℕ, zero, suc, _+_, _*_, _-_, _≤_, _<_, _∣_}
 use mathlib.Core.Path.{_≡_, refl, sym, _∙_, ap, ap₂}
 use mathlib.Core.Bool.{Bool, true, false, cond}
@@ -39,20 +39,25 @@ mirror-z^-1 n l =
     low : (i : ℕ) → i ≤ n → Dec (i ≡ 0) → Dec (i ≡ n) → ⊖ (z^-1 n i) ≡ z^-1 n (n - i)
     low i h (yes e) b =
         let last : n ≡ n - i = omega arith in
-        ap ⊖ (ap (z^-1 n) e ∙ z^-1-zero n l) ∙ ringℤ [] (:- (:- :1)) :1 refl ∙ sym (monic-z^-1 n l .top) ∙ ap (z^-1 n) last
+        ap ⊖ (ap (z^-1 n) e ∙ z^-1-zero n l) ∙ ringℤ [] (:- (:- :1)) :1 refl ∙ sym (monic-z^-1 n l .top)
+        ∙ ap (z^-1 n) last
     low i h (no a) (yes e) =
         let first : 0 ≡ n - i = omega arith in
         ap ⊖ (ap (z^-1 n) e ∙ monic-z^-1 n l .top) ∙ sym (z^-1-zero n l) ∙ ap (z^-1 n) first
-    low i h (no a) (no b) = ap ⊖ (inside i a b) ∙ ⊖-zero ∙ sym (inside (n - i) (λ e. b (omega arith)) (λ e. a (omega arith)))
+    low i h (no a) (no b) = ap ⊖ (inside i a b) ∙ ⊖-zero
+        ∙ sym (inside (n - i) (λ e. b (omega arith)) (λ e. a (omega arith)))
 
 sign-F : (n : ℕ) → 0 < n → Signed n (mirror (phi n) (F n)) (F n)
-sign-F = by-primes (λ n. Signed n (mirror (phi n) (F n)) (F n)) (minus-one (ap₂ mirror phi-one F-one ∙ mirror-z^-1 1 (omega arith) ∙ ap -ˢ (sym F-one))) next
+sign-F = by-primes (λ n. Signed n (mirror (phi n) (F n)) (F n))
+    (minus-one (ap₂ mirror phi-one F-one ∙ mirror-z^-1 1 (omega arith) ∙ ap -ˢ (sym F-one))) next
   where
-    next : (n p : ℕ) → 0 < n → Prime p → Signed n (mirror (phi n) (F n)) (F n) → Signed (n * p) (mirror (phi (n * p)) (F (n * p))) (F (n * p))
+    next : (n p : ℕ) → 0 < n → Prime p → Signed n (mirror (phi n) (F n)) (F n)
+        → Signed (n * p) (mirror (phi (n * p)) (F (n * p))) (F (n * p))
     next n p l P s = go (decDvd p n)
       where
         mirrors : mirror (p * phi n) (spread p (F n)) ≡ spread p (mirror (phi n) (F n))
-        mirrors = ap (λ k. mirror k (spread p (F n))) (NatL.mul-comm p (phi n)) ∙ sym (mirror-spread p (phi n) (F n) (prime-pos P))
+        mirrors = ap (λ k. mirror k (spread p (F n))) (NatL.mul-comm p (phi n))
+            ∙ sym (mirror-spread p (phi n) (F n) (prime-pos P))
 
         not-one : p ∣ n → n ≢ 1
         not-one d e = omega (arith, P .above, NatL.eq-one-of-dvd-one (rw e at d))
@@ -60,11 +65,14 @@ sign-F = by-primes (λ n. Signed n (mirror (phi n) (F n)) (F n)) (minus-one (ap�
         go : Dec (p ∣ n) → Signed (n * p) (mirror (phi (n * p)) (F (n * p))) (F (n * p))
         go (yes d) =
             signed
-            (ap₂ mirror (phi-old n p P d) (prime-old p P n l d) ∙ mirrors ∙ ap (spread p) (unsigned s (not-one d)) ∙ sym (prime-old p P n l d))
+            (ap₂ mirror (phi-old n p P d) (prime-old p P n l d) ∙ mirrors ∙ ap (spread p) (unsigned s (not-one d))
+            ∙ sym (prime-old p P n l d))
         go (no d) =
             signed
-            (sign-step n p (prime-pos P) (mirror (phi n) (F n)) (mirror (phi (n * p)) (F (n * p))) (F n) (F (n * p)) (unit-F n)
-            (sym (mirror-mul (phi (n * p)) (phi n) (F (n * p)) (F n) (monic-F (n * p) (NatL.mul-pos l (prime-pos P)) .above) (monic-F n l .above))
+            (sign-step n p (prime-pos P) (mirror (phi n) (F n)) (mirror (phi (n * p)) (F (n * p))) (F n) (F (n * p))
+            (unit-F n)
+            (sym (mirror-mul (phi (n * p)) (phi n) (F (n * p)) (F n)
+            (monic-F (n * p) (NatL.mul-pos l (prime-pos P)) .above) (monic-F n l .above))
             ∙ ap₂ mirror (phi-new n p P d) (prime-new p P n l d) ∙ mirrors)
             (prime-new p P n l d) s)
 
@@ -85,10 +93,12 @@ unfoldable pub turned : ℕ → ℤ → ℤ
 turned kind a = cond (eqb kind 1) a (⊖ a)
 
 -- entry N - i is entry i, for I its negative
-pub mirrored : (kind n : ℕ) → 1 < n → (i : ℕ) → i ≤ degree kind n → polynomial kind n (degree kind n - i) ≡ turned kind (polynomial kind n i)
+pub mirrored : (kind n : ℕ) → 1 < n → (i : ℕ) → i ≤ degree kind n → polynomial kind n (degree kind n - i)
+    ≡ turned kind (polynomial kind n i)
 unfolding degree polynomial turned
 mirrored kind n l i = go (eqb kind 1)
   where
-    go : (b : Bool) → i ≤ cond b (phi n) (n - phi n) → cond b (F n) (I n) (cond b (phi n) (n - phi n) - i) ≡ cond b (cond b (F n) (I n) i) (⊖ (cond b (F n) (I n) i))
+    go : (b : Bool) → i ≤ cond b (phi n) (n - phi n) → cond b (F n) (I n) (cond b (phi n) (n - phi n) - i)
+        ≡ cond b (cond b (F n) (I n) i) (⊖ (cond b (F n) (I n) i))
     go true h = sym (mirror-in (phi n) (F n) i h) ∙ ap (λ q. q i) (mirror-F n l)
     go false h = sym (mirror-in (n - phi n) (I n) i h) ∙ ap (λ q. q i) (mirror-I n l) ∙ at--ˢ (I n) i

@@ -1,5 +1,5 @@
--- Two families that agree up to sign at 1 and grow by the same law agree above 1. The law is that of a new prime, X(np) X(n) = X(n) with z^p for z: the sign
--- stands on both sides of X(np) (±Y(n)) = ± Y(np) Y(n), and cancels (`sign-step`).
+-- Two families that agree up to sign at 1 and grow by the same law agree above 1. The law is that of a new prime, X(np)
+-- X(n) = X(n) with z^p for z: the sign stands on both sides of X(np) (±Y(n)) = ± Y(np) Y(n), and cancels (`sign-step`).
 use Prim.Native.Nat.{ℕ, _<_}
 use mathlib.Core.Path.{_≡_, refl, sym, _∙_, ap, fun-ext}
 use mathlib.Core.Logic.{_≢_}
@@ -38,7 +38,8 @@ minus-one {Y} e =
     minus-mul f = fun-ext (λ i. constant-mul (⊖ 1ℤ) f i ∙ ringℤ (f i ∷ []) (:- :1 :* x) (:- x) refl ∙ sym (at--ˢ f i))
 
 pub sign-step :
-    (n p : ℕ) → 0 < p → (X X′ Y Y′ : Series) → Unitˢ Y → X′ · X ≡ spread p X → Y′ · Y ≡ spread p Y → Signed n X Y → X′ ≡ Y′
+    (n p : ℕ) → 0 < p → (X X′ Y Y′ : Series) → Unitˢ Y → X′ · X ≡ spread p X → Y′ · Y ≡ spread p Y → Signed n X Y
+    → X′ ≡ Y′
 unfolding constant
 sign-step n p l X X′ Y Y′ u a b s =
     cancel X′ Y′ (constant (s .sign) · Y) (unit-mul (constant (s .sign)) Y (s .square) u)

@@ -1,5 +1,6 @@
--- The terms of the divisors multiply to F(r) (`all-terms`), for odd squarefree r above 1. The terms of the two sorts are inverse to one another. With a new prime p, the terms of the divisors of r turn
--- into their inverses, and those of p e are those of e with z^p for z; so the product over all divisors grows by F's law, and at r = 1 it is -F(1).
+-- The terms of the divisors multiply to F(r) (`all-terms`), for odd squarefree r above 1. The terms of the two sorts
+-- are inverse to one another. With a new prime p, the terms of the divisors of r turn into their inverses, and those of
+-- p e are those of e with z^p for z; so the product over all divisors grows by F's law, and at r = 1 it is -F(1).
 use Prim.Native.Nat.{ℕ, zero, suc, _+_, _*_, _-_, _/_, _%_, _≤_, _<_, _∣_}
 use mathlib.Core.Path.{_≡_, refl, sym, _∙_, ap, ap₂, fun-ext}
 use mathlib.Core.Bool.{Bool, true, false, cond, not}
@@ -19,7 +20,8 @@ use Rattle.definitions.specs.KeptHalf.{sortOf, termOf, term}
 use Rattle.integers.specs.Solver.{:1, _:+_, _:*_, :-, x, y, z}
 use Rattle.integers.specs.Whole.{⊕-zero, zero-⊕, ⊕-neg, ⊖-zero, ⊗-one, ringℤ}
 use Rattle.series.specs.Laws.{Unitˢ, at-+ˢ, at--ˢ, cancel, ·-comm, ·-one, one-·, ringˢ}
-use Rattle.series.specs.Maps.{off-z^, shift-below, shift-from, spread-add, spread-neg, spread-constant, spread-mul, spread-z^, spread-zero}
+use Rattle.series.specs.Maps.{off-z^, shift-below, shift-from, spread-add, spread-neg, spread-constant, spread-mul}
+use Rattle.series.specs.Maps.{spread-z^, spread-zero}
 use Rattle.numbers.specs.Tests.{same, test-divides, divides-yes, divides-no, yes-divides, no-divides}
 use Rattle.numbers.specs.Folds.{fold-units}
 use Rattle.numbers.specs.Primes.{Prime, prime-pos, quotient-pos}
@@ -59,7 +61,8 @@ every-from : (d i : ℕ) → d ≤ i → termOf accumulate d i ≡ termOf accumu
 unfolding termOf
 every-from d i h =
     ap (λ b. cond b 1ℤ 0ℤ)
-    (same (test-divides d i) (test-divides d (i - d)) (NatL.dvd-sub-iff-left d h (NatL.dvd-refl d) .1) (NatL.dvd-sub-iff-left d h (NatL.dvd-refl d) .0))
+    (same (test-divides d i) (test-divides d (i - d)) (NatL.dvd-sub-iff-left d h (NatL.dvd-refl d) .1)
+    (NatL.dvd-sub-iff-left d h (NatL.dvd-refl d) .0))
 
 nothing-above : (i : ℕ) → 0 < i → 𝟙 i ≡ 0ℤ
 unfolding constant
@@ -86,7 +89,8 @@ unit-comb : (d : ℕ) → 0 < d → Unitˢ (termOf comb d)
 unfolding termOf constant
 unit-comb d l =
     ap (λ a. a ⊗ a)
-    (at-+ˢ 𝟙 (-ˢ (z^ d)) 0 ∙ ap (λ a. 1ℤ ⊕ a) (at--ˢ (z^ d) 0 ∙ ap ⊖ (off-z^ d 0 (λ e. omega arith)) ∙ ⊖-zero) ∙ ⊕-zero 1ℤ)
+    (at-+ˢ 𝟙 (-ˢ (z^ d)) 0 ∙ ap (λ a. 1ℤ ⊕ a) (at--ˢ (z^ d) 0 ∙ ap ⊖ (off-z^ d 0 (λ e. omega arith)) ∙ ⊖-zero)
+    ∙ ⊕-zero 1ℤ)
     ∙ ⊗-one 1ℤ
 
 pub unit-term : (s : Sort) (d : ℕ) → 0 < d → Unitˢ (termOf s d)
@@ -103,8 +107,10 @@ spread-comb t h d =
 pub spread-term : (t : ℕ) → 0 < t → (s : Sort) (d : ℕ) → 0 < d → spread t (termOf s d) ≡ termOf s (d * t)
 spread-term t h comb d l = spread-comb t h d
 spread-term t h accumulate d l =
-    cancel (spread t (termOf accumulate d)) (termOf accumulate (d * t)) (termOf comb (d * t)) (unit-term comb (d * t) (NatL.mul-pos l h))
-    (ap (λ q. spread t (termOf accumulate d) · q) (sym (spread-comb t h d)) ∙ sym (spread-mul t h (termOf accumulate d) (termOf comb d))
+    cancel (spread t (termOf accumulate d)) (termOf accumulate (d * t)) (termOf comb (d * t))
+    (unit-term comb (d * t) (NatL.mul-pos l h))
+    (ap (λ q. spread t (termOf accumulate d) · q) (sym (spread-comb t h d))
+    ∙ sym (spread-mul t h (termOf accumulate d) (termOf comb d))
     ∙ ap (spread t) (inverse d l) ∙ spread-constant t h 1ℤ ∙ sym (inverse (d * t) (NatL.mul-pos l h)))
   where
     inverse : (e : ℕ) → 0 < e → termOf accumulate e · termOf comb e ≡ 𝟙
@@ -121,7 +127,8 @@ module _ (r p : ℕ) (O : OddSquarefree r) (P : Prime p) (new : ¬ (p ∣ r)) wh
   unfolding sortOf
   sort-turned d h =
       ap (λ q. cond (muIsPlus q) comb accumulate) (quotient-old r p d h)
-      ∙ ap (λ b. cond b comb accumulate) (mu-times (r / d) p (quotient-pos d r (O .pos) h) P (quotient-free r p d new h))
+      ∙ ap (λ b. cond b comb accumulate)
+      (mu-times (r / d) p (quotient-pos d r (O .pos) h) P (quotient-free r p d new h))
       ∙ flip (muIsPlus (r / d))
 
   sort-kept : (e : ℕ) → sortOf 1 (r * p) (e * p) ≡ sortOf 1 r e
@@ -133,7 +140,8 @@ cond-same : (b : Bool) (f g : Series) → (b ≡ true → f ≡ g) → cond b f 
 cond-same true f g e = e refl
 cond-same false f g e = refl
 
-pub over-same : (n : ℕ) {g h : ℕ → Series} → ((d : ℕ) → 0 < d → d ∣ n → g d ≡ h d) → (k : ℕ) → productTo k (atDivisors n g) ≡ productTo k (atDivisors n h)
+pub over-same : (n : ℕ) {g h : ℕ → Series} → ((d : ℕ) → 0 < d → d ∣ n → g d ≡ h d) → (k : ℕ)
+    → productTo k (atDivisors n g) ≡ productTo k (atDivisors n h)
 unfolding atDivisors
 over-same n {g} {h} e k = product-same k (λ d l u. cond-same (divides d n) (g d) (h d) (λ t. e d l (yes-divides d n t)))
 
@@ -158,7 +166,8 @@ module _ (r p : ℕ) (O : OddSquarefree r) (P : Prime p) (new : ¬ (p ∣ r)) wh
   unfolding terms overDivisors term
   kept =
       over-same r
-      (λ e l h. ap (λ s. termOf s (e * p)) (sort-kept r p O P new e) ∙ sym (spread-term p (prime-pos P) (sortOf 1 r e) e l)) r
+      (λ e l h. ap (λ s. termOf s (e * p)) (sort-kept r p O P new e)
+      ∙ sym (spread-term p (prime-pos P) (sortOf 1 r e) e l)) r
       ∙ sym (spread-divisors p (prime-pos P) r (term 1 r) r)
 
   turned : overDivisors r (unlessDivides p (term 1 (r * p))) · terms r ≡ 𝟙
@@ -175,18 +184,21 @@ module _ (r p : ℕ) (O : OddSquarefree r) (P : Prime p) (new : ¬ (p ∣ r)) wh
   unfolding terms
   terms-more =
       ap (λ q. q · terms r) (split-divisors (term 1 (r * p)) P r (O .pos))
-      ∙ ringˢ (overDivisors r (λ e. term 1 (r * p) (e * p)) ∷ overDivisors r (unlessDivides p (term 1 (r * p))) ∷ terms r ∷ []) (x :* y :* z) (x :* (y :* z)) refl
+      ∙ ringˢ (overDivisors r (λ e. term 1 (r * p) (e * p)) ∷ overDivisors r (unlessDivides p (term 1 (r * p)))
+      ∷ terms r ∷ []) (x :* y :* z) (x :* (y :* z)) refl
       ∙ ap₂ _·_ kept turned ∙ ·-one (spread p (terms r))
 
 -- mu(1) is +1, so the term of r itself is a comb's
 pub last-comb : (r : ℕ) → 0 < r → term 1 r r ≡ termOf comb r
 unfolding term sortOf muIsPlus
-last-comb r l = ap (λ q. termOf (cond (eqb (primesOf q % 2) 0) comb accumulate) r) (NatL.div-self l) ∙ ap (λ k. termOf (cond (eqb (k % 2) 0) comb accumulate) r) primes-one
+last-comb r l = ap (λ q. termOf (cond (eqb (primesOf q % 2) 0) comb accumulate) r) (NatL.div-self l)
+    ∙ ap (λ k. termOf (cond (eqb (k % 2) 0) comb accumulate) r) primes-one
 
 terms-one : terms 1 ≡ -ˢ (F 1)
 unfolding terms productTo termOf z^-1
 terms-one =
-    last-divisor 0 (term 1 1) ∙ one-· (term 1 1 1) ∙ last-comb 1 (omega arith) ∙ ringˢ (z^ 1 ∷ []) (:1 :+ :- x) (:- (x :+ :- :1)) refl ∙ ap -ˢ (sym F-one)
+    last-divisor 0 (term 1 1) ∙ one-· (term 1 1 1) ∙ last-comb 1 (omega arith)
+    ∙ ringˢ (z^ 1 ∷ []) (:1 :+ :- x) (:- (x :+ :- :1)) refl ∙ ap -ˢ (sym F-one)
 
 pub all-terms : (r : ℕ) → OddSquarefree r → r ≢ 1 → terms r ≡ F r
 all-terms r O h = unsigned (sign-terms r O) h
@@ -194,4 +206,6 @@ all-terms r O h = unsigned (sign-terms r O) h
     sign-terms : (r : ℕ) → OddSquarefree r → Signed r (terms r) (F r)
     sign-terms =
         by-odd-primes (λ r. Signed r (terms r) (F r)) (minus-one terms-one)
-        (λ r p O P u d s. signed (sign-step r p (prime-pos P) (terms r) (terms (r * p)) (F r) (F (r * p)) (unit-F r) (terms-more r p O P d) (prime-new p P r (O .pos) d) s))
+        (λ r p O P u d s.
+        signed (sign-step r p (prime-pos P) (terms r) (terms (r * p)) (F r) (F (r * p)) (unit-F r)
+        (terms-more r p O P d) (prime-new p P r (O .pos) d) s))

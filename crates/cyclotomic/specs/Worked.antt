@@ -1,12 +1,14 @@
--- The fourteen worked polynomials of document 01 with their additions, checked against the definitions by one theorem over their list (`worked-right`): it computes.
--- Among them is I(6) = -1 -1 0 1 1, from the definition with z^n - 1; with the printed slip z^n + 1 it would start with 1.
+-- The fourteen worked polynomials of document 01 with their additions, checked against the definitions by one theorem
+-- over their list (`worked-right`): it computes. Among them is I(6) = -1 -1 0 1 1, from the definition with z^n - 1;
+-- with the printed slip z^n + 1 it would start with 1.
 use Prim.Native.Nat.{ℕ}
 use mathlib.Core.Path.{_≡_, refl}
 use mathlib.Core.List.{List, [], _∷_, map}
 use lib.IntN.{ℤ, pos, negsuc}
 use Rattle.definitions.specs.Integers.{_⊕_, _⊗_, ⊖}
 use Rattle.definitions.specs.Series.{constant, _+ˢ_, -ˢ, _·_, _÷_, z^, firsts}
-use Rattle.definitions.specs.Numbers.{someTo, countTo, listTo, productOfTo, divides, shareFactor, phi, isPrime, oddPrimeOf, rOf}
+use Rattle.definitions.specs.Numbers.{someTo, countTo, listTo, productOfTo, divides, shareFactor, phi, isPrime}
+use Rattle.definitions.specs.Numbers.{oddPrimeOf, rOf}
 use Rattle.definitions.specs.Polynomials.{productTo, atDivisors, z^-1, familyTo, F, I, polynomial, degree}
 use Rattle.definitions.specs.KeptHalf.{halfDegree, sumOf, additions}
 use Rattle.definitions.specs.Answer.{coefficients, additionsFor}
@@ -60,5 +62,7 @@ made w =
     }
 
 pub worked-right : map made worked ≡ worked
-unfolding row worked made _⊕_ _⊗_ ⊖ constant _+ˢ_ -ˢ _·_ _÷_ z^ firsts someTo countTo listTo productOfTo divides shareFactor phi isPrime oddPrimeOf rOf productTo atDivisors z^-1 familyTo F I polynomial degree halfDegree sumOf additions coefficients additionsFor
+unfolding row worked made _⊕_ _⊗_ ⊖ constant _+ˢ_ -ˢ _·_ _÷_ z^ firsts someTo countTo listTo productOfTo divides
+    shareFactor phi isPrime oddPrimeOf rOf productTo atDivisors z^-1 familyTo F I polynomial degree halfDegree sumOf
+    additions coefficients additionsFor
 worked-right = refl

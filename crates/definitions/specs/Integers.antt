@@ -1,5 +1,5 @@
--- The whole numbers' sum, product and negative: the library's, under names that stay shut, so that a proof goes by their
--- laws (crate `integers`) and not by their cases.
+-- The whole numbers' sum, product and negative: the library's, under names that stay shut, so that a proof goes by
+-- their laws (crate `integers`) and not by their cases.
 use lib.IntN.{ℤ, pos, _+ℤ_, _*ℤ_, negℤ}
 
 infixl 6 _⊕_ _⊝_

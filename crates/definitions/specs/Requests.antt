@@ -24,7 +24,8 @@ nextDivisor r j = getD (divisorsBelow r) j 0
 unfoldable pub divisorsDue : ℕ → ℕ
 divisorsDue r = length (divisorsBelow r)
 
--- the step after j divisors, taken on the kept half, would put a value outside the range; one of the first j steps would
+-- the step after j divisors, taken on the kept half, would put a value outside the range; one of the first j steps
+-- would
 unfoldable pub overAt : ℕ → ℕ → ℕ → ℕ → Bool
 overAt w kind r j = stepOver w (sortOf kind r (nextDivisor r j)) (nextDivisor r j) (keptHalf kind r j)
 

@@ -1,5 +1,5 @@
--- Power series with whole coefficients: f i is the coefficient at degree i. A polynomial is a series that is 0 from some
--- degree on (crate `series`).
+-- Power series with whole coefficients: f i is the coefficient at degree i. A polynomial is a series that is 0 from
+-- some degree on (crate `series`).
 use Prim.Native.Nat.{ℕ, zero, suc}
 use mathlib.Core.Bool.{cond}
 use mathlib.Core.List.{List, [], _∷_}

@@ -20,5 +20,6 @@ module _ (cs : List ℤ) (i h : ℕ) (l : i < length cs) where
   pub height-passed : natAbs (getD cs i (pos 0)) ≤ h → max h (heightOf (drop (i + 1) cs)) ≡ max h (heightOf (drop i cs))
   height-passed m = rw (height-left cs i l) (omega arith)
 
-  pub height-found : h < natAbs (getD cs i (pos 0)) → max (natAbs (getD cs i (pos 0))) (heightOf (drop (i + 1) cs)) ≡ max h (heightOf (drop i cs))
+  pub height-found : h < natAbs (getD cs i (pos 0)) → max (natAbs (getD cs i (pos 0))) (heightOf (drop (i + 1) cs))
+      ≡ max h (heightOf (drop i cs))
   height-found m = rw (height-left cs i l) (omega arith)

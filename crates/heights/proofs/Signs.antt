@@ -1,5 +1,6 @@
--- A signed number as its sign and what stands beside it, n for n and for -(n + 1): the tests and the casts of the leaves, at
--- 64 bits. A number that was read is `toZ w64 (ofZ w64 x)`; all its bits turned round are 2^64 - 1 less its bits.
+-- A signed number as its sign and what stands beside it, n for n and for -(n + 1): the tests and the casts of the
+-- leaves, at 64 bits. A number that was read is `toZ w64 (ofZ w64 x)`; all its bits turned round are 2^64 - 1 less its
+-- bits.
 use Prim.Native.Nat.{ℕ, suc, _+_, _-_, _<_, _^_}
 use mathlib.Core.Path.{_≡_, refl, sym, _∙_}
 use mathlib.Core.Bool.{Bool, true, false, not, true≢false}

@@ -1,5 +1,5 @@
-// The magnitude of a number and the height of a slice: the largest magnitude among its entries, 0 for an empty one. Nothing is
-// asked beforehand: -2^63, whose magnitude is no i64, is measured too.
+// The magnitude of a number and the height of a slice: the largest magnitude among its entries, 0 for an empty one.
+// Nothing is asked beforehand: -2^63, whose magnitude is no i64, is measured too.
 ghost use mathlib.Core.Path.{_≡_};
 ghost use Prim.Native.Nat.{_≤_, _<_, max};
 ghost use lib.ListN.{length, getD, drop};
@@ -20,12 +20,13 @@ pub fn larger(a: u64, b: u64) -> u64
     if a < b { b } else { a }
 }
 
-// The first place from `from` on with a magnitude above h, or the end. A loop that can stop is not made one of vectors, in which this
-// processor's plain instructions compare 64-bit numbers slowly.
+// The first place from `from` on with a magnitude above h, or the end. A loop that can stop is not made one of vectors,
+// in which this processor's plain instructions compare 64-bit numbers slowly.
 fn above(coeffs: &[i64], from: usize, h: u64) -> usize
     requires { ⌜ from ≤ length (now coeffs) ⌝ }
     ensures { λ r. ⌜ (from ≤ r) × (r ≤ length (now (coeffs .entry))) ⌝ }
-    ensures { λ r. ⌜ max h (heightOf (drop r (now (coeffs .entry)))) ≡ max h (heightOf (drop from (now (coeffs .entry)))) ⌝ }
+    ensures { λ r.
+        ⌜ max h (heightOf (drop r (now (coeffs .entry)))) ≡ max h (heightOf (drop from (now (coeffs .entry)))) ⌝ }
     ensures { λ r. ⌜ (r < length (now (coeffs .entry)) → h < natAbs (getD (now (coeffs .entry)) r 0ℤ)) ⌝ }
 {
     let mut i = from;

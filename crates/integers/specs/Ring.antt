@@ -19,7 +19,22 @@ pub record Ring : Type 1 where
   pub mul-add : (a b c : Carrier) → mul a (add b c) ≡ add (mul a b) (mul a c)
 
 module _ (R : Ring) where
-  open Ring R using (Carrier, zero, one, add, mul, neg, add-assoc, add-comm, add-zero, add-neg, mul-assoc, mul-comm, mul-one, mul-add)
+  open Ring R using (
+    Carrier,
+    zero,
+    one,
+    add,
+    mul,
+    neg,
+    add-assoc,
+    add-comm,
+    add-zero,
+    add-neg,
+    mul-assoc,
+    mul-comm,
+    mul-one,
+    mul-add,
+  )
 
   pub zero-add : (a : Carrier) → add zero a ≡ a
   zero-add a = add-comm zero a ∙ add-zero a
@@ -57,7 +72,8 @@ module _ (R : Ring) where
   neg-add a b =
       sym
       (neg-unique (add a b) (add (neg a) (neg b))
-      (add-swap a b (neg a) (neg b) ∙ ap (λ x. add x (add b (neg b))) (add-neg a) ∙ zero-add (add b (neg b)) ∙ add-neg b))
+      (add-swap a b (neg a) (neg b) ∙ ap (λ x. add x (add b (neg b))) (add-neg a) ∙ zero-add (add b (neg b))
+      ∙ add-neg b))
 
   pub mul-neg : (a b : Carrier) → mul a (neg b) ≡ neg (mul a b)
   mul-neg a b = neg-unique (mul a b) (mul a (neg b)) (sym (mul-add a b (neg b)) ∙ ap (mul a) (add-neg b) ∙ mul-zero a)
@@ -66,7 +82,8 @@ module _ (R : Ring) where
   neg-mul a b = mul-comm (neg a) b ∙ mul-neg b a ∙ ap neg (mul-comm b a)
 
   pub add-mul : (a b c : Carrier) → mul (add a b) c ≡ add (mul a c) (mul b c)
-  add-mul a b c = mul-comm (add a b) c ∙ mul-add c a b ∙ ap (λ x. add x (mul c b)) (mul-comm c a) ∙ ap (add (mul a c)) (mul-comm c b)
+  add-mul a b c = mul-comm (add a b) c ∙ mul-add c a b ∙ ap (λ x. add x (mul c b)) (mul-comm c a)
+      ∙ ap (add (mul a c)) (mul-comm c b)
 
   pub mul-swap : (a b c d : Carrier) → mul (mul a b) (mul c d) ≡ mul (mul a c) (mul b d)
   mul-swap a b c d =

@@ -1,6 +1,6 @@
--- Ring equations by reflection: an expression is data, its normal form a sorted list of signed monomials in which opposite ones
--- have cancelled, and two expressions with one normal form have one value in every commutative ring (`ring`).
--- Used as `ring R (a ∷ b ∷ []) lhs rhs refl`, with `x`, `y`, .. for the listed values in order.
+-- Ring equations by reflection: an expression is data, its normal form a sorted list of signed monomials in which
+-- opposite ones have cancelled, and two expressions with one normal form have one value in every commutative ring
+-- (`ring`). Used as `ring R (a ∷ b ∷ []) lhs rhs refl`, with `x`, `y`, .. for the listed values in order.
 use Prim.Native.Nat.{ℕ, zero, suc, compare, Ordering, Ordering·lt, Ordering·eq, Ordering·gt}
 use mathlib.Core.Path.{_≡_, refl, sym, _∙_, ap, ap₂}
 use mathlib.Core.Bool.{Bool, true, false, not}
@@ -133,7 +133,22 @@ side-same (a ∷ rest) (b ∷ bs) e =
     ap₂ _∷_ (eqb→eq a b (h .0)) (side-same rest bs (h .1))
 
 module _ (R : Ring) (values : List (R .Carrier)) where
-  open Ring R using (Carrier, zero, one, add, mul, neg, add-assoc, add-comm, add-zero, add-neg, mul-assoc, mul-comm, mul-one, mul-add)
+  open Ring R using (
+    Carrier,
+    zero,
+    one,
+    add,
+    mul,
+    neg,
+    add-assoc,
+    add-comm,
+    add-zero,
+    add-neg,
+    mul-assoc,
+    mul-comm,
+    mul-one,
+    mul-add,
+  )
 
   abbrev pub eval : Expr → Carrier
   eval (v i) = getD values i zero
@@ -167,13 +182,15 @@ module _ (R : Ring) (values : List (R .Carrier)) where
   insertVar-value i [] = refl
   insertVar-value i (j ∷ js) =
       pickVar-value (compare i j) i j js (j ∷ insertVar i js)
-      (ap (mul (getD values j zero)) (insertVar-value i js) ∙ Laws.mul-left-comm R (getD values j zero) (getD values i zero) (mono js))
+      (ap (mul (getD values j zero)) (insertVar-value i js)
+      ∙ Laws.mul-left-comm R (getD values j zero) (getD values i zero) (mono js))
 
   joinVars-value : (m n : List ℕ) → mono (joinVars m n) ≡ mul (mono m) (mono n)
   unfolding mono
   joinVars-value [] n = sym (mul-comm one (mono n) ∙ mul-one (mono n))
   joinVars-value (i ∷ m) n =
-      insertVar-value i (joinVars m n) ∙ ap (mul (getD values i zero)) (joinVars-value m n) ∙ sym (mul-assoc (getD values i zero) (mono m) (mono n))
+      insertVar-value i (joinVars m n) ∙ ap (mul (getD values i zero)) (joinVars-value m n)
+      ∙ sym (mul-assoc (getD values i zero) (mono m) (mono n))
 
   -- a term put in front, and one that cancels the front
   cancels : (a b : Carrier) → b ≡ add a (add (neg a) b)
@@ -185,12 +202,14 @@ module _ (R : Ring) (values : List (R .Carrier)) where
   meet-value true true m n rest e = refl
   meet-value true false m n rest e = rw (← e) (cancels (mono m) (value rest))
   meet-value false true m n rest e =
-      rw (← e) (cancels (neg (mono m)) (value rest) ∙ ap (λ c. add (neg (mono m)) (add c (value rest))) (Laws.neg-neg R (mono m)))
+      rw (← e) (cancels (neg (mono m)) (value rest)
+      ∙ ap (λ c. add (neg (mono m)) (add c (value rest))) (Laws.neg-neg R (mono m)))
   meet-value false false m n rest e = refl
 
   pickTerm-value : (d : Side) (s t : Bool) (m n : List ℕ) (rest on : List Term) → (d ≡ same → m ≡ n)
       → value on ≡ add (signed s (mono m)) (value (term t n ∷ rest))
-      → value (pickTerm d (term s m ∷ term t n ∷ rest) (meet s t (term s m ∷ term t n ∷ rest) rest) on) ≡ add (signed s (mono m)) (value (term t n ∷ rest))
+      → value (pickTerm d (term s m ∷ term t n ∷ rest) (meet s t (term s m ∷ term t n ∷ rest) rest) on)
+      ≡ add (signed s (mono m)) (value (term t n ∷ rest))
   unfolding value
   pickTerm-value before s t m n rest on e k = refl
   pickTerm-value same s t m n rest on e k = meet-value s t m n rest (e refl)
@@ -199,18 +218,21 @@ module _ (R : Ring) (values : List (R .Carrier)) where
   add-left-comm : (a b c : Carrier) → add a (add b c) ≡ add b (add a c)
   add-left-comm a b c = sym (add-assoc a b c) ∙ ap (λ d. add d c) (add-comm a b) ∙ add-assoc b a c
 
-  insertTerm-value : (s : Bool) (m : List ℕ) (p : List Term) → value (insertTerm s m p) ≡ add (signed s (mono m)) (value p)
+  insertTerm-value : (s : Bool) (m : List ℕ) (p : List Term) → value (insertTerm s m p)
+      ≡ add (signed s (mono m)) (value p)
   unfolding value
   insertTerm-value s m [] = refl
   insertTerm-value s m (term t n ∷ rest) =
       pickTerm-value (side m n) s t m n rest (term t n ∷ insertTerm s m rest) (side-same m n)
-      (ap (add (signed t (mono n))) (insertTerm-value s m rest) ∙ add-left-comm (signed t (mono n)) (signed s (mono m)) (value rest))
+      (ap (add (signed t (mono n))) (insertTerm-value s m rest)
+      ∙ add-left-comm (signed t (mono n)) (signed s (mono m)) (value rest))
 
   addTerms-value : (p q : List Term) → value (addTerms p q) ≡ add (value p) (value q)
   unfolding value
   addTerms-value [] q = sym (Laws.zero-add R (value q))
   addTerms-value (term s m ∷ p) q =
-      insertTerm-value s m (addTerms p q) ∙ ap (add (signed s (mono m))) (addTerms-value p q) ∙ sym (add-assoc (signed s (mono m)) (value p) (value q))
+      insertTerm-value s m (addTerms p q) ∙ ap (add (signed s (mono m))) (addTerms-value p q)
+      ∙ sym (add-assoc (signed s (mono m)) (value p) (value q))
 
   not-value : (s : Bool) (a : Carrier) → signed (not s) a ≡ neg (signed s a)
   unfolding signed
@@ -236,7 +258,8 @@ module _ (R : Ring) (values : List (R .Carrier)) where
   mulTerm-value s m [] = sym (Laws.mul-zero R (signed s (mono m)))
   mulTerm-value s m (term t n ∷ rest) =
       insertTerm-value (timesSign s t) (joinVars m n) (mulTerm s m rest)
-      ∙ ap₂ add (ap (signed (timesSign s t)) (joinVars-value m n) ∙ timesSign-value s t (mono m) (mono n)) (mulTerm-value s m rest)
+      ∙ ap₂ add (ap (signed (timesSign s t)) (joinVars-value m n) ∙ timesSign-value s t (mono m) (mono n))
+      (mulTerm-value s m rest)
       ∙ sym (mul-add (signed s (mono m)) (signed t (mono n)) (value rest))
 
   mulTerms-value : (p q : List Term) → value (mulTerms p q) ≡ mul (value p) (value q)

@@ -1,5 +1,5 @@
--- ℤ is a commutative ring without zero divisors. The kit has the sum's laws and that the product is commutative; distributivity
--- and associativity of the product go by successor and predecessor.
+-- ℤ is a commutative ring without zero divisors. The kit has the sum's laws and that the product is commutative;
+-- distributivity and associativity of the product go by successor and predecessor.
 use Prim.Native.Nat.{ℕ, zero, suc, _+_, _*_}
 use mathlib.Core.Path.{_≡_, refl, sym, _∙_, ap, ap₂}
 use mathlib.Core.Logic.{_≢_, _⊎_}
@@ -49,8 +49,10 @@ add-mul : (a b c : ℤ) → (a +ℤ b) *ℤ c ≡ a *ℤ c +ℤ b *ℤ c
 add-mul a b c =
     by-one (λ a. (a +ℤ b) *ℤ c ≡ a *ℤ c +ℤ b *ℤ c)
     (ap (λ d. d *ℤ c) (+ℤ-idl b) ∙ sym (ap (λ d. d +ℤ b *ℤ c) (zero-*ℤ c) ∙ +ℤ-idl (b *ℤ c)))
-    (λ a e. ap (λ d. d *ℤ c) (sucℤ-+ℤ a b) ∙ sucℤ-*ℤ (a +ℤ b) c ∙ ap (λ d. d +ℤ c) e ∙ swap-last (a *ℤ c) (b *ℤ c) c ∙ ap (λ d. d +ℤ b *ℤ c) (sym (sucℤ-*ℤ a c)))
-    (λ a e. ap (λ d. d *ℤ c) (predℤ-+ℤ a b) ∙ predℤ-*ℤ (a +ℤ b) c ∙ ap (λ d. d +ℤ negℤ c) e ∙ swap-last (a *ℤ c) (b *ℤ c) (negℤ c) ∙ ap (λ d. d +ℤ b *ℤ c) (sym (predℤ-*ℤ a c)))
+    (λ a e. ap (λ d. d *ℤ c) (sucℤ-+ℤ a b) ∙ sucℤ-*ℤ (a +ℤ b) c ∙ ap (λ d. d +ℤ c) e ∙ swap-last (a *ℤ c) (b *ℤ c) c
+    ∙ ap (λ d. d +ℤ b *ℤ c) (sym (sucℤ-*ℤ a c)))
+    (λ a e. ap (λ d. d *ℤ c) (predℤ-+ℤ a b) ∙ predℤ-*ℤ (a +ℤ b) c ∙ ap (λ d. d +ℤ negℤ c) e
+    ∙ swap-last (a *ℤ c) (b *ℤ c) (negℤ c) ∙ ap (λ d. d +ℤ b *ℤ c) (sym (predℤ-*ℤ a c)))
     a
 
 neg-mul : (a b : ℤ) → negℤ a *ℤ b ≡ negℤ (a *ℤ b)
@@ -65,7 +67,8 @@ mul-assoc a b c =
     by-one (λ a. a *ℤ b *ℤ c ≡ a *ℤ (b *ℤ c))
     (ap (λ d. d *ℤ c) (zero-*ℤ b) ∙ zero-*ℤ c ∙ sym (zero-*ℤ (b *ℤ c)))
     (λ a e. ap (λ d. d *ℤ c) (sucℤ-*ℤ a b) ∙ add-mul (a *ℤ b) b c ∙ ap (λ d. d +ℤ b *ℤ c) e ∙ sym (sucℤ-*ℤ a (b *ℤ c)))
-    (λ a e. ap (λ d. d *ℤ c) (predℤ-*ℤ a b) ∙ add-mul (a *ℤ b) (negℤ b) c ∙ ap₂ _+ℤ_ e (neg-mul b c) ∙ sym (predℤ-*ℤ a (b *ℤ c)))
+    (λ a e. ap (λ d. d *ℤ c) (predℤ-*ℤ a b) ∙ add-mul (a *ℤ b) (negℤ b) c ∙ ap₂ _+ℤ_ e (neg-mul b c)
+    ∙ sym (predℤ-*ℤ a (b *ℤ c)))
     a
 
 -- the laws, of the shut operations

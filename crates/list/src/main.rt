@@ -1,5 +1,6 @@
-// `list` (document 01, 'The listing'): lines of standard input to answers on standard output. What is printed is made by the proved library
-// `listing`; here its pieces are read and written. A run keeps 40 bytes of a line, so memory does not grow with the input.
+// `list` (document 01, 'The listing'): lines of standard input to answers on standard output. What is printed is made
+// by the proved library `listing`; here its pieces are read and written. A run keeps 40 bytes of a line, so memory does
+// not grow with the input.
 
 ghost use mathlib.Core.Path.{_≡_};
 ghost use Prim.Native.Nat.{_≤_};
@@ -33,7 +34,8 @@ fn list_piece(line: Line, piece: &[u8], out: &mut [u8]) -> Going
     Going { line: s, on: true }
 }
 
-// Reads and lists to the end of the input. A proved loop has to end, so it counts its turns down, from a number that no run uses up.
+// Reads and lists to the end of the input. A proved loop has to end, so it counts its turns down, from a number that no
+// run uses up.
 fn list_all(chunk: &mut [u8], out: &mut [u8]) -> Going
     requires { ⌜ MOST ≤ length (now out) ⌝ }
 {
@@ -64,7 +66,8 @@ fn list_last(line: Line, out: &mut [u8])
     }
 }
 
-// The output goes out in pieces of up to 128 KiB. Only the length is known of it, so that no proof goes through its bytes.
+// The output goes out in pieces of up to 128 KiB. Only the length is known of it, so that no proof goes through its
+// bytes.
 fn large() -> [u8; 131072]
     ensures { λ r. ⌜ 131072 ≡ length r ⌝ }
 {

@@ -23,7 +23,8 @@ enough zero u n h k = absurd (not-suc-le-zero h)
 enough (suc t) zero n h k = absurd (not-suc-le-zero k)
 enough (suc t) (suc u) n h k =
     by-order n 10 (λ b. one-digit t n b ∙ sym (one-digit u n b))
-    (λ b. more-digits t n b ∙ ap (λ r. r ++ ((48 + n % 10) ∷ [])) (enough t u (n / 10) (omega arith) (omega arith)) ∙ sym (more-digits u n b))
+    (λ b. more-digits t n b ∙ ap (λ r. r ++ ((48 + n % 10) ∷ [])) (enough t u (n / 10) (omega arith) (omega arith))
+    ∙ sym (more-digits u n b))
 
 pub decimal-small : (n : ℕ) → n < 10 → decimal n ≡ (48 + n) ∷ []
 unfolding decimal
@@ -32,7 +33,8 @@ decimal-small n h = one-digit n n h
 pub decimal-more : (n : ℕ) → 10 ≤ n → decimal n ≡ decimal (n / 10) ++ ((48 + n % 10) ∷ [])
 unfolding decimal
 decimal-more n h =
-    more-digits n n h ∙ ap (λ r. r ++ ((48 + n % 10) ∷ [])) (enough n (suc (n / 10)) (n / 10) (omega arith) (omega arith))
+    more-digits n n h
+    ∙ ap (λ r. r ++ ((48 + n % 10) ∷ [])) (enough n (suc (n / 10)) (n / 10) (omega arith) (omega arith))
 
 -- one digit more than its tenth has
 pub length-more : (n : ℕ) → 10 ≤ n → length (decimal n) ≡ length (decimal (n / 10)) + 1

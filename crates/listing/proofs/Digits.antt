@@ -64,7 +64,8 @@ module _ (l : List ℕ) (i : ℕ) where
       clash e = omega arith
 
   -- what they say
-  pub value-one : (v : ℕ) → 0 < digitsAt l i → valueFrom v (digits (drop i l)) ≡ valueFrom (v * 10 + (getD l i 0 - 48)) (digits (drop (i + 1) l))
+  pub value-one : (v : ℕ) → 0 < digitsAt l i → valueFrom v (digits (drop i l))
+      ≡ valueFrom (v * 10 + (getD l i 0 - 48)) (digits (drop (i + 1) l))
   unfolding valueFrom
   value-one v h = ap (valueFrom v) (digits-one (inside h) (is-digit-here h))
 

@@ -27,7 +27,13 @@ pub record Keeps (s : Line) (current : List ℕ) (k : ℕ) : Type 0 where
 pub keeps-start : Keeps startLine [] 1
 unfolding startLine
 keeps-start =
-    record { number = refl; room = length-replicate {A = ℕ} KEPT 0; short = λ h. (refl, refl); long = λ h. absurd (never h) }
+    record {
+      number = refl;
+      room = length-replicate {A = ℕ} KEPT 0;
+      short = λ h. (refl, refl);
+      long =
+          λ h. absurd (never h);
+    }
   where
     never : 40 < 0 → ⊥
     never h = omega arith
@@ -74,7 +80,12 @@ module _ {s : Line} {current : List ℕ} {k : ℕ} (t : Keeps s current k) where
       (record {
         number = t .number;
         room = length-set (s .bytes) (s .length) b ∙ t .room;
-        short = λ m. (ap (λ n. n + 1) e ∙ sym (one-more b), rw (one-more b, add-one, e) (take-suc-set (s .bytes) (length current) b (omega (arith, t .room)) ∙ ap (λ r. r ++ (b ∷ [])) (t .short (omega arith) .1)));
+        short = λ m. (
+          ap (λ n. n + 1) e
+              ∙ sym (one-more b),
+          rw (one-more b, add-one, e) (take-suc-set (s .bytes) (length current) b (omega (arith, t .room))
+              ∙ ap (λ r. r ++ (b ∷ [])) (t .short (omega arith) .1)),
+        );
         long = λ m. absurd (never m);
       })
     where

@@ -1,5 +1,5 @@
--- One outcome for each input: two outcomes of a public function that meet its contract, read off its own clauses, have equal
--- answers and leave equal buffers.
+-- One outcome for each input: two outcomes of a public function that meet its contract, read off its own clauses, have
+-- equal answers and leave equal buffers.
 use mathlib.Core.Path.{_≡_, sym, _∙_, ap}
 use mathlib.Core.List.{List}
 use Prim.Native.Nat.{ℕ, _+_}
@@ -30,24 +30,30 @@ use Rattle.listing.proofs.stream.run
 use Rattle.listing.proofs.stream.run.Reads as run-reads
 use Rattle.listing.proofs.stream.run.Kinds as run-kinds
 
-module _ (κs : Lfts 1) (a : ArgsD read_line.signature κs) (z z′ : ResD read_line.signature κs) (e e′ : AtExit (endedOf 1 read-line-kinds.ps read-line-kinds.r) κs) where
+module _ (κs : Lfts 1) (a : ArgsD read_line.signature κs) (z z′ : ResD read_line.signature κs)
+    (e e′ : AtExit (endedOf 1 read-line-kinds.ps read-line-kinds.r) κs) where
   pub one-request : read-line-reads.Post κs a z e → read-line-reads.Post κs a z′ e′ → z ≡ z′
   one-request p p′ = p .0 ∙ sym (p′ .0)
 
-module _ (κs : Lfts 0) (a : ArgsD start.signature κs) (z z′ : ResD start.signature κs) (e e′ : AtExit (endedOf 0 start-kinds.ps start-kinds.r) κs) where
+module _ (κs : Lfts 0) (a : ArgsD start.signature κs) (z z′ : ResD start.signature κs)
+    (e e′ : AtExit (endedOf 0 start-kinds.ps start-kinds.r) κs) where
   pub one-start : start-reads.Post κs a z e → start-reads.Post κs a z′ e′ → z ≡ z′
   one-start p p′ = p ∙ sym p′
 
-module _ (κs : Lfts 1) (a : ArgsD heading.signature κs) (z z′ : ResD heading.signature κs) (e e′ : AtExit (endedOf 1 heading-kinds.ps heading-kinds.r) κs) where
+module _ (κs : Lfts 1) (a : ArgsD heading.signature κs) (z z′ : ResD heading.signature κs)
+    (e e′ : AtExit (endedOf 1 heading-kinds.ps heading-kinds.r) κs) where
   pub one-heading : heading-reads.Post κs a z e → heading-reads.Post κs a z′ e′ → (z ≡ z′) × (now (e .0) ≡ now (e′ .0))
   one-heading p p′ = (p .0 .place ∙ sym (p′ .0 .place), p .0 .leaves ∙ sym (p′ .0 .leaves))
 
-module _ (κs : Lfts 2) (a : ArgsD answer_line.signature κs) (z z′ : ResD answer_line.signature κs) (e e′ : AtExit (endedOf 2 answer-line-kinds.ps answer-line-kinds.r) κs) where
-  pub one-reply : answer-line-reads.Post κs a z e → answer-line-reads.Post κs a z′ e′ → (z ≡ z′) × (now (e .1 .1 .0) ≡ now (e′ .1 .1 .0))
+module _ (κs : Lfts 2) (a : ArgsD answer_line.signature κs) (z z′ : ResD answer_line.signature κs)
+    (e e′ : AtExit (endedOf 2 answer-line-kinds.ps answer-line-kinds.r) κs) where
+  pub one-reply : answer-line-reads.Post κs a z e → answer-line-reads.Post κs a z′ e′
+      → (z ≡ z′) × (now (e .1 .1 .0) ≡ now (e′ .1 .1 .0))
   one-reply p p′ = (p .place ∙ sym (p′ .place), p .leaves ∙ sym (p′ .leaves))
 
 -- two runs over one piece
-module _ {line : Line} {piece l m m′ : List ℕ} {r r′ : Progress} (p : Ran line piece l m r) (p′ : Ran line piece l m′ r′) where
+module _ {line : Line} {piece l m m′ : List ℕ} {r r′ : Progress} (p : Ran line piece l m r)
+    (p′ : Ran line piece l m′ r′) where
   same-taken : r .taken ≡ r′ .taken
   same-taken = p .took ∙ sym (p′ .took)
 
@@ -66,6 +72,7 @@ module _ {line : Line} {piece l m m′ : List ℕ} {r r′ : Progress} (p : Ran 
   one-buffer : m ≡ m′
   one-buffer = p .puts .leaves ∙ ap (sets l 0) same-text ∙ sym (p′ .puts .leaves)
 
-module _ (κs : Lfts 2) (a : ArgsD run.signature κs) (z z′ : ResD run.signature κs) (e e′ : AtExit (endedOf 2 run-kinds.ps run-kinds.r) κs) where
+module _ (κs : Lfts 2) (a : ArgsD run.signature κs) (z z′ : ResD run.signature κs)
+    (e e′ : AtExit (endedOf 2 run-kinds.ps run-kinds.r) κs) where
   pub one-run : run-reads.Post κs a z e → run-reads.Post κs a z′ e′ → (z ≡ z′) × (now (e .1 .1 .0) ≡ now (e′ .1 .1 .0))
   one-run p p′ = (one-progress p p′, one-buffer p p′)

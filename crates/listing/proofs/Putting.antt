@@ -17,7 +17,8 @@ sets-append [] b l i = ap (λ k. sets l k b) (none i)
   where
     none : (i : ℕ) → i ≡ i + 0
     none i = omega arith
-sets-append (x ∷ a) b l i = sets-append a b (set l i x) (suc i) ∙ ap (λ k. sets (sets (set l i x) (suc i) a) k b) (more i (length a))
+sets-append (x ∷ a) b l i = sets-append a b (set l i x) (suc i)
+    ∙ ap (λ k. sets (sets (set l i x) (suc i) a) k b) (more i (length a))
   where
     more : (i k : ℕ) → suc i + k ≡ i + suc k
     more i k = omega arith
@@ -36,7 +37,8 @@ pub spaced-append : (xs ys : List ℤ) → spaced (xs ++ ys) ≡ spaced xs ++ sp
 unfolding spaced
 spaced-append [] ys = refl
 spaced-append (c ∷ xs) ys =
-    ap (λ r. SPACE ∷ signed c ++ r) (spaced-append xs ys) ∙ ap (λ r. SPACE ∷ r) (sym (append-assoc (signed c) (spaced xs) (spaced ys)))
+    ap (λ r. SPACE ∷ signed c ++ r) (spaced-append xs ys)
+    ∙ ap (λ r. SPACE ∷ r) (sym (append-assoc (signed c) (spaced xs) (spaced ys)))
 
 -- one number, after its space
 pub spaced-one : (c : ℤ) → spaced (c ∷ []) ≡ (SPACE ∷ []) ++ (sign c ++ decimal (natAbs c))
@@ -53,7 +55,8 @@ length-sign (pos n) = omega arith
 length-sign (negsuc n) = omega arith
 
 module _ {at p q : ℕ} {l m o : List ℕ} where
-  pub put-one : (c : ℤ) → Puts (SPACE ∷ []) at l m p → Puts (sign c ++ decimal (natAbs c)) p m o q → Puts (spaced (c ∷ [])) at l o q
+  pub put-one : (c : ℤ) → Puts (SPACE ∷ []) at l m p → Puts (sign c ++ decimal (natAbs c)) p m o q
+      → Puts (spaced (c ∷ [])) at l o q
   put-one c f g = rw (spaced-one c) (then f g)
 
   pub put-plain : (n : ℕ) → Puts (SPACE ∷ []) at l m p → Puts (decimal n) p m o q → Puts (spaced (pos n ∷ [])) at l o q
@@ -61,8 +64,15 @@ module _ {at p q : ℕ} {l m o : List ℕ} where
   put-plain n f g = put-one (pos n) f g
 
 -- a head in its five parts
-pub put-headed : (kind n : ℕ) (a : Answer) {at p₁ p₂ p₃ p₄ p₅ : ℕ} {l m₁ m₂ m₃ m₄ m₅ : List ℕ} → Puts (letterOf kind ∷ []) at l m₁ p₁ → Puts (spaced (pos n ∷ pos (a .code) ∷ pos (a .degree) ∷ [])) p₁ m₁ m₂ p₂ → Puts (spaced (pos (a .additions) ∷ pos (a .height) ∷ pos (a .gain) ∷ [])) p₂ m₂ m₃ p₃ → Puts (SPACE ∷ []) p₃ m₃ m₄ p₄ → Puts (COLON ∷ []) p₄ m₄ m₅ p₅ → Puts (headOf kind n a) at l m₅ p₅
+pub put-headed : (kind n : ℕ) (a : Answer) {at p₁ p₂ p₃ p₄ p₅ : ℕ} {l m₁ m₂ m₃ m₄ m₅ : List ℕ}
+    → Puts (letterOf kind ∷ []) at l m₁ p₁ → Puts (spaced (pos n ∷ pos (a .code) ∷ pos (a .degree) ∷ [])) p₁ m₁ m₂ p₂
+    → Puts (spaced (pos (a .additions) ∷ pos (a .height) ∷ pos (a .gain) ∷ [])) p₂ m₂ m₃ p₃
+    → Puts (SPACE ∷ []) p₃ m₃ m₄ p₄ → Puts (COLON ∷ []) p₄ m₄ m₅ p₅ → Puts (headOf kind n a) at l m₅ p₅
 unfolding headOf
 put-headed kind n a f g h i j =
-    rw (spaced-append (pos n ∷ pos (a .code) ∷ pos (a .degree) ∷ []) (pos (a .additions) ∷ pos (a .height) ∷ pos (a .gain) ∷ []), append-assoc)
+    rw (
+      spaced-append (pos n ∷ pos (a .code) ∷ pos (a .degree) ∷ [])
+          (pos (a .additions) ∷ pos (a .height) ∷ pos (a .gain) ∷ []),
+      append-assoc,
+    )
     (then f (then g (then h (then i j))))

@@ -10,7 +10,8 @@ use lib.Dec.{eqb}
 use Rattle.step_laws.specs.Tests.{by-test}
 use Rattle.definitions.specs.Requests.{knownKind}
 use Rattle.listing.specs.Text.{SPACE}
-use Rattle.listing.specs.Request.{kindOf, between, digitsAt, numberAt, oneToNine, isGoodWith, placeOfLimit, isGood, wrong, readLine}
+use Rattle.listing.specs.Request.{kindOf, between, digitsAt, numberAt, oneToNine, isGoodWith, placeOfLimit}
+use Rattle.listing.specs.Request.{isGood, wrong, readLine}
 use Rattle.listing.specs.declared.Request.{Request}
 use Rattle.listing.proofs.Digits.{nine-range}
 
@@ -39,18 +40,22 @@ third p q r s e = left-of r s (right-of q (r && s) (right-of p (q && (r && s)) e
 
 sixth : (p q r s t u : Bool) → (p && (q && (r && (s && (t && u))))) ≡ true → u ≡ true
 sixth p q r s t u e =
-    right-of t u (right-of s (t && u) (right-of r (s && (t && u)) (right-of q (r && (s && (t && u))) (right-of p (q && (r && (s && (t && u)))) e))))
+    right-of t u
+    (right-of s (t && u)
+    (right-of r (s && (t && u)) (right-of q (r && (s && (t && u))) (right-of p (q && (r && (s && (t && u)))) e))))
 
 fifth : (p q r s t u : Bool) → (p && (q && (r && (s && (t && u))))) ≡ true → t ≡ true
 fifth p q r s t u e =
-    left-of t u (right-of s (t && u) (right-of r (s && (t && u)) (right-of q (r && (s && (t && u))) (right-of p (q && (r && (s && (t && u)))) e))))
+    left-of t u (right-of s (t && u)
+    (right-of r (s && (t && u)) (right-of q (r && (s && (t && u))) (right-of p (q && (r && (s && (t && u)))) e))))
 
 module _ (l : List ℕ) (a b : ℕ) where
   pub most-nine : isGoodWith l a b ≡ true → b ≤ 9
   unfolding isGoodWith
   most-nine e =
       nine-range b
-      (fifth (knownKind (kindOf (getD l 0 0))) (eqb (getD l 1 0) SPACE) (oneToNine a) (eqb (getD l (2 + a) 0) SPACE) (oneToNine b) (eqb (length l) (3 + a + b)) e)
+      (fifth (knownKind (kindOf (getD l 0 0))) (eqb (getD l 1 0) SPACE) (oneToNine a) (eqb (getD l (2 + a) 0) SPACE)
+      (oneToNine b) (eqb (length l) (3 + a + b)) e)
       .1
 
   short-with : isGoodWith l a b ≡ true → length l ≤ 21
@@ -58,9 +63,13 @@ module _ (l : List ℕ) (a b : ℕ) where
   short-with e =
       omega (
         arith,
-        nine-range a (third (knownKind (kindOf (getD l 0 0))) (eqb (getD l 1 0) SPACE) (oneToNine a) (eqb (getD l (2 + a) 0) SPACE && (oneToNine b && eqb (length l) (3 + a + b))) e),
+        nine-range a
+            (third (knownKind (kindOf (getD l 0 0))) (eqb (getD l 1 0) SPACE) (oneToNine a)
+            (eqb (getD l (2 + a) 0) SPACE && (oneToNine b && eqb (length l) (3 + a + b))) e),
         most-nine e,
-        eqb-true (length l) (3 + a + b) (sixth (knownKind (kindOf (getD l 0 0))) (eqb (getD l 1 0) SPACE) (oneToNine a) (eqb (getD l (2 + a) 0) SPACE) (oneToNine b) (eqb (length l) (3 + a + b)) e),
+        eqb-true (length l) (3 + a + b)
+            (sixth (knownKind (kindOf (getD l 0 0))) (eqb (getD l 1 0) SPACE) (oneToNine a)
+            (eqb (getD l (2 + a) 0) SPACE) (oneToNine b) (eqb (length l) (3 + a + b)) e),
       )
 
   pub too-many : 10 ≤ a → isGoodWith l a b ≡ false
@@ -84,10 +93,12 @@ pub good-short : (l : List ℕ) → isGood l ≡ true → length l ≤ 21
 unfolding isGood
 good-short l e = short-with l (digitsAt l 2) (digitsAt l (placeOfLimit l)) e
 
-pub reads-good : (l : List ℕ) (k n h : ℕ) → isGood l ≡ true → k ≡ kindOf (getD l 0 0) → n ≡ numberAt l 2 → h ≡ numberAt l (placeOfLimit l) → _≡_ {A = Request} (record { good = true; kind = k; n = n; h = h }) (readLine l)
+pub reads-good : (l : List ℕ) (k n h : ℕ) → isGood l ≡ true → k ≡ kindOf (getD l 0 0) → n ≡ numberAt l 2
+    → h ≡ numberAt l (placeOfLimit l) → _≡_ {A = Request} (record { good = true; kind = k; n = n; h = h }) (readLine l)
 unfolding readLine
 reads-good l k n h g p q r = rw g (λ i. record { good = true; kind = p i; n = q i; h = r i })
 
-pub reads-wrong : (l : List ℕ) → isGood l ≡ false → _≡_ {A = Request} (record { good = false; kind = 0; n = 0; h = 0 }) (readLine l)
+pub reads-wrong : (l : List ℕ) → isGood l ≡ false
+    → _≡_ {A = Request} (record { good = false; kind = 0; n = 0; h = 0 }) (readLine l)
 unfolding readLine wrong
 reads-wrong l g = rw g

@@ -38,7 +38,8 @@ module _ (kind n : ℕ) (h : ℤ) (room : ℕ) where
   done-fits e =
       leb-false room (degree kind n)
       (not-given (leb room (degree kind n)) 3 _
-      (not-given (ltZ h (pos 1)) 2 _ (not-given (not (goodIndex n)) 1 _ (not-given (not (knownKind kind)) 0 _ e .1) .1) .1) .0)
+      (not-given (ltZ h (pos 1)) 2 _
+      (not-given (not (goodIndex n)) 1 _ (not-given (not (knownKind kind)) 0 _ e .1) .1) .1) .0)
 
   -- a delivered degree is below the room
   pub degree-fits : {a : Answer} → a ≡ answer kind n h room → a .code ≡ 0 → a .degree < room
@@ -50,20 +51,27 @@ module _ (kind n : ℕ) (h : ℤ) (l : List ℤ) where
   unfolding coefficients
   length-coefficients = length-firsts (suc (degree kind n)) (polynomial kind n) ∙ sym (add-one (degree kind n))
 
-  same-tail : tailOf (answer kind n h (length l)) (take ((answer kind n h (length l)) .degree + 1) (leaves kind n h l)) ≡ tailOf (answer kind n h (length l)) (coefficients kind n)
+  same-tail : tailOf (answer kind n h (length l)) (take ((answer kind n h (length l)) .degree + 1) (leaves kind n h l))
+      ≡ tailOf (answer kind n h (length l)) (coefficients kind n)
   unfolding tailOf answer answered leaves left written
   same-tail =
       by-test (eqb (code kind n h (length l)) DONE)
-      (λ e. rw e (ap (λ xs. spaced xs ++ (NEWLINE ∷ [])) (take-at (coefficients kind n) (drop (length (coefficients kind n)) l) (degree kind n + 1) length-coefficients)))
+      (λ e. rw e (ap (λ xs. spaced xs ++ (NEWLINE ∷ []))
+      (take-at (coefficients kind n) (drop (length (coefficients kind n)) l)
+      (degree kind n + 1) length-coefficients)))
       (λ e. rw e)
 
 module _ (number : ℕ) (line : List ℕ) (q : Request) (e : q ≡ readLine line) where
-  pub replied : (a : Answer) (l m : List ℤ) → q .good ≡ true → length l ≡ LENT → a ≡ answer (q .kind) (q .n) (pos (q .h)) (length l) → m ≡ leaves (q .kind) (q .n) (pos (q .h)) l → headOf (q .kind) (q .n) a ++ tailOf a (take (a .degree + 1) m) ≡ reply number line
+  pub replied : (a : Answer) (l m : List ℤ) → q .good ≡ true → length l ≡ LENT
+      → a ≡ answer (q .kind) (q .n) (pos (q .h)) (length l) → m ≡ leaves (q .kind) (q .n) (pos (q .h)) l
+      → headOf (q .kind) (q .n) a ++ tailOf a (take (a .degree + 1) m) ≡ reply number line
   unfolding reply replyTo goodLine
   replied a l m g len ea em =
       rw (← e, g, ea, em)
-      (ap (λ t. headOf (q .kind) (q .n) (answer (q .kind) (q .n) (pos (q .h)) (length l)) ++ t) (same-tail (q .kind) (q .n) (pos (q .h)) l)
-      ∙ ap (λ r. headOf (q .kind) (q .n) (answer (q .kind) (q .n) (pos (q .h)) r) ++ tailOf (answer (q .kind) (q .n) (pos (q .h)) r) (coefficients (q .kind) (q .n))) len)
+      (ap (λ t. headOf (q .kind) (q .n) (answer (q .kind) (q .n) (pos (q .h)) (length l)) ++ t)
+      (same-tail (q .kind) (q .n) (pos (q .h)) l)
+      ∙ ap (λ r. headOf (q .kind) (q .n) (answer (q .kind) (q .n) (pos (q .h)) r)
+      ++ tailOf (answer (q .kind) (q .n) (pos (q .h)) r) (coefficients (q .kind) (q .n))) len)
 
   pub replied-wrong : q .good ≡ false → wrongLine number ≡ reply number line
   unfolding reply replyTo

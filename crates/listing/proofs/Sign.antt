@@ -1,4 +1,5 @@
--- The sign of a machine number, and its magnitude as the machine takes it: of a negative number c it is -(c + 1) and one more.
+-- The sign of a machine number, and its magnitude as the machine takes it: of a negative number c it is -(c + 1) and
+-- one more.
 use mathlib.Core.Path.{_≡_, refl, sym, _∙_, ap}
 use mathlib.Core.Bool.{true, false, true≢false}
 use mathlib.Core.List.{[], _∷_}

@@ -1,4 +1,5 @@
--- A run over a piece of input, byte by byte: what has been taken and printed so far, and that one byte more keeps it so.
+-- A run over a piece of input, byte by byte: what has been taken and printed so far, and that one byte more keeps it
+-- so.
 use mathlib.Core.Path.{_≡_, refl, sym, _∙_, ap}
 use mathlib.Core.Bool.{true, false, _&&_, and-false}
 use mathlib.Core.List.{List, [], _∷_, _++_, append-assoc, append-nil}
@@ -27,7 +28,8 @@ pub printed-append : (s : Line) (xs ys : List ℕ) → printed s (xs ++ ys) ≡ 
 unfolding printed after
 printed-append s [] ys = refl
 printed-append s (b ∷ xs) ys =
-    ap (λ r. says s b ++ r) (printed-append (step s b) xs ys) ∙ sym (append-assoc (says s b) (printed (step s b) xs) (printed (after (step s b) xs) ys))
+    ap (λ r. says s b ++ r) (printed-append (step s b) xs ys)
+    ∙ sym (append-assoc (says s b) (printed (step s b) xs) (printed (after (step s b) xs) ys))
 
 after-one : (s : Line) (xs : List ℕ) (b : ℕ) → after s (xs ++ (b ∷ [])) ≡ step (after s xs) b
 unfolding after
@@ -37,11 +39,13 @@ printed-one : (s : Line) (xs : List ℕ) (b : ℕ) → printed s (xs ++ (b ∷ [
 unfolding printed
 printed-one s xs b = printed-append s xs (b ∷ []) ∙ ap (λ r. printed s xs ++ r) (append-nil (says (after s xs) b))
 
-taken-on : (room : ℕ) (s : Line) (b : ℕ) (bs : List ℕ) → (eqb b NEWLINE && ltb room MOST) ≡ false → taken room s (b ∷ bs) ≡ 1 + taken (room - length (says s b)) (step s b) bs
+taken-on : (room : ℕ) (s : Line) (b : ℕ) (bs : List ℕ) → (eqb b NEWLINE && ltb room MOST) ≡ false
+    → taken room s (b ∷ bs) ≡ 1 + taken (room - length (says s b)) (step s b) bs
 unfolding taken
 taken-on room s b bs e = rw e
 
-taken-none : (room : ℕ) (s : Line) (b : ℕ) (bs : List ℕ) → (eqb b NEWLINE && ltb room MOST) ≡ true → taken room s (b ∷ bs) ≡ 0
+taken-none : (room : ℕ) (s : Line) (b : ℕ) (bs : List ℕ) → (eqb b NEWLINE && ltb room MOST) ≡ true
+    → taken room s (b ∷ bs) ≡ 0
 unfolding taken
 taken-none room s b bs e = rw e
 
@@ -88,10 +92,12 @@ module _ (line : Line) (piece l : List ℕ) where
 
     module _ (here : i < length piece) where
       -- one that stops at a newline
-      pub stops : getD piece i 0 ≡ NEWLINE → length m - made < MOST → Ran line piece l m (record { line = s; taken = i; made = made })
+      pub stops : getD piece i 0 ≡ NEWLINE → length m - made < MOST
+          → Ran line piece l m (record { line = s; taken = i; made = made })
       stops e h =
           record {
-            took = sym (g .rest ∙ ap (λ p. i + taken (length l - made) s p) (drop-cons piece i 0 here) ∙ ap (λ k. i + k) (taken-none (length l - made) s (getD piece i 0) (drop (suc i) piece) full) ∙ plus i);
+            took = sym (g .rest ∙ ap (λ p. i + taken (length l - made) s p) (drop-cons piece i 0 here)
+                ∙ ap (λ k. i + k) (taken-none (length l - made) s (getD piece i 0) (drop (suc i) piece) full) ∙ plus i);
             left = g .left;
             puts = g .puts;
             within = g .within;
@@ -104,15 +110,20 @@ module _ (line : Line) (piece l : List ℕ) where
           plus : (i : ℕ) → i + 0 ≡ i
           plus i = omega arith
 
-      goes : {m′ : List ℕ} {made′ : ℕ} → (eqb (getD piece i 0) NEWLINE && ltb (length l - made) MOST) ≡ false → Puts (says s (getD piece i 0)) made m m′ made′ → made′ ≤ length l → Going m′ (step s (getD piece i 0)) (i + 1) made′
+      goes : {m′ : List ℕ} {made′ : ℕ} → (eqb (getD piece i 0) NEWLINE && ltb (length l - made) MOST) ≡ false
+          → Puts (says s (getD piece i 0)) made m m′ made′ → made′ ≤ length l
+          → Going m′ (step s (getD piece i 0)) (i + 1) made′
       goes {m′} {made′} e p h =
           record {
             within = omega arith;
-            left = ap (λ x. step x (getD piece i 0)) (g .left) ∙ sym (rw (one) (after-one line (take i piece) (getD piece i 0)));
+            left = ap (λ x. step x (getD piece i 0)) (g .left)
+                ∙ sym (rw (one) (after-one line (take i piece) (getD piece i 0)));
             puts = rw (one, printed-one line (take i piece) (getD piece i 0), ← g .left) (then (g .puts) p);
             fits = h;
             same = ap length (p .leaves) ∙ length-sets m made (says s (getD piece i 0)) ∙ g .same;
-            rest = g .rest ∙ ap (λ q. i + taken (length l - made) s q) (drop-cons piece i 0 here) ∙ ap (λ k. i + k) (taken-on (length l - made) s (getD piece i 0) (drop (suc i) piece) e) ∙ rw (add-one, room) (regroup i _);
+            rest = g .rest ∙ ap (λ q. i + taken (length l - made) s q) (drop-cons piece i 0 here)
+                ∙ ap (λ k. i + k) (taken-on (length l - made) s (getD piece i 0) (drop (suc i) piece) e)
+                ∙ rw (add-one, room) (regroup i _);
           }
         where
           one : take (i + 1) piece ≡ take i piece ++ (getD piece i 0 ∷ [])
@@ -130,14 +141,17 @@ module _ (line : Line) (piece l : List ℕ) where
           let f = ne-eqb (getD piece i 0) NEWLINE e in
           rw f at (goes {m′ = m} {made′ = made} (rw f) (rw f (nothing-put made m)) (g .fits))
 
-      pub closes : {m′ : List ℕ} {made′ : ℕ} → getD piece i 0 ≡ NEWLINE → MOST ≤ length m - made → Puts (closing s) made m m′ made′ → made′ ≤ made + MOST → Going m′ (nextLine s) (i + 1) made′
+      pub closes : {m′ : List ℕ} {made′ : ℕ} → getD piece i 0 ≡ NEWLINE → MOST ≤ length m - made
+          → Puts (closing s) made m m′ made′ → made′ ≤ made + MOST → Going m′ (nextLine s) (i + 1) made′
       unfolding step says
       closes {m′} {made′} e h p b =
           let f = eq-eqb (getD piece i 0) NEWLINE e in
-          rw f at (goes {m′ = m′} {made′ = made′} (rw (f, le-ltb (length l - made) MOST (omega (arith, g .same)))) (rw f p) (omega (arith, g .same, g .fits)))
+          rw f at (goes {m′ = m′} {made′ = made′} (rw (f, le-ltb (length l - made) MOST (omega (arith, g .same))))
+          (rw f p) (omega (arith, g .same, g .fits)))
 
 -- a run that has room for a line takes something
-pub takes : {line : Line} {piece l m : List ℕ} {r : Progress} → Ran line piece l m r → MOST ≤ length l → 0 < length piece → 0 < r .taken
+pub takes : {line : Line} {piece l m : List ℕ} {r : Progress} → Ran line piece l m r → MOST ≤ length l
+    → 0 < length piece → 0 < r .taken
 takes {line} {piece} {l} t h b = rw (t .took) (go piece b)
   where
     go : (piece : List ℕ) → 0 < length piece → 0 < taken (length l) line piece

@@ -1,4 +1,5 @@
--- What is printed for any input (document 01, 'The listing'), over bytes; and what a streaming reader of it does with its pieces.
+-- What is printed for any input (document 01, 'The listing'), over bytes; and what a streaming reader of it does with
+-- its pieces.
 pub mod Text
 pub mod Request
 pub mod Listing

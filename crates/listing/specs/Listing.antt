@@ -1,5 +1,6 @@
--- What is printed (document 01, 'The listing'): `polynomials`, then for each line the letter, n, code, degree, additions, height, gain, a colon, and on
--- code 0 the coefficients, with one space between items; for any line that is not good, `?`, a space and its number, counted from 1.
+-- What is printed (document 01, 'The listing'): `polynomials`, then for each line the letter, n, code, degree,
+-- additions, height, gain, a colon, and on code 0 the coefficients, with one space between items; for any line that is
+-- not good, `?`, a space and its number, counted from 1.
 use Prim.Native.Nat.{ℕ, suc}
 use mathlib.Core.Bool.{cond}
 use mathlib.Core.List.{List, [], _∷_, _++_}

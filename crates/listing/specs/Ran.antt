@@ -1,4 +1,5 @@
--- What a run over a piece of input has done: how much it took, the line it left open, and what it put at the start of the buffer.
+-- What a run over a piece of input has done: how much it took, the line it left open, and what it put at the start of
+-- the buffer.
 use Prim.Native.Nat.{ℕ, _≤_}
 use mathlib.Core.Path.{_≡_}
 use mathlib.Core.List.{List}

@@ -1,5 +1,5 @@
--- A line is good where it is F or I, a space, n, a space and h, each number 1 to 9 digits, leading zeros allowed, and nothing else. A line is its
--- bytes, without the newline.
+-- A line is good where it is F or I, a space, n, a space and h, each number 1 to 9 digits, leading zeros allowed, and
+-- nothing else. A line is its bytes, without the newline.
 use Prim.Native.Nat.{ℕ, _+_, _*_, _-_}
 use mathlib.Core.Bool.{Bool, true, false, cond, _&&_}
 use mathlib.Core.List.{List, [], _∷_}

@@ -1,5 +1,6 @@
--- The listing piece by piece. Of the line that is being read at most 40 bytes are kept, for a longer line is not good; its length stops at 41.
--- What pieces of input come, and where the output is cut, makes no difference (proofs/, `Whole`).
+-- The listing piece by piece. Of the line that is being read at most 40 bytes are kept, for a longer line is not good;
+-- its length stops at 41. What pieces of input come, and where the output is cut, makes no difference (proofs/,
+-- `Whole`).
 use Prim.Native.Nat.{ℕ, _+_, _-_, _%_, _^_}
 use mathlib.Core.Bool.{cond, _&&_}
 use mathlib.Core.List.{List, [], _∷_, _++_}
@@ -51,11 +52,13 @@ printed s (b ∷ bs) = says s b ++ printed (step s b) bs
 unfoldable pub ending : Line → List ℕ
 ending s = cond (eqb (s .length) 0) [] (closing s)
 
--- a line's bytes are never more: letter, six numbers of at most 21 bytes with their spaces, colon, coefficients of at most 22, newline
+-- a line's bytes are never more: letter, six numbers of at most 21 bytes with their spaces, colon, coefficients of at
+-- most 22, newline
 abbrev pub MOST : ℕ
 MOST = 90242
 
--- how many bytes of input are taken where there is room for so many bytes of output: all before the first newline whose line may not fit
+-- how many bytes of input are taken where there is room for so many bytes of output: all before the first newline whose
+-- line may not fit
 unfoldable pub taken : ℕ → Line → List ℕ → ℕ
 taken room s [] = 0
 taken room s (b ∷ bs) =

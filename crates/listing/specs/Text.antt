@@ -1,4 +1,5 @@
--- Numbers as text: decimal digits without leading zeros, a minus sign before a negative number, one space before each item. Bytes are ASCII.
+-- Numbers as text: decimal digits without leading zeros, a minus sign before a negative number, one space before each
+-- item. Bytes are ASCII.
 use Prim.Native.Nat.{ℕ, zero, suc, _+_, _/_, _%_}
 use mathlib.Core.Bool.{cond}
 use mathlib.Core.List.{List, [], _∷_, _++_}

@@ -1,5 +1,5 @@
-// The listing (document 01, 'The listing'): bytes of lines in, bytes of answers out. `read` takes a line apart, `text` writes numbers, `reply` the
-// line that answers a line, and `stream` goes through an input that comes in pieces.
+// The listing (document 01, 'The listing'): bytes of lines in, bytes of answers out. `read` takes a line apart, `text`
+// writes numbers, `reply` the line that answers a line, and `stream` goes through an input that comes in pieces.
 
 mod read;
 mod reply;
@@ -23,14 +23,16 @@ pub struct Request {
     pub h: u64,
 }
 
-// The line that is being read: its first 40 bytes, its length (41 for all longer ones) and its number among the input lines.
+// The line that is being read: its first 40 bytes, its length (41 for all longer ones) and its number among the input
+// lines.
 pub struct Line {
     pub bytes: [u8; 40],
     pub length: usize,
     pub number: u64,
 }
 
-// How far a run has come: the line that is left open, how many bytes of input were taken, and how many of output were made.
+// How far a run has come: the line that is left open, how many bytes of input were taken, and how many of output were
+// made.
 pub struct Progress {
     pub line: Line,
     pub taken: usize,

@@ -51,7 +51,8 @@ fn put_head(out: &mut [u8], at: usize, kind: u64, n: u64, a: Answer) -> usize
 fn put_tail(out: &mut [u8], at: usize, a: Answer, entries: &[i64]) -> usize
     requires { ⌜ at + 22 * length (now entries) < length (now out) ⌝ }
     requires { ⌜ (a .code ≡ 0 → a .degree < length (now entries)) ⌝ }
-    ensures { λ r. ⌜ Puts (tailOf a (take (a .degree + 1) (now (entries .entry)))) at (now (out .entry)) (now (out .exit)) r ⌝ }
+    ensures { λ r.
+        ⌜ Puts (tailOf a (take (a .degree + 1) (now (entries .entry)))) at (now (out .entry)) (now (out .exit)) r ⌝ }
     ensures { λ r. ⌜ r ≤ at + 22 * length (now (entries .entry)) + 1 ⌝ }
 {
     let code = a.code;
@@ -94,9 +95,12 @@ pub(crate) fn put_reply(
     put_tail(out, p, a, entries)
 }
 
-// The reply to one line at the start of `out`, where there is room for any; no reply is empty, so 0 says that there was none.
+// The reply to one line at the start of `out`, where there is room for any; no reply is empty, so 0 says that there was
+// none.
 pub fn answer_line(line: &[u8], number: u64, out: &mut [u8]) -> usize
-    ensures { λ r. ⌜ Puts (cond (ltb (length (now (out .entry))) Most) [] (reply number (now (line .entry)))) 0 (now (out .entry)) (now (out .exit)) r ⌝ }
+    ensures { λ r.
+        ⌜ Puts (cond (ltb (length (now (out .entry))) Most) [] (reply number (now (line .entry)))) 0 (now (out .entry))
+        (now (out .exit)) r ⌝ }
 {
     if out.len() < MOST {
         return 0;

@@ -1,4 +1,5 @@
-// The listing of an input that comes in pieces, made in pieces: what is kept between them is the line that is being read.
+// The listing of an input that comes in pieces, made in pieces: what is kept between them is the line that is being
+// read.
 
 ghost use mathlib.Core.Path.{_≡_};
 ghost use mathlib.Core.Bool.{cond};
@@ -21,7 +22,8 @@ const HEADING: [u8; 12] = *b"polynomials\n";
 
 // `polynomials` and a newline, where there is room for it.
 pub fn heading(out: &mut [u8]) -> usize
-    ensures { λ r. ⌜ Puts (cond (ltb (length (now (out .entry))) 12) [] theHeading) 0 (now (out .entry)) (now (out .exit)) r ⌝ }
+    ensures { λ r.
+        ⌜ Puts (cond (ltb (length (now (out .entry))) 12) [] theHeading) 0 (now (out .entry)) (now (out .exit)) r ⌝ }
     ensures { λ r. ⌜ r ≤ length (now (out .entry)) ⌝ }
 {
     if out.len() < 12 {
@@ -127,7 +129,8 @@ fn run_with(line: Line, piece: &[u8], out: &mut [u8], entries: &mut [i64]) -> Pr
     }
 }
 
-// Goes through a piece of input, up to its end or to a newline for whose line there may be no room, and writes from the start of `out`.
+// Goes through a piece of input, up to its end or to a newline for whose line there may be no room, and writes from the
+// start of `out`.
 pub fn run(line: Line, piece: &[u8], out: &mut [u8]) -> Progress
     ensures { λ r. ⌜ Ran line (now (piece .entry)) (now (out .entry)) (now (out .exit)) r ⌝ }
 {

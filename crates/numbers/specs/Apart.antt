@@ -1,16 +1,20 @@
--- How n is taken apart: r is the product of the distinct odd primes of n, m has the primes of n, and n = m t. r is odd and
--- squarefree, and such numbers are their own r. Also the inductions that the theory of F and I goes by.
+-- How n is taken apart: r is the product of the distinct odd primes of n, m has the primes of n, and n = m t. r is odd
+-- and squarefree, and such numbers are their own r. Also the inductions that the theory of F and I goes by.
 use Prim.Native.Nat.{ℕ, _*_, _/_, _<_, _∣_}
 use mathlib.Core.Path.{_≡_, refl, sym, ap, _∙_}
 use mathlib.Core.Bool.{true}
 use mathlib.Core.Logic.{_≢_, ⊎-elim}
-use native.Mathlib.Nat.{dvd-trans, dvd-refl, dvd-mul-left, dvd-mul-right, dvd-mul-left-of-dvd, dvd-mul-right-of-dvd, mul-dvd-mul, mul-div-cancel', mul-comm, mul-one, mul-pos, mul-assoc, le-of-dvd, pos-of-dvd-of-pos, eq-or-lt-of-le, eq-one-of-dvd-one}
+use native.Mathlib.Nat.{dvd-trans, dvd-refl, dvd-mul-left, dvd-mul-right, dvd-mul-left-of-dvd, dvd-mul-right-of-dvd}
+use native.Mathlib.Nat.{mul-dvd-mul, mul-div-cancel', mul-comm, mul-one, mul-pos, mul-assoc, le-of-dvd}
+use native.Mathlib.Nat.{pos-of-dvd-of-pos, eq-or-lt-of-le, eq-one-of-dvd-one}
 use native.Mathlib.Decide.{ℕ-discrete, decDvd}
 use native.Mathlib.Omega.{arith}
 use Rattle.definitions.specs.Numbers.{oddPrimeOf, rOf, mOf, tOf}
 use Rattle.numbers.specs.Tests.{Tests, test-and, test-not, test-eq, test-divides, divides-yes, divides-no}
-use Rattle.numbers.specs.Primes.{prime-two, Prime, prime-pos, prime-same, prime-divisor, test-prime, euclid, by-primes, quotient-divides, quotient-pos}
-use Rattle.numbers.specs.Products.{squarefree-times, times-divides, prime-in-product, picked-in-product, product-pos, product-squarefree, product-divides}
+use Rattle.numbers.specs.Primes.{prime-two, Prime, prime-pos, prime-same, prime-divisor, test-prime, euclid}
+use Rattle.numbers.specs.Primes.{by-primes, quotient-divides, quotient-pos}
+use Rattle.numbers.specs.Products.{squarefree-times, times-divides, prime-in-product, picked-in-product}
+use Rattle.numbers.specs.Products.{product-pos, product-squarefree, product-divides}
 
 pub record OddSquarefree (r : ℕ) : Type 0 where
   pub pos : 0 < r
@@ -29,7 +33,8 @@ module _ (n : ℕ) where
   pub r-prime : (p : ℕ) → Prime p → p ∣ rOf n → (p ∣ n) × (p ≢ 2)
   unfolding rOf
   r-prime p P d =
-      let h : (Prime p × (p ∣ n)) × (p ≢ 2) = test-odd-prime n p .shows (prime-in-product (oddPrimeOf n) odd-primes n p P d .1) in
+      let h : (Prime p × (p ∣ n)) × (p ≢ 2) =
+      test-odd-prime n p .shows (prime-in-product (oddPrimeOf n) odd-primes n p P d .1) in
       (h .0 .1, h .1)
 
   pub prime-r : 0 < n → (p : ℕ) → Prime p → p ∣ n → p ≢ 2 → p ∣ rOf n
@@ -95,11 +100,13 @@ pub by-repeats :
     → Q (m * t)
 by-repeats Q m l q more = by-primes (λ t. ((p : ℕ) → Prime p → p ∣ t → p ∣ m) → Q (m * t)) (λ h. rw (mul-one m) q)
     (λ n p u P ih h. rw (mul-assoc m n p) at
-    (more (m * n) p (mul-pos l u) P (dvd-mul-right-of-dvd p (h p P (dvd-mul-left p n)) n) (ih (λ x X d. h x X (dvd-mul-right-of-dvd x d p)))))
+    (more (m * n) p (mul-pos l u) P (dvd-mul-right-of-dvd p (h p P (dvd-mul-left p n)) n)
+    (ih (λ x X d. h x X (dvd-mul-right-of-dvd x d p)))))
 
 -- an odd squarefree number is its own r: a prime of r / rOf r would divide rOf r too
 pub r-own : (r : ℕ) → OddSquarefree r → rOf r ≡ r
-r-own r O = ⊎-elim (λ e. sym (mul-one (rOf r)) ∙ (ap (λ c. rOf r * c) e ∙ whole)) (λ a. absurd (none a)) (eq-or-lt-of-le (quotient-pos (rOf r) r (O .pos) (r-divides r)))
+r-own r O = ⊎-elim (λ e. sym (mul-one (rOf r)) ∙ (ap (λ c. rOf r * c) e ∙ whole)) (λ a. absurd (none a))
+    (eq-or-lt-of-le (quotient-pos (rOf r) r (O .pos) (r-divides r)))
   where
     whole : rOf r * (r / rOf r) ≡ r
     whole = mul-div-cancel' (rOf r) (r-divides r)
@@ -149,7 +156,8 @@ by-odd-primes Q one more r O = by-primes (λ n. OddSquarefree n → Q n) (λ o. 
   where
     step : (n p : ℕ) → 0 < n → Prime p → (OddSquarefree n → Q n) → OddSquarefree (n * p) → Q (n * p)
     step n p l P ih o =
-        more n p below P (λ e. o .odd (rw e (dvd-mul-left 2 n))) (λ d. o .squarefree p P (mul-dvd-mul p p d (dvd-refl p))) (ih below)
+        more n p below P (λ e. o .odd (rw e (dvd-mul-left 2 n)))
+        (λ d. o .squarefree p P (mul-dvd-mul p p d (dvd-refl p))) (ih below)
       where
         below : OddSquarefree n
         below = odd-squarefree-divisor n (n * p) o (dvd-mul-right n p)

@@ -1,5 +1,5 @@
--- Up to 65,535 no number has six odd primes: the product of j different odd numbers above 1 is at least 3 · 5 · .. · (2 j + 1), and
--- 3 · 5 · 7 · 9 · 11 · 13 is 135,135.
+-- Up to 65,535 no number has six odd primes: the product of j different odd numbers above 1 is at least 3 · 5 · .. · (2
+-- j + 1), and 3 · 5 · 7 · 9 · 11 · 13 is 135,135.
 use Prim.Native.Nat.{ℕ, zero, suc, _+_, _*_, _-_, _%_, _≤_, _<_, _∣_}
 use mathlib.Core.Path.{_≡_, refl}
 use mathlib.Core.Bool.{Bool, true}
@@ -63,4 +63,10 @@ k-at-most-5 (suc n) l = go (decLe (kOf (suc n)) 5)
     go (no h) =
         let j : ℕ = kOf (suc n) - 6 in
         let whole : 6 + j ≡ kOf (suc n) = omega arith in
-        omega (arith, six, rw whole at (odds-up 6 j), odds-least (oddPrimeOf (suc n)) (odd-prime-odd (suc n)) (suc n), le-of-dvd (omega arith) (r-divides (suc n)))
+        omega (
+          arith,
+          six,
+          rw whole at (odds-up 6 j),
+          odds-least (oddPrimeOf (suc n)) (odd-prime-odd (suc n)) (suc n),
+          le-of-dvd (omega arith) (r-divides (suc n)),
+        )

@@ -1,5 +1,5 @@
--- The divisors of an odd squarefree r: 2^k of them, k the number of its primes, so 2^k - 1 below r; and the additions, a sum over
--- these divisors in which each term is at most D + 1.
+-- The divisors of an odd squarefree r: 2^k of them, k the number of its primes, so 2^k - 1 below r; and the additions,
+-- a sum over these divisors in which each term is at most D + 1.
 use Prim.Native.Nat.{ℕ, suc, _+_, _*_, _-_, _^_, _≤_, _∣_}
 use mathlib.Core.Path.{_≡_, refl, sym, ap, _∙_}
 use mathlib.Core.Bool.{Bool, true, false, cond, _&&_}
@@ -27,7 +27,12 @@ divisors-double :
     (r p : ℕ) → OddSquarefree r → Prime p → ¬ (p ∣ r)
     → countTo (r * p) (λ d. divides d (r * p)) ≡ 2 * countTo r (λ d. divides d r)
 divisors-double r p O P no-p =
-    omega (arith, count-fold (r * p) (λ d. divides d (r * p)), count-fold r (λ d. divides d r), split-new sums (λ d. 1) P r (O .pos) no-p)
+    omega (
+      arith,
+      count-fold (r * p) (λ d. divides d (r * p)),
+      count-fold r (λ d. divides d r),
+      split-new sums (λ d. 1) P r (O .pos) no-p,
+    )
 
 divisors-one : countTo 1 (λ d. divides d 1) ≡ 1
 unfolding countTo divides
@@ -36,7 +41,8 @@ divisors-one = refl
 pub divisor-count : (r : ℕ) → OddSquarefree r → countTo r (λ d. divides d r) ≡ 2 ^ kOf r
 divisor-count =
     by-odd-primes (λ r. countTo r (λ d. divides d r) ≡ 2 ^ kOf r) (rw k-one divisors-one)
-    (λ r p O P u no-p ih. rw (k-times r p (O .pos) P u no-p, add-one) (omega (arith, divisors-double r p O P no-p, pow-suc 2 (kOf r))))
+    (λ r p O P u no-p ih. rw (k-times r p (O .pos) P u no-p, add-one)
+    (omega (arith, divisors-double r p O P no-p, pow-suc 2 (kOf r))))
 
 pub divisors-below : (r : ℕ) → OddSquarefree r → length (divisorsBelow r) + 1 ≡ 2 ^ kOf r
 unfolding divisorsBelow
@@ -61,7 +67,9 @@ pub additions-all : (kind r : ℕ) → additionsAfter kind r (length (divisorsBe
 unfolding additionsAfter additions divisorsBelow
 additions-all kind r =
     ap (λ l. sumOf (map term l)) (take-length (divisorsBelow r))
-    ∙ (list-sum (λ d. divides d r) term (r - 1) ∙ (fold-same sums (r - 1) (λ d a b. test-more (divides d r) (leb d (halfDegree kind r)) (term d) (above d)) ∙ sym (list-sum _ term (r - 1))))
+    ∙ (list-sum (λ d. divides d r) term (r - 1)
+    ∙ (fold-same sums (r - 1) (λ d a b. test-more (divides d r) (leb d (halfDegree kind r)) (term d) (above d))
+    ∙ sym (list-sum _ term (r - 1))))
   where
     term : ℕ → ℕ
     term d = halfDegree kind r + 1 - d
@@ -73,5 +81,6 @@ pub additions-at-most : (kind r : ℕ) → OddSquarefree r → additions kind r 
 unfolding additionsAfter
 additions-at-most kind r O =
     rw (sym (additions-all kind r), take-length (divisorsBelow r))
-    (le-trans (sum-at-most (λ d. halfDegree kind r + 1 - d) (halfDegree kind r + 1) (λ x. omega arith) (divisorsBelow r))
+    (le-trans (sum-at-most (λ d. halfDegree kind r + 1 - d) (halfDegree kind r + 1) (λ x. omega arith)
+    (divisorsBelow r))
     (mul-le-mul-right (halfDegree kind r + 1) (omega (arith, divisors-below r O))))

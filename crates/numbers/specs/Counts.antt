@@ -1,13 +1,15 @@
--- `countTo` and `productOfTo` are folds, in the sums and in the products of numbers; what a count is at least and at most; and
--- the sum over k periods.
+-- `countTo` and `productOfTo` are folds, in the sums and in the products of numbers; what a count is at least and at
+-- most; and the sum over k periods.
 use Prim.Native.Nat.{ℕ, zero, suc, _+_, _*_, _≤_, _<_}
 use mathlib.Core.Path.{_≡_, refl, sym, ap, ap₂, _∙_}
 use mathlib.Core.Bool.{Bool, true, false, cond, not, _&&_}
 use mathlib.Core.Logic.{⊎-elim, _≢_}
-use native.Mathlib.Nat.{add-assoc, add-comm, add-zero, add-suc, le-refl, zero-add, mul-assoc, mul-comm, one-mul, mul-one, mul-zero, zero-mul, le-suc-iff}
+use native.Mathlib.Nat.{add-assoc, add-comm, add-zero, add-suc, le-refl, zero-add, mul-assoc, mul-comm, one-mul}
+use native.Mathlib.Nat.{mul-one, mul-zero, zero-mul, le-suc-iff}
 use native.Mathlib.Omega.{arith}
 use Rattle.definitions.specs.Numbers.{countTo, productOfTo}
-use Rattle.numbers.specs.Folds.{fold-further, fold-one, fold-by, only-off, Monoid, foldTo, only, fold-zero, fold-same, fold-add}
+use Rattle.numbers.specs.Folds.{fold-further, fold-one, fold-by, only-off, Monoid, foldTo, only, fold-zero}
+use Rattle.numbers.specs.Folds.{fold-same, fold-add}
 
 abbrev pub sums : Monoid ℕ
 sums = record { op = _+_; unit = 0; assoc = add-assoc; comm = add-comm; unit-left = zero-add }
@@ -100,4 +102,5 @@ pub sum-periods :
 sum-periods g n e zero = rw (mul-zero n, fold-zero, zero-mul) refl
 sum-periods g n e (suc k) =
     ap (foldTo sums g) (omega arith)
-    ∙ (fold-add sums g n (n * k) ∙ (ap (λ x. foldTo sums g n + x) (fold-same sums (n * k) (λ d l u. e d l) ∙ sum-periods g n e k) ∙ omega arith))
+    ∙ (fold-add sums g n (n * k)
+    ∙ (ap (λ x. foldTo sums g n + x) (fold-same sums (n * k) (λ d l u. e d l) ∙ sum-periods g n e k) ∙ omega arith))

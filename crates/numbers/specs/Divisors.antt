@@ -1,9 +1,11 @@
--- The divisors of n p, for a prime p: those of n, and the p e with e a divisor of n where p e is none. Said of a fold over the divisors,
--- in any commutative monoid: it carries the number theory of F, I and phi.
+-- The divisors of n p, for a prime p: those of n, and the p e with e a divisor of n where p e is none. Said of a fold
+-- over the divisors, in any commutative monoid: it carries the number theory of F, I and phi.
 use Prim.Native.Nat.{ℕ, _*_, _/_, _<_, _∣_}
 use mathlib.Core.Path.{_≡_, ap, ap₂, _∙_}
 use mathlib.Core.Bool.{cond, not, and-true, _&&_}
-use native.Mathlib.Nat.{dvd-trans, mul-div-assoc, mul-div-mul-left, dvd-mul-right, dvd-mul-right-of-dvd, dvd-of-mul-dvd-mul-left, mul-dvd-mul-left, mul-comm, le-mul-of-pos-right, le-of-dvd, not-le-of-lt}
+use native.Mathlib.Nat.{dvd-trans, mul-div-assoc, mul-div-mul-left, dvd-mul-right, dvd-mul-right-of-dvd}
+use native.Mathlib.Nat.{dvd-of-mul-dvd-mul-left, mul-dvd-mul-left, mul-comm, le-mul-of-pos-right, le-of-dvd}
+use native.Mathlib.Nat.{not-le-of-lt}
 use Rattle.definitions.specs.Numbers.{divides}
 use Rattle.numbers.specs.Tests.{same, denies, test-and, test-not, test-divides, divides-no}
 use Rattle.numbers.specs.Primes.{quotient-divides, Prime, prime-pos, divides-without}
@@ -20,7 +22,8 @@ module _ {A : Type 0} (M : Monoid A) (g : ℕ → A) {p : ℕ} (P : Prime p) (n 
       foldTo M (only M (λ d. divides d (n * p) && divides d n) g) (n * p) ≡ foldTo M (only M (λ d. divides d n) g) n
   those-of-n =
       fold-same M (n * p)
-      (λ d l u. ap (λ b. cond b (g d) (M .unit)) (same (test-and (test-divides d (n * p)) (test-divides d n)) (test-divides d n) (λ h. h .1)
+      (λ d l u. ap (λ b. cond b (g d) (M .unit))
+      (same (test-and (test-divides d (n * p)) (test-divides d n)) (test-divides d n) (λ h. h .1)
       (λ h. (dvd-mul-right-of-dvd d h p, h))))
       ∙ fold-further M _ n (n * p) (le-mul-of-pos-right n (prime-pos P))
       (λ d l u. only-off M _ _ (divides-no d n (λ h. not-le-of-lt l (le-of-dvd pos h))))
@@ -30,9 +33,13 @@ module _ {A : Type 0} (M : Monoid A) (g : ℕ → A) {p : ℕ} (P : Prime p) (n 
       ≡ foldTo M (only M (λ e. divides e n && not (divides (p * e) n)) (λ e. g (p * e))) n
   the-others =
       fold-multiples M _ p (prime-pos P)
-      (λ d no-p. only-off M _ _ (denies (test-and (test-divides d (n * p)) (test-not (test-divides d n))) (λ h. h .1 (divides-without n d P no-p (h .0)))))
+      (λ d no-p. only-off M _ _
+      (denies (test-and (test-divides d (n * p)) (test-not (test-divides d n)))
+      (λ h. h .1 (divides-without n d P no-p (h .0)))))
       n
-      ∙ fold-same M n (λ e l u. ap (λ b. cond (b && not (divides (p * e) n)) (g (p * e)) (M .unit)) (divides-times p e n (prime-pos P)))
+      ∙ fold-same M n
+      (λ e l u. ap (λ b. cond (b && not (divides (p * e) n)) (g (p * e)) (M .unit))
+      (divides-times p e n (prime-pos P)))
 
   pub split :
       foldTo M (λ d. cond (divides d (n * p)) (g d) (M .unit)) (n * p)

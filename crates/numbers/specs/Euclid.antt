@@ -1,5 +1,5 @@
--- Euclid's algorithm as a derivation: `Gcd a b g` tells by which steps g is reached from a and b, so that a fact about the
--- greatest common divisor, of numbers or of what they index, is one induction on the derivation (`by-euclid`).
+-- Euclid's algorithm as a derivation: `Gcd a b g` tells by which steps g is reached from a and b, so that a fact about
+-- the greatest common divisor, of numbers or of what they index, is one induction on the derivation (`by-euclid`).
 use Prim.Native.Nat.{ℕ, zero, suc, _+_, _*_, _-_, _≤_, _<_, _∣_}
 use mathlib.Core.Path.{_≡_, refl}
 use native.Mathlib.Nat.{dvd-refl, dvd-zero, dvd-add, dvd-add-iff-right, pos-of-dvd-of-pos, mul-add, add-sub-of-le}

@@ -1,10 +1,11 @@
--- g(1) g(2) .. g(k) in a commutative monoid: taken apart at a place, by a test, or into two factors; taken further where only
--- units follow; and taken over the multiples of p where elsewhere only units stand.
+-- g(1) g(2) .. g(k) in a commutative monoid: taken apart at a place, by a test, or into two factors; taken further
+-- where only units follow; and taken over the multiples of p where elsewhere only units stand.
 use Prim.Native.Nat.{ℕ, zero, suc, _+_, _*_, _-_, _≤_, _<_, _∣_}
 use mathlib.Core.Path.{_≡_, refl, sym, ap, ap₂, _∙_}
 use mathlib.Core.Bool.{Bool, true, false, not, cond, _&&_}
 use mathlib.Core.Logic.{_≢_}
-use native.Mathlib.Nat.{add-zero, add-suc, suc-mul, zero-mul, dvd-mul-left, dvd-add-iff-right, le-of-dvd, add-sub-of-le, le-refl, le-antisymm}
+use native.Mathlib.Nat.{add-zero, add-suc, suc-mul, zero-mul, dvd-mul-left, dvd-add-iff-right, le-of-dvd, add-sub-of-le}
+use native.Mathlib.Nat.{le-refl, le-antisymm}
 use native.Mathlib.Omega.{arith}
 
 pub record Monoid (A : Type 0) : Type 0 where
@@ -71,7 +72,8 @@ module _ {A : Type 0} (M : Monoid A) where
       (g : ℕ → A) (m k : ℕ) → m ≤ k → ((d : ℕ) → m < d → d ≤ k → g d ≡ M .unit) → foldTo g k ≡ foldTo g m
   fold-further g m k l e =
       rw (add-sub-of-le l) at
-      (fold-add g m (k - m) ∙ (ap (M .op _) (fold-units (k - m) (λ d a b. e (m + d) (omega arith) (omega arith))) ∙ unit-right _))
+      (fold-add g m (k - m)
+      ∙ (ap (M .op _) (fold-units (k - m) (λ d a b. e (m + d) (omega arith) (omega arith))) ∙ unit-right _))
 
   -- all but one are units
   pub fold-one :
@@ -83,7 +85,8 @@ module _ {A : Type 0} (M : Monoid A) where
       ∙ (ap (λ x. M .op x (g (suc p))) (fold-units p (λ d a b. e d a (omega arith) (omega arith))) ∙ M .unit-left _)
 
   -- by a test: those where it is true, and those where it is false
-  only-by : (b c : Bool) (x : A) → cond b x (M .unit) ≡ M .op (cond (b && c) x (M .unit)) (cond (b && not c) x (M .unit))
+  only-by : (b c : Bool) (x : A) → cond b x (M .unit)
+      ≡ M .op (cond (b && c) x (M .unit)) (cond (b && not c) x (M .unit))
   only-by true true x = sym (unit-right x)
   only-by true false x = sym (M .unit-left x)
   only-by false c x = sym (M .unit-left (M .unit))
@@ -95,7 +98,8 @@ module _ {A : Type 0} (M : Monoid A) where
 
   -- over the multiples of p, where elsewhere only units stand
   pub fold-multiples :
-      (g : ℕ → A) (p : ℕ) → 0 < p → ((d : ℕ) → ¬ (p ∣ d) → g d ≡ M .unit) → (n : ℕ) → foldTo g (n * p) ≡ foldTo (λ e. g (p * e)) n
+      (g : ℕ → A) (p : ℕ) → 0 < p → ((d : ℕ) → ¬ (p ∣ d) → g d ≡ M .unit) → (n : ℕ)
+      → foldTo g (n * p) ≡ foldTo (λ e. g (p * e)) n
   fold-multiples g p l e zero = simp (zero-mul, fold-zero)
   fold-multiples g p l e (suc n) =
       rw (suc-mul n p, fold-add g (n * p) p, fold-suc _ n)

@@ -1,10 +1,11 @@
--- How many primes a number has, of those that a test S lets through: a new prime makes it one more. So mu changes its sign with each new prime,
--- and k, the number of odd primes, is that of r.
+-- How many primes a number has, of those that a test S lets through: a new prime makes it one more. So mu changes its
+-- sign with each new prime, and k, the number of odd primes, is that of r.
 use Prim.Native.Nat.{ℕ, _+_, _*_, _%_, _<_, _∣_}
 use mathlib.Core.Path.{_≡_, refl, sym, ap, ap₂, _∙_}
 use mathlib.Core.Bool.{Bool, true, false, not, and-true, _&&_}
 use mathlib.Core.Logic.{_≢_, ⊎-elim}
-use native.Mathlib.Nat.{dvd-mul-left, dvd-mul-right-of-dvd, le-of-dvd, le-mul-of-pos-right, not-le-of-lt, add-comm, mul-pos}
+use native.Mathlib.Nat.{dvd-mul-left, dvd-mul-right-of-dvd, le-of-dvd, le-mul-of-pos-right, not-le-of-lt, add-comm}
+use native.Mathlib.Nat.{mul-pos}
 use native.Mathlib.Omega.{arith}
 use lib.Dec.{eqb}
 use Rattle.definitions.specs.Numbers.{countTo, isPrime, divides, oddPrimeOf, rOf, kOf, primesOf, muIsPlus}
@@ -24,7 +25,14 @@ module _ (S : ℕ → Bool) (q p : ℕ) (l : 0 < q) (P : Prime p) (no-p : ¬ (p 
   all-but-p : (x : ℕ) → (chosen S (q * p) x && not (eqb x p)) ≡ chosen S q x
   all-but-p x =
       same (test-and (test-chosen S (q * p) x) (test-not (test-eq x p))) (test-chosen S q x)
-      (λ h. ((h .0 .0 .0, ⊎-elim (λ d. d) (λ d. absurd (h .1 (prime-same (h .0 .0 .0) P d))) (euclid q p (h .0 .0 .0) (h .0 .0 .1))), h .0 .1))
+      (λ h. (
+        (
+          h .0 .0 .0,
+          ⊎-elim (λ d. d) (λ d. absurd (h .1 (prime-same (h .0 .0 .0) P d)))
+              (euclid q p (h .0 .0 .0) (h .0 .0 .1)),
+        ),
+        h .0 .1,
+      ))
       (λ h. (((h .0 .0, dvd-mul-right-of-dvd x (h .0 .1) p), h .1), λ e. no-p (rw e at (h .0 .1))))
 
   p-itself : S p ≡ true → (chosen S (q * p) p && eqb p p) ≡ true
@@ -61,7 +69,8 @@ pub mu-times : (q p : ℕ) → 0 < q → Prime p → ¬ (p ∣ q) → muIsPlus (
 unfolding muIsPlus
 mu-times q p l P no-p =
     rw (primes-times q p l P no-p)
-    (same (test-eq ((primesOf q + 1) % 2) 0) (test-not (test-eq (primesOf q % 2) 0)) (λ e u. omega arith) (λ u. omega arith))
+    (same (test-eq ((primesOf q + 1) % 2) 0) (test-not (test-eq (primesOf q % 2) 0)) (λ e u. omega arith)
+    (λ u. omega arith))
 
 pub k-times : (q p : ℕ) → 0 < q → Prime p → p ≢ 2 → ¬ (p ∣ q) → kOf (q * p) ≡ kOf q + 1
 unfolding kOf oddPrimeOf

@@ -1,10 +1,12 @@
--- phi of n p for a prime p: the numbers coprime to n come in periods of n, so n p has p phi(n) of them; if p divides n these are
--- the numbers coprime to n p, else the multiples p e of p go, and there are phi(n) of those. Also bounds, and that phi is even above 2.
+-- phi of n p for a prime p: the numbers coprime to n come in periods of n, so n p has p phi(n) of them; if p divides n
+-- these are the numbers coprime to n p, else the multiples p e of p go, and there are phi(n) of those. Also bounds, and
+-- that phi is even above 2.
 use Prim.Native.Nat.{ℕ, zero, suc, _+_, _*_, _-_, _/_, _%_, _≤_, _<_, _∣_}
 use mathlib.Core.Path.{_≡_, refl, sym, ap, ap₂, _∙_}
 use mathlib.Core.Bool.{Bool, false, cond, not, and-false, _&&_}
 use mathlib.Core.Logic.{_≢_, _⊎_, inl, inr}
-use native.Mathlib.Nat.{dvd-trans, dvd-refl, dvd-mul-left, dvd-mul-right, dvd-mul-left-of-dvd, dvd-mul-right-of-dvd, dvd-add, dvd-add-iff-right, eq-one-of-dvd-one, mul-comm, mul-pos, le-of-dvd}
+use native.Mathlib.Nat.{dvd-trans, dvd-refl, dvd-mul-left, dvd-mul-right, dvd-mul-left-of-dvd, dvd-mul-right-of-dvd}
+use native.Mathlib.Nat.{dvd-add, dvd-add-iff-right, eq-one-of-dvd-one, mul-comm, mul-pos, le-of-dvd}
 use native.Mathlib.Decide.{decDvd, decLt}
 use native.Mathlib.Omega.{arith}
 use Rattle.definitions.specs.Numbers.{phi, shareFactor, divides, countTo, someTo}
@@ -46,7 +48,10 @@ module _ {p : ℕ} (P : Prime p) where
   free-multiple n e no-p l =
       same (test-and (test-coprime (p * e) n (mul-pos (prime-pos P) l)) (test-divides p (p * e))) (test-coprime e n l)
       (λ h c x y. h .0 c (dvd-mul-left-of-dvd c x p) y)
-      (λ h. (λ c x y. h c (divides-without e c P (λ z. no-p (dvd-trans p z y)) (rw (mul-comm p e) at x)) y, dvd-mul-right p e))
+      (λ h. (
+        λ c x y. h c (divides-without e c P (λ z. no-p (dvd-trans p z y)) (rw (mul-comm p e) at x)) y,
+        dvd-mul-right p e,
+      ))
 
 -- n + a is coprime to n where a is
 free-period : (n a : ℕ) → 0 < a → free n (n + a) ≡ free n a
@@ -66,11 +71,13 @@ phi-old n p P d =
 
 pub phi-new : (n p : ℕ) → Prime p → ¬ (p ∣ n) → phi (n * p) + phi n ≡ p * phi n
 unfolding counted
-phi-new n p P no-p = omega (arith, ap₂ _+_ multiples others, fold-by sums (free n) (divides p) (λ a. 1) (n * p), periods n p)
+phi-new n p P no-p =
+    omega (arith, ap₂ _+_ multiples others, fold-by sums (free n) (divides p) (λ a. 1) (n * p), periods n p)
   where
     multiples : foldTo sums (only sums (λ a. free n a && divides p a) (λ a. 1)) (n * p) ≡ phi n
     multiples =
-        fold-multiples sums _ p (prime-pos P) (λ d z. only-off sums _ _ (ap (λ b. free n d && b) (divides-no p d z) ∙ and-false (free n d))) n
+        fold-multiples sums _ p (prime-pos P)
+        (λ d z. only-off sums _ _ (ap (λ b. free n d && b) (divides-no p d z) ∙ and-false (free n d))) n
         ∙ (fold-same sums n (λ e l u. ap (λ b. cond b 1 0) (free-multiple P n e no-p l)) ∙ sym (phi-fold n))
 
     others : foldTo sums (only sums (λ a. free n a && not (divides p a)) (λ a. 1)) (n * p) ≡ phi (n * p)
@@ -99,11 +106,13 @@ phi-le n = count-le (free n) n
 pub phi-lt : (n : ℕ) → 1 < n → phi n < n
 unfolding phi
 phi-lt zero l = omega arith
-phi-lt (suc k) l = omega (arith, count-suc (free (suc k)) k, ap {B = ℕ} (λ b. cond b 1 0) itself, count-le (free (suc k)) k)
+phi-lt (suc k) l =
+    omega (arith, count-suc (free (suc k)) k, ap {B = ℕ} (λ b. cond b 1 0) itself, count-le (free (suc k)) k)
   where
     itself : free (suc k) (suc k) ≡ false
     itself =
-        denies (test-coprime (suc k) (suc k) (omega arith)) (λ h. omega (arith, h (suc k) (dvd-refl (suc k)) (dvd-refl (suc k))))
+        denies (test-coprime (suc k) (suc k) (omega arith))
+        (λ h. omega (arith, h (suc k) (dvd-refl (suc k)) (dvd-refl (suc k))))
 
 -- phi is even above 2: by the primes of n, since p - 1 is even for an odd p
 times-even : (a b : ℕ) → b % 2 ≡ 0 → a * b % 2 ≡ 0

@@ -1,4 +1,5 @@
--- n above 1 is prime exactly where phi(n) = n - 1: with n = q p for a prime p, phi(n) is at most p phi(q), and phi(q) is below q where q is above 1.
+-- n above 1 is prime exactly where phi(n) = n - 1: with n = q p for a prime p, phi(n) is at most p phi(q), and phi(q)
+-- is below q where q is above 1.
 use Prim.Native.Nat.{ℕ, suc, _+_, _*_, _-_, _/_, _≤_, _<_, _∣_}
 use mathlib.Core.Path.{_≡_, sym, ap, _∙_}
 use mathlib.Core.Logic.{_↔_, ⊎-elim}
@@ -13,8 +14,14 @@ use Rattle.numbers.specs.Phi.{phi-old, phi-new, phi-times, phi-one, phi-
 
 prime-has : (n : ℕ) → Prime n → phi n + 1 ≡ n
 prime-has n P =
-    omega
-    (arith, P .above, ap phi (one-mul n), phi-times 1 n P (λ d. omega (arith, P .above, eq-one-of-dvd-one d)), ap (λ x. x * (n - 1)) phi-one, one-mul (n - 1))
+    omega (
+      arith,
+      P .above,
+      ap phi (one-mul n),
+      phi-times 1 n P (λ d. omega (arith, P .above, eq-one-of-dvd-one d)),
+      ap (λ x. x * (n - 1)) phi-one,
+      one-mul (n - 1),
+    )
 
 times-le : (q p : ℕ) → Prime p → phi (q * p) ≤ p * phi q
 times-le q p P = go (decDvd p q)
@@ -42,4 +49,5 @@ prime-phi n l = (has-prime, prime-has n)
 -- the test by phi is the test by divisors
 pub prime-by-phi : (n : ℕ) → 1 < n → isPrime n ≡ eqb (phi n) (n - 1)
 prime-by-phi n l =
-    same (test-prime n) (test-eq (phi n) (n - 1)) (λ P. omega (arith, prime-phi n l .1 P)) (λ e. prime-phi n l .0 (omega arith))
+    same (test-prime n) (test-eq (phi n) (n - 1)) (λ P. omega (arith, prime-phi n l .1 P))
+    (λ e. prime-phi n l .0 (omega arith))

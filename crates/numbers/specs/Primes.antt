@@ -1,15 +1,17 @@
--- Primes and coprime numbers: what `isPrime` and `shareFactor` test, Euclid's lemma, a prime divisor of every number above 1,
--- and induction that goes from n to n p.
+-- Primes and coprime numbers: what `isPrime` and `shareFactor` test, Euclid's lemma, a prime divisor of every number
+-- above 1, and induction that goes from n to n p.
 use Prim.Native.Nat.{ℕ, _+_, _*_, _-_, _/_, _%_, _≤_, _<_, _∣_}
 use mathlib.Core.Path.{_≡_, refl, sym}
 use mathlib.Core.Bool.{not, _&&_}
 use lib.Dec.{ltb}
 use mathlib.Core.Logic.{_⊎_, inl, inr, ⊎-elim}
-use native.Mathlib.Nat.{dvd-refl, dvd-trans, dvd-mul-left, dvd-mul-right, mul-comm, mul-one, le-of-dvd, pos-of-dvd-of-pos, div-mul-cancel, div-lt-self, dvd-of-mod-eq-zero, eq-or-lt-of-le}
+use native.Mathlib.Nat.{dvd-refl, dvd-trans, dvd-mul-left, dvd-mul-right, mul-comm, mul-one, le-of-dvd}
+use native.Mathlib.Nat.{pos-of-dvd-of-pos, div-mul-cancel, div-lt-self, dvd-of-mod-eq-zero, eq-or-lt-of-le}
 use native.Mathlib.Decide.{ℕ-discrete, decDvd}
 use native.Mathlib.Omega.{arith}
 use Rattle.definitions.specs.Numbers.{isPrime, shareFactor, divides, someTo}
-use Rattle.numbers.specs.Tests.{Tests, Some, strong, decided, reads, test-and, test-not, test-some, test-lt, test-divides}
+use Rattle.numbers.specs.Tests.{Tests, Some, strong, decided, reads, test-and, test-not, test-some, test-lt}
+use Rattle.numbers.specs.Tests.{test-divides}
 use Rattle.numbers.specs.Euclid.{Gcd, gcd-of, gcd-divides, gcd-greatest}
 
 pub record Prime (p : ℕ) : Type 0 where

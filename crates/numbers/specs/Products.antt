@@ -1,10 +1,11 @@
--- The product of distinct primes: the primes of 1, .., k that a test picks. Its primes are those picked, it has no square of a
--- prime in it, and it divides whatever each of them divides.
+-- The product of distinct primes: the primes of 1, .., k that a test picks. Its primes are those picked, it has no
+-- square of a prime in it, and it divides whatever each of them divides.
 use Prim.Native.Nat.{ℕ, zero, suc, _*_, _/_, _≤_, _<_, _∣_}
 use mathlib.Core.Path.{_≡_, refl, sym}
 use mathlib.Core.Bool.{Bool, true, false, cond}
 use mathlib.Core.Logic.{⊎-elim}
-use native.Mathlib.Nat.{one-dvd, eq-one-of-dvd-one, dvd-trans, dvd-mul-left, dvd-mul-right, dvd-mul-right-of-dvd, dvd-of-mul-dvd-mul-right, mul-dvd-mul-left, mul-div-cancel', mul-one, mul-pos, le-suc-iff}
+use native.Mathlib.Nat.{one-dvd, eq-one-of-dvd-one, dvd-trans, dvd-mul-left, dvd-mul-right, dvd-mul-right-of-dvd}
+use native.Mathlib.Nat.{dvd-of-mul-dvd-mul-right, mul-dvd-mul-left, mul-div-cancel', mul-one, mul-pos, le-suc-iff}
 use native.Mathlib.Decide.{ℕ-discrete}
 use native.Mathlib.Omega.{arith}
 use Rattle.definitions.specs.Numbers.{productOfTo}
@@ -24,7 +25,8 @@ squarefree-times a x s X n p P d = go (ℕ-discrete x p)
   where
     go : Dec (x ≡ p) → ⊥
     go (yes e) = n (dvd-of-mul-dvd-mul-right x (prime-pos X) (rw (sym e) at d))
-    go (no u) = s p P (divides-without a (p * p) X (λ h. u (prime-same X P (⊎-elim (λ y. y) (λ y. y) (euclid p p X h)))) d)
+    go (no u) = s p P
+        (divides-without a (p * p) X (λ h. u (prime-same X P (⊎-elim (λ y. y) (λ y. y) (euclid p p X h)))) d)
 
 pub times-divides : {x : ℕ} (a n : ℕ) → Prime x → a ∣ n → x ∣ n → ¬ (x ∣ a) → a * x ∣ n
 times-divides {x} a n X d e u =
@@ -64,7 +66,8 @@ module _ (q : ℕ → Bool) (primes : (x : ℕ) → q x ≡ true → Prime x) wh
   pub picked-in-product : (k c : ℕ) → c ≤ k → q c ≡ true → c ∣ productOfTo k q
   picked-in-product k c u e =
       by-picks q (λ j a. c ≤ j → c ∣ a) (λ l. absurd (omega (arith, primes c e .above)))
-      (λ j y ih l. ⊎-elim (λ v. dvd-mul-right-of-dvd c (ih v) (suc j)) (λ v. rw v (dvd-mul-left (suc j) (productOfTo j q))) (le-suc-iff .0 l))
+      (λ j y ih l. ⊎-elim (λ v. dvd-mul-right-of-dvd c (ih v) (suc j))
+      (λ v. rw v (dvd-mul-left (suc j) (productOfTo j q))) (le-suc-iff .0 l))
       (λ j n ih l. ⊎-elim ih (λ v. absurd (not-both e (rw v n))) (le-suc-iff .0 l)) k u
 
   pub product-pos : (k : ℕ) → 0 < productOfTo k q

@@ -1,5 +1,6 @@
--- What the tests of the definitions tell. `Tests b A` says that the test b is true exactly where the fact A holds; tests made
--- of others by &&, not and someTo test the facts made likewise, and tests of equivalent facts are equal. Also strong induction.
+-- What the tests of the definitions tell. `Tests b A` says that the test b is true exactly where the fact A holds;
+-- tests made of others by &&, not and someTo test the facts made likewise, and tests of equivalent facts are equal.
+-- Also strong induction.
 use Prim.Native.Nat.{ℕ, zero, suc, _%_, _≤_, _<_, _∣_}
 use mathlib.Core.Path.{_≡_, refl, sym, ap}
 use mathlib.Core.Bool.{Bool, true, false, not, _&&_, _||_, true≢false, false≢true}

@@ -15,7 +15,8 @@ use Rattle.step_laws.specs.Firsts.{is-firsts}
 use Rattle.passes.specs.Passes.{Split, All, turnAt}
 
 -- an entry after a store at j: what was stored, or what stood there
-pub getD-set-by : (l : List ℤ) (j : ℕ) (v : ℤ) → j < length l → (k : ℕ) (x : ℤ) → (k ≡ j → v ≡ x) → ((k ≡ j → ⊥) → getD l k 0ℤ ≡ x) → getD (set l j v) k 0ℤ ≡ x
+pub getD-set-by : (l : List ℤ) (j : ℕ) (v : ℤ) → j < length l → (k : ℕ) (x : ℤ) → (k ≡ j → v ≡ x)
+    → ((k ≡ j → ⊥) → getD l k 0ℤ ≡ x) → getD (set l j v) k 0ℤ ≡ x
 getD-set-by l j v b k x same other =
     elim (ℕ-discrete k j) [
       | yes e ↦ ap (λ m. getD (set l j v) m 0ℤ) e ∙ getD-set-same l j v 0ℤ b ∙ same e
@@ -28,8 +29,10 @@ module _ {l : List ℤ} {n i : ℕ} {f g : Series} (s : Split l n i f g) (k j : 
   moved-up here next v e =
       record {
         len = length-set l k v ∙ s .len;
-        below = λ x h m. getD-set-by l k v (omega arith) x (f x) (λ q. e ∙ ap f (sym q)) (λ ne. s .below x (omega arith) m);
-        above = λ x h m. getD-set-by l k v (omega arith) x (g x) (λ q. absurd (never q h)) (λ ne. s .above x (omega arith) m);
+        below = λ x h m. getD-set-by l k v (omega arith) x (f x) (λ q. e ∙ ap f (sym q))
+            (λ ne. s .below x (omega arith) m);
+        above = λ x h m. getD-set-by l k v (omega arith) x (g x) (λ q. absurd (never q h))
+            (λ ne. s .above x (omega arith) m);
       }
     where
       never : {x : ℕ} → x ≡ k → j ≤ x → ⊥
@@ -39,15 +42,18 @@ module _ {l : List ℤ} {n i : ℕ} {f g : Series} (s : Split l n i f g) (k j : 
   moved-down here next v e =
       record {
         len = length-set l k v ∙ s .len;
-        below = λ x h m. getD-set-by l k v (omega arith) x (f x) (λ q. absurd (never q h)) (λ ne. s .below x (omega arith) m);
-        above = λ x h m. getD-set-by l k v (omega arith) x (g x) (λ q. e ∙ ap g (sym q)) (λ ne. s .above x (omega arith) m);
+        below = λ x h m. getD-set-by l k v (omega arith) x (f x) (λ q. absurd (never q h))
+            (λ ne. s .below x (omega arith) m);
+        above = λ x h m. getD-set-by l k v (omega arith) x (g x) (λ q. e ∙ ap g (sym q))
+            (λ ne. s .above x (omega arith) m);
       }
     where
       never : {x : ℕ} → x ≡ k → x < j → ⊥
       never q h = omega arith
 
 -- what a turn computes: the older entry of a sum is done already, those of a difference are both still to be done
-module _ {l : List ℤ} {n i : ℕ} {f g : Series} (s : Split l n i f g) (d k : ℕ) (one : 1 ≤ d) (h : d ≤ k) (b : k < n) where
+module _ {l : List ℤ} {n i : ℕ} {f g : Series} (s : Split l n i f g) (d k : ℕ) (one : 1 ≤ d) (h : d ≤ k)
+    (b : k < n) where
   pub plus-turn : i ≤ k → k < i + d → f k ≡ g k ⊕ f (k - d) → turnAt accumulate d l k ≡ f k
   plus-turn low high e = ap₂ _⊕_ (s .above k low b) (s .below (k - d) (omega arith) (omega arith)) ∙ sym e
 
@@ -62,7 +68,8 @@ pub all-below : {l : List ℤ} {n i : ℕ} {f g : Series} → Split l n i f g �
 all-below s h =
     record { len = s .len; below = λ k b m. s .below k (omega arith) m; above = λ k b m. s .below k (omega arith) m }
 
-pub all-above : {l : List ℤ} {n i : ℕ} {f g : Series} → Split l n i f g → ((k : ℕ) → k < i → k < n → f k ≡ g k) → All l n g
+pub all-above : {l : List ℤ} {n i : ℕ} {f g : Series} → Split l n i f g → ((k : ℕ) → k < i → k < n → f k ≡ g k)
+    → All l n g
 all-above {l} {n} {i} {g = g} s e =
     record {
       len = s .len;

@@ -38,9 +38,11 @@ module _ (P : ℕ → Type 0) (i k j : ℕ) (here : P k) where
 
 module _ {d : ℕ} {l m : List ℤ} {i : ℕ} (k : ℕ) (one : 1 ≤ d) (h : d ≤ k) (b : k < length l) where
   pub up-value : AccumulatedTo d l m i → k ≡ i → turnAt accumulate d m k ≡ accumulated d (entries l) k
-  up-value t here = plus-turn (t .split) d k one h b (omega arith) (omega arith) (accumulated-from d (entries l) k one h)
+  up-value t here = plus-turn (t .split) d k one h b (omega arith) (omega arith)
+      (accumulated-from d (entries l) k one h)
 
-  pub up-turn : AccumulatedTo d l m i → (j : ℕ) → k ≡ i → j ≡ k + 1 → inRange largest (turnAt accumulate d m k) ≡ true → SFits w64 (entries m k) → AccumulatedTo d l (set m k (turnAt accumulate d m k)) j
+  pub up-turn : AccumulatedTo d l m i → (j : ℕ) → k ≡ i → j ≡ k + 1 → inRange largest (turnAt accumulate d m k) ≡ true
+      → SFits w64 (entries m k) → AccumulatedTo d l (set m k (turnAt accumulate d m k)) j
   unfolding entries
   up-turn t j here next r f =
       record {
@@ -55,13 +57,15 @@ module _ {d : ℕ} {l m : List ℤ} {i : ℕ} (k : ℕ) (one : 1 ≤ d) (h : d �
             d
             (t .inside);
         fit =
-            one-up (λ x. SFits w64 (entries l x)) i k j (rw (t .split .above k (omega arith) b) at f) here next d (t .fit);
+            one-up (λ x. SFits w64 (entries l x)) i k j (rw (t .split .above k (omega arith) b) at f) here next d
+            (t .fit);
       }
 
   pub down-value : CombedTo d l m i → i ≡ k + 1 → turnAt comb d m k ≡ combed d (entries l) k
   down-value t here = minus-turn (t .split) d k one h b (omega arith) (combed-from d (entries l) k h)
 
-  pub down-turn : CombedTo d l m i → (j : ℕ) → i ≡ k + 1 → j ≡ k → inRange largest (turnAt comb d m k) ≡ true → SFits w64 (entries m k) → CombedTo d l (set m k (turnAt comb d m k)) j
+  pub down-turn : CombedTo d l m i → (j : ℕ) → i ≡ k + 1 → j ≡ k → inRange largest (turnAt comb d m k) ≡ true
+      → SFits w64 (entries m k) → CombedTo d l (set m k (turnAt comb d m k)) j
   unfolding entries
   down-turn t j here next r f =
       record {
@@ -76,7 +80,8 @@ module _ {d : ℕ} {l m : List ℤ} {i : ℕ} (k : ℕ) (one : 1 ≤ d) (h : d �
             (length l)
             (t .inside);
         fit =
-            one-down (λ x. SFits w64 (entries l x)) i k j (rw (t .split .below k (omega arith) b) at f) here next (length l)
+            one-down (λ x. SFits w64 (entries l x)) i k j (rw (t .split .below k (omega arith) b) at f) here next
+            (length l)
             (t .fit);
       }
 
@@ -85,7 +90,12 @@ module _ (d : ℕ) (l : List ℤ) (i : ℕ) where
   pub split-up : i ≡ d → Split l (length l) i (accumulated d (entries l)) (entries l)
   unfolding entries
   split-up e =
-      record { len = refl; below = λ k b s. sym (accumulated-below d (entries l) k (omega arith)); above = λ k b s. refl }
+      record {
+        len = refl;
+        below = λ k b s. sym (accumulated-below d (entries l) k (omega arith));
+        above =
+            λ k b s. refl;
+      }
 
   pub split-down : i ≡ length l → Split l (length l) i (entries l) (combed d (entries l))
   unfolding entries

@@ -1,5 +1,6 @@
--- A pass that came to its end is the step. One that stopped short shows a value out of range, and the opposite pass, from where it
--- stopped, gives back the old entries: a comb by adding what it took away, an accumulate by taking away what it added.
+-- A pass that came to its end is the step. One that stopped short shows a value out of range, and the opposite pass,
+-- from where it stopped, gives back the old entries: a comb by adding what it took away, an accumulate by taking away
+-- what it added.
 use mathlib.Core.Path.{_≡_, sym, _∙_, ap₂}
 use mathlib.Core.Bool.{true, false}
 use mathlib.Core.List.{List}
@@ -10,7 +11,8 @@ use lib.ListN.{length}
 use lib.IntN.{ℤ}
 use Rattle.definitions.specs.Integers.{_⊕_, _⊝_}
 use Rattle.definitions.specs.Series.{Series}
-use Rattle.definitions.specs.Steps.{Sort, comb, accumulate, combed, accumulated, stepped, inRange, largest, entries, stepList}
+use Rattle.definitions.specs.Steps.{Sort, comb, accumulate, combed, accumulated, stepped, inRange, largest, entries}
+use Rattle.definitions.specs.Steps.{stepList}
 use Rattle.step_laws.specs.Tests.{by-order}
 use Rattle.step_laws.specs.Firsts.{firsts-entries, firsts-same}
 use Rattle.step_laws.specs.Signed.{sub-add, add-sub}
@@ -22,12 +24,14 @@ use Rattle.passes.proofs.Below.{below-end, past-end, below-d}
 
 module _ (s : Sort) (d : ℕ) (l : List ℤ) where
   -- nothing was left out, and nothing is out of range
-  whole : {m : List ℤ} → All m (length l) (stepped s d (entries l)) → ((k : ℕ) → d ≤ k → k < length l → inRange largest (stepped s d (entries l) k) ≡ true) → Taken s d l m true
+  whole : {m : List ℤ} → All m (length l) (stepped s d (entries l))
+      → ((k : ℕ) → d ≤ k → k < length l → inRange largest (stepped s d (entries l) k) ≡ true) → Taken s d l m true
   unfolding stepList
   whole t inside = record { over = not-over-all s d l largest inside; leaves = all-firsts t }
 
   -- every entry is back, and one would be out of range
-  undone : {m : List ℤ} {f : Series} → All m (length l) f → ((k : ℕ) → k < length l → f k ≡ entries l k) → (r : ℕ) → d ≤ r → r < length l → inRange largest (stepped s d (entries l) r) ≡ false → Taken s d l m false
+  undone : {m : List ℤ} {f : Series} → All m (length l) f → ((k : ℕ) → k < length l → f k ≡ entries l k) → (r : ℕ)
+      → d ≤ r → r < length l → inRange largest (stepped s d (entries l) r) ≡ false → Taken s d l m false
   undone {f = f} t back r h b out =
       record {
         over = over-is s d l largest (record { at = r; from = h; below = b; outside = out });
@@ -75,12 +79,15 @@ module _ {d : ℕ} {l m : List ℤ} {r : ℕ} where
       (λ h. below-end d r (entries m) k low ∙ accumulate-back t one k h low))
       (λ high. past-end d r (entries m) k high ∙ t .split .above k high n)
 
-  pub comb-undone : CombedTo d l m r → 1 ≤ d → d < r → inRange largest (combed d (entries l) (r - 1)) ≡ false → {m′ : List ℤ} → All m′ (length m) (summed d r (entries m)) → Taken comb d l m′ false
+  pub comb-undone : CombedTo d l m r → 1 ≤ d → d < r → inRange largest (combed d (entries l) (r - 1)) ≡ false
+      → {m′ : List ℤ} → All m′ (length m) (summed d r (entries m)) → Taken comb d l m′ false
   unfolding stepped
   comb-undone t one h out u =
-      undone comb d l (rw (t .split .len) at u) (λ k b. comb-back t one (suc k) k (omega arith) b) (r - 1) (omega arith) (omega (arith, t .to)) out
+      undone comb d l (rw (t .split .len) at u) (λ k b. comb-back t one (suc k) k (omega arith) b) (r - 1) (omega arith)
+      (omega (arith, t .to)) out
 
-  pub accumulate-undone : AccumulatedTo d l m r → 1 ≤ d → r < length l → inRange largest (accumulated d (entries l) r) ≡ false → {m′ : List ℤ} → All m′ (length m) (combedBelow d r (entries m)) → Taken accumulate d l m′ false
+  pub accumulate-undone : AccumulatedTo d l m r → 1 ≤ d → r < length l → inRange largest (accumulated d (entries l) r)
+      ≡ false → {m′ : List ℤ} → All m′ (length m) (combedBelow d r (entries m)) → Taken accumulate d l m′ false
   unfolding stepped
   accumulate-undone t one h out u =
       undone accumulate d l (rw (t .split .len) at u) (all-back t one) r (t .from) h out

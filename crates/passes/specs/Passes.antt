@@ -1,5 +1,5 @@
--- How far a pass has got. `Split l n i f g`: the list l has n entries, those below i are f's and the others g's. An upward pass
--- has the new entries below, a downward pass the old ones.
+-- How far a pass has got. `Split l n i f g`: the list l has n entries, those below i are f's and the others g's. An
+-- upward pass has the new entries below, a downward pass the old ones.
 use Prim.Native.Nat.{ℕ, _+_, _-_, _<_, _≤_}
 use mathlib.Core.Bool.{Bool, true, cond, not}
 use mathlib.Core.Path.{_≡_}
@@ -11,7 +11,8 @@ use mir.Syntax.{w64}
 use mir.Val.{SFits}
 use Rattle.definitions.specs.Integers.{_⊕_, _⊝_, 0ℤ}
 use Rattle.definitions.specs.Series.{Series}
-use Rattle.definitions.specs.Steps.{Sort, comb, accumulate, combed, accumulated, inRange, largest, entries, stepOver, stepList}
+use Rattle.definitions.specs.Steps.{Sort, comb, accumulate, combed, accumulated, inRange, largest, entries, stepOver}
+use Rattle.definitions.specs.Steps.{stepList}
 
 -- what a turn makes of an entry x and the one y that stands d before it, and of the entry at i of a list
 abbrev pub turned : Sort → ℤ → ℤ → ℤ
@@ -45,7 +46,8 @@ fourAt l k v = set (set (set (set l k (v k)) (k + 1) (v (k + 1))) (k + 2) (v (k 
 unfoldable pub combedBelow : ℕ → ℕ → Series → Series
 combedBelow d end a k = cond (ltb k end) (combed d a k) (a k)
 
--- a comb of l that came down to r and left m; what is done is in range, and what was read fits, so that it can be put back
+-- a comb of l that came down to r and left m; what is done is in range, and what was read fits, so that it can be put
+-- back
 pub record CombedTo (d : ℕ) (l m : List ℤ) (r : ℕ) : Type 0 where
   pub from : d ≤ r
   pub to : r ≤ length l

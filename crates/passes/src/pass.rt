@@ -1,4 +1,5 @@
-// The passes of a step over a slice, in place: the tested one, which stops where a value would be out of range, and the one that undoes it.
+// The passes of a step over a slice, in place: the tested one, which stops where a value would be out of range, and the
+// one that undoes it.
 
 ghost use mathlib.Core.Path.{_≡_};
 ghost use mathlib.Core.Bool.{false};
@@ -12,8 +13,8 @@ use crate::Sort;
 use crate::turn::fits_at;
 use crate::turn::turn;
 
-// Where a pass over the entries from d to n - 1 works in its turn: a comb from the top down, so that the entry d before is still the old one; an
-// accumulate from the bottom up, so that it is already the new one.
+// Where a pass over the entries from d to n - 1 works in its turn: a comb from the top down, so that the entry d before
+// is still the old one; an accumulate from the bottom up, so that it is already the new one.
 fn from_top(turn: usize, d: usize, n: usize) -> usize
     requires { ⌜ turn + d < n ⌝ }
     ensures { λ r. ⌜ r ≡ n - 1 - turn ⌝ }
@@ -52,7 +53,8 @@ fn comb_down(a: &mut [i64], d: usize) -> usize
 fn accumulate_up(a: &mut [i64], d: usize) -> usize
     requires { ⌜ (1 ≤ d) × (d ≤ length (now a)) ⌝ }
     ensures { λ r. ⌜ AccumulatedTo d (now (a .entry)) (now (a .exit)) r ⌝ }
-    ensures { λ r. ⌜ (r < length (now (a .entry)) → inRange largest (accumulated d (entries (now (a .entry))) r) ≡ false) ⌝ }
+    ensures { λ r.
+        ⌜ (r < length (now (a .entry)) → inRange largest (accumulated d (entries (now (a .entry))) r) ≡ false) ⌝ }
 {
     let n = a.len();
     let turns = n - d;

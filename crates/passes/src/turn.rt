@@ -12,7 +12,8 @@ use crate::Sort;
 use crate::range::difference_fits;
 use crate::range::sum_fits;
 
-// What a turn of either sort makes of an entry x and the one y that stands d before it: whether it is in range, and the value.
+// What a turn of either sort makes of an entry x and the one y that stands d before it: whether it is in range, and the
+// value.
 fn turn_fits(sort: Sort, x: i64, y: i64) -> bool
     ensures { λ r. ⌜ r ≡ inRange largest (turned (sortMeans sort) x y) ⌝ }
 {
@@ -35,7 +36,9 @@ pub(crate) fn turn_value(sort: Sort, x: i64, y: i64) -> i64
 // The same at a place of the slice. That an entry fits its type is known where it is read, and an undoing needs it.
 pub(crate) fn fits_at(sort: Sort, a: &[i64], i: usize, d: usize) -> bool
     requires { ⌜ (d ≤ i) × (i < length (now a)) ⌝ }
-    ensures { λ r. ⌜ (r ≡ inRange largest (turnAt (sortMeans sort) d (now (a .entry)) i)) × SFits w64 (entries (now (a .entry)) i) ⌝ }
+    ensures { λ r.
+        ⌜ (r ≡ inRange largest (turnAt (sortMeans sort) d (now (a .entry)) i))
+        × SFits w64 (entries (now (a .entry)) i) ⌝ }
 {
     turn_fits(sort, a[i], a[i - d])
 }

@@ -1,5 +1,5 @@
-// The steps without a test of the range, where it is known that no value leaves it. They take four entries a turn, all read before
-// one is written, so that the compiler can take them as vectors.
+// The steps without a test of the range, where it is known that no value leaves it. They take four entries a turn, all
+// read before one is written, so that the compiler can take them as vectors.
 
 ghost use mathlib.Core.Path.{_≡_};
 ghost use mathlib.Core.Bool.{false};
@@ -39,7 +39,9 @@ fn four(sort: Sort, a: &mut [i64], k: usize, d: usize)
 fn comb_fours(a: &mut [i64], d: usize) -> usize
     requires { ⌜ (1 ≤ d) × (d ≤ length (now a)) × Fit d (length (now a)) (combed d (entries (now a))) ⌝ }
     ensures { λ r. ⌜ (d ≤ r) × (r ≤ length (now (a .entry))) ⌝ }
-    ensures { λ r. ⌜ Split (now (a .exit)) (length (now (a .entry))) r (entries (now (a .entry))) (combed d (entries (now (a .entry)))) ⌝ }
+    ensures { λ r.
+        ⌜ Split (now (a .exit)) (length (now (a .entry))) r (entries (now (a .entry)))
+        (combed d (entries (now (a .entry)))) ⌝ }
 {
     let mut i = a.len();
     while 4 <= i - d {
@@ -49,12 +51,14 @@ fn comb_fours(a: &mut [i64], d: usize) -> usize
     i
 }
 
-// An accumulate by fours, from d up. Where d is below four, one turn needs what another of the four makes; and up to some thirty it
-// needs what has only just been written, for which the processor waits. There none is taken.
+// An accumulate by fours, from d up. Where d is below four, one turn needs what another of the four makes; and up to
+// some thirty it needs what has only just been written, for which the processor waits. There none is taken.
 fn accumulate_fours(a: &mut [i64], d: usize) -> usize
     requires { ⌜ (1 ≤ d) × (d ≤ length (now a)) × Fit d (length (now a)) (accumulated d (entries (now a))) ⌝ }
     ensures { λ r. ⌜ (d ≤ r) × (r ≤ length (now (a .entry))) ⌝ }
-    ensures { λ r. ⌜ Split (now (a .exit)) (length (now (a .entry))) r (accumulated d (entries (now (a .entry)))) (entries (now (a .entry))) ⌝ }
+    ensures { λ r.
+        ⌜ Split (now (a .exit)) (length (now (a .entry))) r (accumulated d (entries (now (a .entry))))
+        (entries (now (a .entry))) ⌝ }
 {
     let mut i = d;
     if d < 32 {

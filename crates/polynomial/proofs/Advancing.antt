@@ -1,4 +1,5 @@
--- A step of the kept half: its start, what a step's answer tells where the size is good, and that the entries stay in range.
+-- A step of the kept half: its start, what a step's answer tells where the size is good, and that the entries stay in
+-- range.
 use Prim.Native.Nat.{ℕ, zero, suc, _-_, _<_, _≤_}
 use mathlib.Core.Path.{_≡_, refl, sym, _∙_, ap, ap₂}
 use mathlib.Core.Bool.{Bool, true, false, cond, not}
@@ -79,7 +80,8 @@ leaves-length s d l = go (eqb (stepCode largest s d l) DONE)
     go false = refl
 
 -- what is in range stays so where no value leaves it
-pub stays-inside : (s : Sort) (d : ℕ) (l : List ℤ) → Bounded largest (entries l) → stepOver largest s d l ≡ false → Bounded largest (entries (stepList s d l))
+pub stays-inside : (s : Sort) (d : ℕ) (l : List ℤ) → Bounded largest (entries l) → stepOver largest s d l ≡ false
+    → Bounded largest (entries (stepList s d l))
 unfolding entries
 stays-inside s d l h t k =
     by-order k (length l)
@@ -91,7 +93,8 @@ stays-inside s d l h t k =
 -- what a step's answer tells
 pub advanced :
     (s : Sort) (d : ℕ) (l m : List ℤ) (code : ℕ) → 1 ≤ d → d ≤ 65535 → Bounded largest (entries l)
-    → code ≡ stepCode largest s d l → m ≡ stepLeaves largest s d l → Advanced s d l m (record { over = not (eqb code DONE); bound = largest })
+    → code ≡ stepCode largest s d l → m ≡ stepLeaves largest s d l
+    → Advanced s d l m (record { over = not (eqb code DONE); bound = largest })
 advanced s d l m code one small h e f =
     record {
       over = told;

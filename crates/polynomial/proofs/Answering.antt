@@ -64,7 +64,8 @@ abbrev pub told-only : ℕ → ℕ → Answer
 told-only c d = record { code = c; degree = d; additions = 0; height = 0; gain = 0 }
 
 module _ (kind n : ℕ) (h : ℤ) (l : List ℤ) where
-  by-code : (c : ℕ) (a : Answer) (m : List ℤ) → a ≡ answered kind n c → m ≡ left kind n c l → code kind n h (length l) ≡ c → Answers kind n h a m l
+  by-code : (c : ℕ) (a : Answer) (m : List ℤ) → a ≡ answered kind n c → m ≡ left kind n c l → code kind n h (length l)
+      ≡ c → Answers kind n h a m l
   unfolding answer leaves
   by-code c a m p q e = (p ∙ ap (answered kind n) (sym e), q ∙ ap (λ x. left kind n x l) (sym e))
 
@@ -84,23 +85,34 @@ module _ (kind n : ℕ) (h : ℤ) (l : List ℤ) where
   unfolding answered left
   at-short = by-code SHORT (told-only SHORT (degree kind n)) l refl refl
 
-  at-over : code kind n h (length l) ≡ OVER → Answers kind n h (told-only OVER (degree kind n)) (written (zeros (suc (degree kind n))) l) l
+  at-over : code kind n h (length l) ≡ OVER
+      → Answers kind n h (told-only OVER (degree kind n)) (written (zeros (suc (degree kind n))) l) l
   unfolding answered left
   at-over = by-code OVER (told-only OVER (degree kind n)) (written (zeros (suc (degree kind n))) l) refl refl
 
-  at-tall : code kind n h (length l) ≡ TALL → Answers kind n h (told-only TALL (degree kind n)) (written (zeros (suc (degree kind n))) l) l
+  at-tall : code kind n h (length l) ≡ TALL
+      → Answers kind n h (told-only TALL (degree kind n)) (written (zeros (suc (degree kind n))) l) l
   unfolding answered left
   at-tall = by-code TALL (told-only TALL (degree kind n)) (written (zeros (suc (degree kind n))) l) refl refl
 
   at-done :
       code kind n h (length l) ≡ DONE
-      → Answers kind n h (record { code = DONE; degree = degree kind n; additions = additionsFor kind n; height = height kind n; gain = gain kind n }) (written (coefficients kind n) l) l
+      → Answers kind n h
+      (record {
+        code = DONE;
+        degree = degree kind n;
+        additions = additionsFor kind n;
+        height = height kind n;
+        gain =
+            gain kind n;
+      }) (written (coefficients kind n) l) l
   unfolding answered left
   at-done = by-code DONE _ (written (coefficients kind n) l) refl refl
 
   -- ---- after the making
   module _
-      (e : knownKind kind ≡ true) (f : goodIndex n ≡ true) (g : ltZ h (pos 1) ≡ false) (d : ℕ) (ed : d ≡ degree kind n) (room : d < length l)
+      (e : knownKind kind ≡ true) (f : goodIndex n ≡ true) (g : ltZ h (pos 1) ≡ false) (d : ℕ) (ed : d ≡ degree kind n)
+      (room : d < length l)
       (m : List ℤ) (r : Layout) (laid : Laid kind n h m r)
     where
       last-code : code kind n h (length l) ≡ r .code
@@ -110,7 +122,8 @@ module _ (kind n : ℕ) (h : ℤ) (l : List ℤ) where
       unfolding written
       in-front new len q = ap₂ (λ x k. x ++ drop k l) q (ap (λ x. x + 1) ed ∙ add-one (degree kind n) ∙ sym len)
 
-      two : (b t : Bool) → cond b OVER (cond t TALL DONE) ≢ DONE → (cond b OVER (cond t TALL DONE) ≡ OVER) ⊎ (cond b OVER (cond t TALL DONE) ≡ TALL)
+      two : (b t : Bool) → cond b OVER (cond t TALL DONE) ≢ DONE → (cond b OVER (cond t TALL DONE) ≡ OVER)
+          ⊎ (cond b OVER (cond t TALL DONE) ≡ TALL)
       two true t q = inl refl
       two false true q = inr refl
       two false false q = absurd (q refl)
@@ -119,30 +132,41 @@ module _ (kind n : ℕ) (h : ℤ) (l : List ℤ) where
       unfolding layCode
       which q =
           ⊎-elim (λ x. inl (laid .code ∙ x)) (λ x. inr (laid .code ∙ x))
-          (two (overAmong largest kind (rOf n) (divisorsDue (rOf n))) (ltZ h (pos (height kind n))) (λ x. q (laid .code ∙ x)))
+          (two (overAmong largest kind (rOf n) (divisorsDue (rOf n))) (ltZ h (pos (height kind n)))
+          (λ x. q (laid .code ∙ x)))
 
       zeroed : r .code ≢ DONE → m ++ drop (d + 1) l ≡ written (zeros (suc (degree kind n))) l
       unfolding zeros
       zeroed q =
           in-front (zeros (suc (degree kind n))) (length-replicate (suc (degree kind n)) 0ℤ)
-          (laid .leaves ∙ ap (λ b. cond b (coefficients kind n) (zeros (suc (degree kind n)))) (ne-eqb (r .code) DONE q))
+          (laid .leaves ∙ ap (λ b. cond b (coefficients kind n) (zeros (suc (degree kind n))))
+          (ne-eqb (r .code) DONE q))
 
       pub refuses : r .code ≢ DONE → Answers kind n h (told-only (r .code) d) (m ++ drop (d + 1) l) l
       refuses q = ⊎-elim (λ x. go OVER x at-over) (λ x. go TALL x at-tall) (which q)
         where
-          go : (c : ℕ) → r .code ≡ c → (code kind n h (length l) ≡ c → Answers kind n h (told-only c (degree kind n)) (written (zeros (suc (degree kind n))) l) l) → Answers kind n h (told-only (r .code) d) (m ++ drop (d + 1) l) l
+          go : (c : ℕ) → r .code ≡ c
+              → (code kind n h (length l) ≡ c
+              → Answers kind n h (told-only c (degree kind n)) (written (zeros (suc (degree kind n))) l) l)
+              → Answers kind n h (told-only (r .code) d) (m ++ drop (d + 1) l) l
           go c x s = let y = s (last-code ∙ x) in (ap₂ told-only x ed ∙ y .0, zeroed q ∙ y .1)
 
-      pub delivers : r .code ≡ DONE → (k : ℕ) → k ≡ gain kind n → Answers kind n h (record { code = DONE; degree = d; additions = r .additions; height = r .height; gain = k }) (m ++ drop (d + 1) l) l
+      pub delivers : r .code ≡ DONE → (k : ℕ) → k ≡ gain kind n
+          → Answers kind n h
+          (record { code = DONE; degree = d; additions = r .additions; height = r .height; gain = k })
+          (m ++ drop (d + 1) l) l
       unfolding coefficients
       delivers q k w =
           let y = at-done (last-code ∙ q) in (
             same ed (laid .additions q) (laid .height q) w ∙ y .0,
             in-front (coefficients kind n) (length-firsts (suc (degree kind n)) (polynomial kind n))
-                (laid .leaves ∙ ap (λ b. cond b (coefficients kind n) (zeros (suc (degree kind n)))) (eq-eqb (r .code) DONE q)) ∙ y .1,
+                (laid .leaves ∙ ap (λ b. cond b (coefficients kind n) (zeros (suc (degree kind n))))
+                (eq-eqb (r .code) DONE q)) ∙ y .1,
           )
         where
-          same : {x y z u x′ y′ z′ u′ : ℕ} → x ≡ x′ → y ≡ y′ → z ≡ z′ → u ≡ u′ → _≡_ {A = Answer} (record { code = DONE; degree = x; additions = y; height = z; gain = u }) (record { code = DONE; degree = x′; additions = y′; height = z′; gain = u′ })
+          same : {x y z u x′ y′ z′ u′ : ℕ} → x ≡ x′ → y ≡ y′ → z ≡ z′ → u ≡ u′
+              → _≡_ {A = Answer} (record { code = DONE; degree = x; additions = y; height = z; gain = u })
+              (record { code = DONE; degree = x′; additions = y′; height = z′; gain = u′ })
           same p q r s i = record { code = DONE; degree = p i; additions = q i; height = r i; gain = s i }
 
 -- ---- the degree, as it is computed

@@ -91,16 +91,19 @@ tiny-pos false = omega arith
 
 -- the first coefficient and 1 as the last are all of them
 pub tiny-whole :
-    (kind : ℕ) (even : Bool) (l : List ℤ) (v : ℤ) → length l ≡ degree kind (cond even 2 1) + 1 → v ≡ polynomial kind (cond even 2 1) 0
+    (kind : ℕ) (even : Bool) (l : List ℤ) (v : ℤ) → length l ≡ degree kind (cond even 2 1) + 1
+    → v ≡ polynomial kind (cond even 2 1) 0
     → set (set l 0 v) (length l - 1) (pos 1) ≡ firsts (length l) (polynomial kind (cond even 2 1))
 tiny-whole kind even l v n e =
-    is-firsts (length l) (polynomial kind m) (set (set l 0 v) (length l - 1) (pos 1)) (length-set (set l 0 v) (length l - 1) (pos 1) ∙ length-set l 0 v)
+    is-firsts (length l) (polynomial kind m) (set (set l 0 v) (length l - 1) (pos 1))
+    (length-set (set l 0 v) (length l - 1) (pos 1) ∙ length-set l 0 v)
     (λ k b. go k b (ℕ-discrete k (length l - 1)))
   where
     m : ℕ
     m = cond even 2 1
 
-    go : (k : ℕ) → k < length l → Dec (k ≡ length l - 1) → getD (set (set l 0 v) (length l - 1) (pos 1)) k 0ℤ ≡ polynomial kind m k
+    go : (k : ℕ) → k < length l → Dec (k ≡ length l - 1) → getD (set (set l 0 v) (length l - 1) (pos 1)) k 0ℤ
+        ≡ polynomial kind m k
     go k b (yes q) =
         let last : degree kind m ≡ k = omega arith in
         ap (λ j. getD (set (set l 0 v) (length l - 1) (pos 1)) j 0ℤ) q
@@ -109,10 +112,12 @@ tiny-whole kind even l v n e =
     go k b (no q) =
         let zero′ : k ≡ 0 = omega (arith, tiny-degree kind even) in
         getD-set-other (set l 0 v) (length l - 1) k (pos 1) 0ℤ q
-        ∙ ap (λ j. getD (set l 0 v) j 0ℤ) zero′ ∙ getD-set-same l 0 v 0ℤ (omega arith) ∙ e ∙ ap (polynomial kind m) (sym zero′)
+        ∙ ap (λ j. getD (set l 0 v) j 0ℤ) zero′ ∙ getD-set-same l 0 v 0ℤ (omega arith) ∙ e
+        ∙ ap (polynomial kind m) (sym zero′)
 
 -- the first coefficient fits a machine number
-pub first-seen : (kind : ℕ) (even : Bool) → knownKind kind ≡ true → seen (polynomial kind (cond even 2 1) 0) ≡ polynomial kind (cond even 2 1) 0
+pub first-seen : (kind : ℕ) (even : Bool) → knownKind kind ≡ true → seen (polynomial kind (cond even 2 1) 0)
+    ≡ polynomial kind (cond even 2 1) 0
 first-seen kind even k = go (ℕ-discrete kind 1) even
   where
     go : Dec (kind ≡ 1) → (b : Bool) → seen (polynomial kind (cond b 2 1) 0) ≡ polynomial kind (cond b 2 1) 0
@@ -126,7 +131,8 @@ module _ (kind r : ℕ) (even : Bool) (l : List ℤ) (len : length l ≡ degree 
   pub odd-length : even ≡ false → length l ≡ degree kind r + 1
   odd-length e = len ∙ ap (λ b. degree kind (cond b (2 * r) r) + 1) e
 
-  pub odd-grown : even ≡ false → (x : List ℤ) → x ≡ firsts (degree kind r + 1) (polynomial kind r) → x ≡ firsts (length l) (polynomial kind (cond even (2 * r) r))
+  pub odd-grown : even ≡ false → (x : List ℤ) → x ≡ firsts (degree kind r + 1) (polynomial kind r)
+      → x ≡ firsts (length l) (polynomial kind (cond even (2 * r) r))
   odd-grown e x q = q ∙ ap₂ (λ n b. firsts n (polynomial kind (cond b (2 * r) r))) (sym (odd-length e)) (sym e)
 
   even-length : even ≡ true → length l ≡ degree kind (2 * r) + 1
@@ -136,15 +142,19 @@ module _ (kind r : ℕ) (even : Bool) (l : List ℤ) (len : length l ≡ degree 
     pub F-length : kind ≡ 1 → length l ≡ degree kind r + 1
     F-length one = even-length e ∙ ap (λ n. n + 1) (even-degree kind r one O h)
 
-    pub F-grown : kind ≡ 1 → (x : List ℤ) → x ≡ firsts (degree kind r + 1) (alternate (polynomial kind r)) → x ≡ firsts (length l) (polynomial kind (cond even (2 * r) r))
+    pub F-grown : kind ≡ 1 → (x : List ℤ) → x ≡ firsts (degree kind r + 1) (alternate (polynomial kind r))
+        → x ≡ firsts (length l) (polynomial kind (cond even (2 * r) r))
     F-grown one x q =
-        q ∙ ap₂ firsts (sym (F-length one)) (even-F kind r one O h) ∙ ap (λ b. firsts (length l) (polynomial kind (cond b (2 * r) r))) (sym e)
+        q ∙ ap₂ firsts (sym (F-length one)) (even-F kind r one O h)
+        ∙ ap (λ b. firsts (length l) (polynomial kind (cond b (2 * r) r))) (sym e)
 
     pub I-length : kind ≢ 1 → (free : ℕ) → free ≡ phi r → length l ≡ r + (r - free + 1)
     I-length other free f = even-length e ∙ omega (arith, degree-I kind r other, phi-double r O, phi-le r)
 
-    pub I-grown : kind ≢ 1 → (x : List ℤ) → x ≡ firsts (length l) (I (2 * r)) → x ≡ firsts (length l) (polynomial kind (cond even (2 * r) r))
-    I-grown other x q = q ∙ ap (firsts (length l)) (even-I kind r other) ∙ ap (λ b. firsts (length l) (polynomial kind (cond b (2 * r) r))) (sym e)
+    pub I-grown : kind ≢ 1 → (x : List ℤ) → x ≡ firsts (length l) (I (2 * r))
+        → x ≡ firsts (length l) (polynomial kind (cond even (2 * r) r))
+    I-grown other x q = q ∙ ap (firsts (length l)) (even-I kind r other)
+        ∙ ap (λ b. firsts (length l) (polynomial kind (cond b (2 * r) r))) (sym e)
 
 pub top-I : (r free : ℕ) → free ≡ phi r → r - free + 1 ≡ degree 2 r + 1
 unfolding degree

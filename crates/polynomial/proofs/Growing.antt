@@ -1,4 +1,5 @@
--- The lower half for r grows to the polynomial of m: the mirrored entries are those of the polynomial, and for an even index the alternated ones and the second copy.
+-- The lower half for r grows to the polynomial of m: the mirrored entries are those of the polynomial, and for an even
+-- index the alternated ones and the second copy.
 use Prim.Native.Nat.{ℕ, zero, suc, _+_, _*_, _-_, _/_, _%_, _<_, _≤_}
 use mathlib.Core.Path.{_≡_, refl, sym, _∙_, ap, ap₂}
 use mathlib.Core.Bool.{Bool, true, false, cond, not}
@@ -57,10 +58,13 @@ module _ (kind r : ℕ) (l : List ℤ) (w : Lower kind r l) where
       by-order i (degree kind r / 2 + 1) (w .inside i)
       (λ high.
       let at : degree kind r - (degree kind r - i) ≡ i = omega arith in
-      rw (ap (λ k. natAbs (polynomial kind r k)) (sym at) ∙ ap natAbs (mirrored kind r larger (degree kind r - i) (omega arith)) ∙ turned-abs (polynomial kind r (degree kind r - i)))
+      rw (ap (λ k. natAbs (polynomial kind r k)) (sym at)
+      ∙ ap natAbs (mirrored kind r larger (degree kind r - i) (omega arith))
+      ∙ turned-abs (polynomial kind r (degree kind r - i)))
       (w .inside (degree kind r - i) (omega arith)))
 
-  pub mirror-grows : (negate : Bool) → negate ≡ not (eqb kind 1) → (i : ℕ) → i < degree kind r + 1 → mirroredUp negate (degree kind r + 1) (entries l) i ≡ polynomial kind r i
+  pub mirror-grows : (negate : Bool) → negate ≡ not (eqb kind 1) → (i : ℕ) → i < degree kind r + 1
+      → mirroredUp negate (degree kind r + 1) (entries l) i ≡ polynomial kind r i
   unfolding turned
   mirror-grows negate e i h =
       by-order i ((degree kind r + 1 + 1) / 2)
@@ -141,28 +145,35 @@ module _ (r top : ℕ) (l : List ℤ) (w : FirstCopy r top l) where
     gap : (i : ℕ) → top ≤ i → i < r → entries (putMid top (r - top) l ys) i ≡ 0ℤ
     unfolding entries zeros
     gap i a b =
-        put-in top r l ys top-below room ys-length i a b ∙ ap (λ x. getD x (i - top) 0ℤ) z ∙ getD-replicate (r - top) (i - top) 0ℤ 0ℤ (omega arith)
+        put-in top r l ys top-below room ys-length i a b ∙ ap (λ x. getD x (i - top) 0ℤ) z
+        ∙ getD-replicate (r - top) (i - top) 0ℤ 0ℤ (omega arith)
 
-    pub cleared-inside : (i : ℕ) → i < length (putMid top (r - top) l ys) - r → natAbs (entries (putMid top (r - top) l ys) i) ≤ largest
+    pub cleared-inside : (i : ℕ) → i < length (putMid top (r - top) l ys) - r
+        → natAbs (entries (putMid top (r - top) l ys) i) ≤ largest
     cleared-inside i h =
         let b : i < top = omega (arith, cleared-length, w .len) in
         rw (low i b ∙ w .copy i b) (rw (alternate-abs (polynomial 2 r) i) (w .inside i b))
 
     pub second-done :
-        (x : List ℤ) → x ≡ firsts (length (putMid top (r - top) l ys)) (copiedFrom r (entries (putMid top (r - top) l ys))) → x ≡ firsts (length l) (I (2 * r))
+        (x : List ℤ)
+        → x ≡ firsts (length (putMid top (r - top) l ys)) (copiedFrom r (entries (putMid top (r - top) l ys)))
+        → x ≡ firsts (length l) (I (2 * r))
     second-done x e =
         e ∙ ap (λ k. firsts k (copiedFrom r (entries (putMid top (r - top) l ys)))) cleared-length
-        ∙ firsts-same (length l) _ (I (2 * r)) (λ i h. second-copies (putMid top (r - top) l ys) low gap i (omega (arith, w .len)))
+        ∙ firsts-same (length l) _ (I (2 * r))
+        (λ i h. second-copies (putMid top (r - top) l ys) low gap i (omega (arith, w .len)))
 
 -- ---- signs changed
 alternate-same : (f g : Series) (i : ℕ) → f i ≡ g i → alternate f i ≡ alternate g i
 unfolding alternate
 alternate-same f g i e = ap (λ v. cond (eqb (i % 2) 0) v (⊖ v)) e
 
-pub alternated : (n : ℕ) (f : Series) (l x : List ℤ) → l ≡ firsts n f → x ≡ firsts (length l) (alternate (entries l)) → x ≡ firsts n (alternate f)
+pub alternated : (n : ℕ) (f : Series) (l x : List ℤ) → l ≡ firsts n f → x ≡ firsts (length l) (alternate (entries l))
+    → x ≡ firsts n (alternate f)
 alternated n f l x e q =
     q ∙ ap (λ k. firsts k (alternate (entries l))) (front-length n f l e)
-    ∙ firsts-same n (alternate (entries l)) (alternate f) (λ i h. alternate-same (entries l) f i (front-entry n f l e i h))
+    ∙ firsts-same n (alternate (entries l)) (alternate f)
+    (λ i h. alternate-same (entries l) f i (front-entry n f l e i h))
 
 -- ---- the first entries of a list alone
 pub half-within : (kind r : ℕ) → halfDegree kind r ≤ degree kind r
@@ -180,7 +191,8 @@ lower-front kind r top l e w =
     }
 
 pub copy-front :
-    (r top : ℕ) (l m : List ℤ) → Lower 2 r l → top ≡ degree 2 r + 1 → length l ≡ r + top → m ≡ firsts (degree 2 r + 1) (alternate (polynomial 2 r))
+    (r top : ℕ) (l m : List ℤ) → Lower 2 r l → top ≡ degree 2 r + 1 → length l ≡ r + top
+    → m ≡ firsts (degree 2 r + 1) (alternate (polynomial 2 r))
     → FirstCopy r top (m ++ drop top l)
 unfolding entries
 copy-front r top l m w e len q =
@@ -188,7 +200,8 @@ copy-front r top l m w e len q =
       squarefree = w .squarefree;
       above = w .above;
       number = e;
-      copy = λ i h. List·getD-append m (drop top l) 0ℤ i (omega (arith, m-length)) ∙ front-entry (degree 2 r + 1) (alternate (polynomial 2 r)) m q i (omega arith);
+      copy = λ i h. List·getD-append m (drop top l) 0ℤ i (omega (arith, m-length))
+          ∙ front-entry (degree 2 r + 1) (alternate (polynomial 2 r)) m q i (omega arith);
       inside = λ i h. all-inside 2 r l w i (omega arith);
       len = length-append m (drop top l) ∙ omega (arith, m-length, length-drop top l);
     }

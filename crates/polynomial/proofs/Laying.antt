@@ -1,4 +1,5 @@
--- The polynomial of n laid out: what n taken apart gives, and that the polynomial of m in the first entries, with z^t for z, is that of n.
+-- The polynomial of n laid out: what n taken apart gives, and that the polynomial of m in the first entries, with z^t
+-- for z, is that of n.
 use Prim.Native.Nat.{ℕ, zero, suc, _+_, _*_, _-_, _/_, _%_, _<_, _≤_}
 use mathlib.Core.Path.{_≡_, refl, sym, _∙_, ap, ap₂}
 use mathlib.Core.Bool.{Bool, true, false, cond}
@@ -73,19 +74,28 @@ module _ (kind n : ℕ) (a : Apart) (l : List ℤ) (R : Ready kind n a l) where
   unfolding degree
   r-degree = go (eqb kind 1) (eqb (n % 2) 0) m-by-parity
     where
-      go : (b c : Bool) → cond c (2 * a .r) (a .r) ≡ mOf n → cond b (phi (rOf n)) (rOf n - phi (rOf n)) ≤ cond b (phi (mOf n)) (mOf n - phi (mOf n))
+      go : (b c : Bool) → cond c (2 * a .r) (a .r) ≡ mOf n → cond b (phi (rOf n)) (rOf n - phi (rOf n))
+          ≤ cond b (phi (mOf n)) (mOf n - phi (mOf n))
       go true c e = omega (arith, phi-m n)
       go false true e = omega (arith, phi-m n, r-is)
       go false false e = omega (arith, phi-m n, r-is)
 
   pub r-fits : degree kind (rOf n) + 1 ≤ length l
-  r-fits = omega (arith, r-degree, R .room, degree-apart kind n above-zero, NatL.le-mul-of-pos-right (degree kind (mOf n)) t-pos, ap (λ t. degree kind (mOf n) * t) t-is)
+  r-fits = omega (
+    arith,
+    r-degree,
+    R .room,
+    degree-apart kind n above-zero,
+    NatL.le-mul-of-pos-right (degree kind (mOf n)) t-pos,
+    ap (λ t. degree kind (mOf n) * t) t-is,
+  )
 
   -- the degree for m, as it is computed
   module _ (top : ℕ) (e : top ≡ cond (eqb kind 1) (a .free) (a .m - a .free)) where
     pub top-is : top ≡ degree kind (mOf n)
     unfolding degree
-    top-is = e ∙ ap₂ (λ f m. cond (eqb kind 1) f (m - f)) free-m refl ∙ ap (λ m. cond (eqb kind 1) (phi m) (m - phi m)) m-is
+    top-is = e ∙ ap₂ (λ f m. cond (eqb kind 1) f (m - f)) free-m refl
+        ∙ ap (λ m. cond (eqb kind 1) (phi m) (m - phi m)) m-is
 
     pub room-is : length l ≡ top * a .t + 1
     room-is = R .room ∙ ap (λ d. d + 1) (degree-apart kind n above-zero ∙ ap₂ _*_ (sym top-is) (sym t-is))
@@ -99,36 +109,55 @@ module _ (kind n : ℕ) (a : Apart) (l : List ℤ) (R : Ready kind n a l) where
     pub part-length : length (take (top + 1) l) ≡ top + 1
     part-length = length-take-le (top + 1) l top-room
 
-    pub grown-is : (x : List ℤ) → x ≡ firsts (length (take (top + 1) l)) (polynomial kind (cond (eqb (n % 2) 0) (2 * a .r) (a .r))) → x ≡ firsts (top + 1) (polynomial kind (mOf n))
+    pub grown-is : (x : List ℤ)
+        → x ≡ firsts (length (take (top + 1) l)) (polynomial kind (cond (eqb (n % 2) 0) (2 * a .r) (a .r)))
+        → x ≡ firsts (top + 1) (polynomial kind (mOf n))
     grown-is x e = e ∙ ap₂ (λ k m. firsts k (polynomial kind m)) part-length m-by-parity
 
-    pub tiny-is : rOf n ≡ 1 → (x : List ℤ) → x ≡ firsts (length (take (top + 1) l)) (polynomial kind (cond (eqb (n % 2) 0) 2 1)) → x ≡ firsts (top + 1) (polynomial kind (mOf n))
+    pub tiny-is : rOf n ≡ 1 → (x : List ℤ)
+        → x ≡ firsts (length (take (top + 1) l)) (polynomial kind (cond (eqb (n % 2) 0) 2 1))
+        → x ≡ firsts (top + 1) (polynomial kind (mOf n))
     tiny-is o x e = e ∙ ap₂ (λ k m. firsts k (polynomial kind m)) part-length (tiny-m o)
 
     -- the first entries are the polynomial of m
     module _ (x : List ℤ) (q : x ≡ firsts (top + 1) (polynomial kind (mOf n))) where
       pub spaced-length : length (x ++ drop (top + 1) l) ≡ top * a .t + 1
       spaced-length =
-          length-append x (drop (top + 1) l) ∙ omega (arith, front-length (top + 1) (polynomial kind (mOf n)) x q, length-drop (top + 1) l, room-is, top-room)
+          length-append x (drop (top + 1) l)
+          ∙ omega (
+            arith,
+            front-length (top + 1) (polynomial kind (mOf n)) x q,
+            length-drop (top + 1) l,
+            room-is,
+            top-room,
+          )
 
       in-front : (i : ℕ) → i < top + 1 → entries (x ++ drop (top + 1) l) i ≡ polynomial kind (mOf n) i
       unfolding entries
       in-front i h =
-          List·getD-append x (drop (top + 1) l) 0ℤ i (omega (arith, front-length (top + 1) (polynomial kind (mOf n)) x q))
+          List·getD-append x (drop (top + 1) l) 0ℤ i
+          (omega (arith, front-length (top + 1) (polynomial kind (mOf n)) x q))
           ∙ front-entry (top + 1) (polynomial kind (mOf n)) x q i h
 
-      at-k : (k : ℕ) → k < top * a .t + 1 → Dec (k % a .t ≡ 0) → spread (a .t) (entries (x ++ drop (top + 1) l)) k ≡ spread (a .t) (polynomial kind (mOf n)) k
+      at-k : (k : ℕ) → k < top * a .t + 1 → Dec (k % a .t ≡ 0) → spread (a .t) (entries (x ++ drop (top + 1) l)) k
+          ≡ spread (a .t) (polynomial kind (mOf n)) k
       at-k k h (yes z) =
-          spread-on (a .t) k (entries (x ++ drop (top + 1) l)) z ∙ in-front (k / a .t) below ∙ sym (spread-on (a .t) k (polynomial kind (mOf n)) z)
+          spread-on (a .t) k (entries (x ++ drop (top + 1) l)) z ∙ in-front (k / a .t) below
+          ∙ sym (spread-on (a .t) k (polynomial kind (mOf n)) z)
         where
           below : k / a .t < top + 1
-          below = NatL.div-lt-iff-lt-mul {k = a .t} {x = k} {y = top + 1} t-pos .1 (omega (arith, NatL.add-mul top 1 (a .t), t-pos))
-      at-k k h (no z) = spread-off (a .t) k (entries (x ++ drop (top + 1) l)) z ∙ sym (spread-off (a .t) k (polynomial kind (mOf n)) z)
+          below = NatL.div-lt-iff-lt-mul {k = a .t} {x = k} {y = top + 1} t-pos .1
+              (omega (arith, NatL.add-mul top 1 (a .t), t-pos))
+      at-k k h (no z) = spread-off (a .t) k (entries (x ++ drop (top + 1) l)) z
+          ∙ sym (spread-off (a .t) k (polynomial kind (mOf n)) z)
 
       pub spaced :
-          (y : List ℤ) → y ≡ firsts (length (x ++ drop (top + 1) l)) (spread (a .t) (entries (x ++ drop (top + 1) l))) → y ≡ coefficients kind n
+          (y : List ℤ) → y ≡ firsts (length (x ++ drop (top + 1) l)) (spread (a .t) (entries (x ++ drop (top + 1) l)))
+          → y ≡ coefficients kind n
       unfolding coefficients
       spaced y p =
           p ∙ ap (λ k. firsts k (spread (a .t) (entries (x ++ drop (top + 1) l)))) spaced-length
-          ∙ firsts-same (top * a .t + 1) _ (spread (a .t) (polynomial kind (mOf n))) (λ k h. at-k k h (ℕ-discrete (k % a .t) 0))
-          ∙ ap₂ firsts (sym room-is ∙ R .room ∙ add-one (degree kind n)) (ap (λ t. spread t (polynomial kind (mOf n))) t-is ∙ sym (taken-apart kind n above-zero))
+          ∙ firsts-same (top * a .t + 1) _ (spread (a .t) (polynomial kind (mOf n)))
+          (λ k h. at-k k h (ℕ-discrete (k % a .t) 0))
+          ∙ ap₂ firsts (sym room-is ∙ R .room ∙ add-one (degree kind n))
+          (ap (λ t. spread t (polynomial kind (mOf n))) t-is ∙ sym (taken-apart kind n above-zero))

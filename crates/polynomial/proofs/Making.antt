@@ -1,4 +1,5 @@
--- r > 1: after all divisors the kept half is the lower half of the polynomial of r; its height is the polynomial's; and what each outcome tells and leaves.
+-- r > 1: after all divisors the kept half is the lower half of the polynomial of r; its height is the polynomial's; and
+-- what each outcome tells and leaves.
 use Prim.Native.Nat.{ℕ, zero, suc, _+_, _*_, _-_, _/_, _<_, _≤_}
 use mathlib.Core.Path.{_≡_, refl, sym, _∙_, ap, ap₂}
 use mathlib.Core.Bool.{Bool, true, false, cond}
@@ -33,7 +34,8 @@ use Rattle.polynomial.specs.declared.half.Half.{Half}
 use Rattle.polynomial.proofs.Growing.{half-within, front-entry, front-length}
 use Rattle.polynomial.proofs.Laying.{above-zero, r-is, r-fits}
 
-module _ (kind n : ℕ) (a : Apart) (l : List ℤ) (R : Ready kind n a l) (above : rOf n ≢ 1) (d : ℕ) (ed : d ≡ halfDegree kind (rOf n)) where
+module _ (kind n : ℕ) (a : Apart) (l : List ℤ) (R : Ready kind n a l) (above : rOf n ≢ 1) (d : ℕ)
+    (ed : d ≡ halfDegree kind (rOf n)) where
   pub half-room : d + 1 ≤ length l
   half-room = omega (arith, half-within kind (rOf n), r-fits kind n a l R)
 
@@ -48,11 +50,13 @@ module _ (kind n : ℕ) (a : Apart) (l : List ℤ) (R : Ready kind n a l) (above
     still-ready = record { apart = R .apart; known = R .known; good = R .good; room = rest-length ∙ R .room }
 
     -- a value would be out of range
-    pub laid-over : (lim : ℤ) (x : List ℤ) → h .over ≡ true → x ≡ zeros (length (m ++ drop (d + 1) l)) → Laid kind n lim x (record { code = OVER; additions = 0; height = 0 })
+    pub laid-over : (lim : ℤ) (x : List ℤ) → h .over ≡ true → x ≡ zeros (length (m ++ drop (d + 1) l))
+        → Laid kind n lim x (record { code = OVER; additions = 0; height = 0 })
     unfolding layCode
     laid-over lim x o e =
         record {
-          code = sym (ap (λ b. cond b OVER (cond (ltZ lim (pos (height kind n))) TALL DONE)) (sym (made .ran .over) ∙ o));
+          code = sym (ap (λ b. cond b OVER (cond (ltZ lim (pos (height kind n))) TALL DONE))
+              (sym (made .ran .over) ∙ o));
           leaves = e ∙ ap zeros (rest-length ∙ R .room ∙ add-one (degree kind n));
           additions = λ q. absurd (never q);
           height = λ q. absurd (never q);
@@ -72,15 +76,20 @@ module _ (kind n : ℕ) (a : Apart) (l : List ℤ) (R : Ready kind n a l) (above
           record {
             squarefree = r-odd-squarefree n;
             above = above;
-            half = λ i b. List·getD-append m (drop (d + 1) l) 0ℤ i (omega (arith, m-length)) ∙ front-entry (halfDegree kind (rOf n) + 1) (polynomial kind (rOf n)) m m-is i b;
-            inside = λ i b. rw (sym (front-entry (halfDegree kind (rOf n) + 1) (polynomial kind (rOf n)) m m-is i b)) (made .ran .inside o i);
+            half = λ i b. List·getD-append m (drop (d + 1) l) 0ℤ i (omega (arith, m-length))
+                ∙ front-entry (halfDegree kind (rOf n) + 1) (polynomial kind (rOf n)) m m-is i b;
+            inside = λ i b. rw (sym (front-entry (halfDegree kind (rOf n) + 1) (polynomial kind (rOf n)) m m-is i b))
+                (made .ran .inside o i);
           }
 
       pub height-is : (x : ℕ) → x ≡ heightOf (take (d + 1) (m ++ drop (d + 1) l)) → x ≡ height kind n
       height-is x e =
-          e ∙ ap heightOf (take-at m (drop (d + 1) l) (d + 1) m-length ∙ m-is) ∙ sym (height-half kind n (above-zero kind n a l R) above)
+          e ∙ ap heightOf (take-at m (drop (d + 1) l) (d + 1) m-length ∙ m-is)
+          ∙ sym (height-half kind n (above-zero kind n a l R) above)
 
-      pub laid-tall : (lim : ℤ) (x : List ℤ) → ltZ lim (pos (height kind n)) ≡ true → x ≡ zeros (length (m ++ drop (d + 1) l)) → Laid kind n lim x (record { code = TALL; additions = 0; height = 0 })
+      pub laid-tall : (lim : ℤ) (x : List ℤ) → ltZ lim (pos (height kind n)) ≡ true
+          → x ≡ zeros (length (m ++ drop (d + 1) l))
+          → Laid kind n lim x (record { code = TALL; additions = 0; height = 0 })
       unfolding layCode
       laid-tall lim x t e =
           record {
@@ -94,7 +103,8 @@ module _ (kind n : ℕ) (a : Apart) (l : List ℤ) (R : Ready kind n a l) (above
           never q = omega arith
 
       pub laid-done :
-          (lim : ℤ) (x : List ℤ) (y : ℕ) → ltZ lim (pos (height kind n)) ≡ false → x ≡ coefficients kind n → y ≡ height kind n
+          (lim : ℤ) (x : List ℤ) (y : ℕ) → ltZ lim (pos (height kind n)) ≡ false → x ≡ coefficients kind n
+          → y ≡ height kind n
           → Laid kind n lim x (record { code = DONE; additions = h .additions; height = y })
       unfolding layCode additionsFor divisorsDue
       laid-done lim x y t e q =
@@ -112,7 +122,8 @@ pub laid-one :
 unfolding layCode additionsFor divisorsDue divisorsBelow listTo overAmong additions sumOf
 laid-one kind n h x l o t e =
     record {
-      code = sym (ap₂ (λ r y. cond (overAmong largest kind r (divisorsDue r)) OVER (cond (ltZ h (pos y)) TALL DONE)) o (height-one kind n l o) ∙ ap (λ b. cond b TALL DONE) t);
+      code = sym (ap₂ (λ r y. cond (overAmong largest kind r (divisorsDue r)) OVER (cond (ltZ h (pos y)) TALL DONE)) o
+          (height-one kind n l o) ∙ ap (λ b. cond b TALL DONE) t);
       leaves = e;
       additions = λ z. sym (ap (additions kind) o);
       height = λ z. sym (height-one kind n l o);

@@ -1,4 +1,5 @@
--- A pass on a part of a slice, seen entry by entry: before the part and after it nothing changed, and in it stands what the pass left.
+-- A pass on a part of a slice, seen entry by entry: before the part and after it nothing changed, and in it stands what
+-- the pass left.
 use Prim.Native.Nat.{ℕ, zero, suc, _+_, _-_, _<_, _≤_}
 use mathlib.Core.Path.{_≡_, refl, sym, _∙_, ap}
 use mathlib.Core.List.{List, _++_}
@@ -15,12 +16,14 @@ module _ (a e : ℕ) (xs ys : List ℤ) (h : a ≤ e) (b : e ≤ length xs) (len
 
   pub put-before : (k : ℕ) → k < a → getD (putMid a (e - a) xs ys) k 0ℤ ≡ getD xs k 0ℤ
   put-before k l =
-      List·getD-append (take a xs) (ys ++ drop (e - a) (drop a xs)) 0ℤ k (omega (arith, head-length)) ∙ getD-take a xs k 0ℤ l
+      List·getD-append (take a xs) (ys ++ drop (e - a) (drop a xs)) 0ℤ k (omega (arith, head-length))
+      ∙ getD-take a xs k 0ℤ l
 
   from-part : (k : ℕ) → a ≤ k → getD (putMid a (e - a) xs ys) k 0ℤ ≡ getD (ys ++ drop (e - a) (drop a xs)) (k - a) 0ℤ
   from-part k l =
       let at : k ≡ length (take a xs) + (k - a) = omega (arith, head-length) in
-      ap (λ j. getD (putMid a (e - a) xs ys) j 0ℤ) at ∙ getD-append-add (take a xs) (ys ++ drop (e - a) (drop a xs)) (k - a) 0ℤ
+      ap (λ j. getD (putMid a (e - a) xs ys) j 0ℤ) at ∙ getD-append-add (take a xs) (ys ++ drop (e - a) (drop a xs))
+      (k - a) 0ℤ
 
   pub put-in : (k : ℕ) → a ≤ k → k < e → getD (putMid a (e - a) xs ys) k 0ℤ ≡ getD ys (k - a) 0ℤ
   put-in k l u = from-part k l ∙ List·getD-append ys (drop (e - a) (drop a xs)) 0ℤ (k - a) (omega arith)
@@ -30,7 +33,8 @@ module _ (a e : ℕ) (xs ys : List ℤ) (h : a ≤ e) (b : e ≤ length xs) (len
       let at : k - a ≡ length ys + (k - e) = omega arith in
       let back : a + (e - a + (k - e)) ≡ k = omega arith in
       from-part k (omega arith) ∙ ap (λ j. getD (ys ++ drop (e - a) (drop a xs)) j 0ℤ) at
-      ∙ getD-append-add ys (drop (e - a) (drop a xs)) (k - e) 0ℤ ∙ getD-drop (e - a) (drop a xs) (k - e) 0ℤ ∙ getD-drop a xs (e - a + (k - e)) 0ℤ
+      ∙ getD-append-add ys (drop (e - a) (drop a xs)) (k - e) 0ℤ ∙ getD-drop (e - a) (drop a xs) (k - e) 0ℤ
+      ∙ getD-drop a xs (e - a + (k - e)) 0ℤ
       ∙ ap (λ j. getD xs j 0ℤ) back
 
   pub put-length : length (putMid a (e - a) xs ys) ≡ length xs

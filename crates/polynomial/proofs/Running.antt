@@ -1,4 +1,5 @@
--- A run of the first j divisors' steps, turn by turn: where it stands after i of them, that a turn goes one further or shows a value out of range, and what it has come to at the end.
+-- A run of the first j divisors' steps, turn by turn: where it stands after i of them, that a turn goes one further or
+-- shows a value out of range, and what it has come to at the end.
 use Prim.Native.Nat.{ℕ, zero, suc, _+_, _*_, _-_, _^_, _<_, _≤_}
 use mathlib.Core.Path.{_≡_, refl, sym, _∙_, ap, ap₂}
 use mathlib.Core.Bool.{Bool, true, false, true≢false, _||_}
@@ -34,12 +35,15 @@ use Rattle.polynomial.proofs.Turning.{kept-length}
 use Rattle.polynomial.proofs.Advancing.{start-first, start-later}
 
 -- ---- sums
-sum-next : (kind r i : ℕ) → i < divisorsDue r → additionsAfter kind r (suc i) ≡ additionsAfter kind r i + (halfDegree kind r + 1 - nextDivisor r i)
+sum-next : (kind r i : ℕ) → i < divisorsDue r → additionsAfter kind r (suc i)
+    ≡ additionsAfter kind r i + (halfDegree kind r + 1 - nextDivisor r i)
 unfolding additionsAfter divisorsDue nextDivisor sumOf
 sum-next kind r i h =
     ap (λ l. sumOf (map (λ d. halfDegree kind r + 1 - d) l)) (take-suc (divisorsBelow r) i 0 h)
-    ∙ ap sumOf (map-append (λ d. halfDegree kind r + 1 - d) (take i (divisorsBelow r)) (getD (divisorsBelow r) i 0 ∷ []))
-    ∙ sum-append (map (λ d. halfDegree kind r + 1 - d) (take i (divisorsBelow r))) ((halfDegree kind r + 1 - getD (divisorsBelow r) i 0) ∷ [])
+    ∙ ap sumOf (map-append (λ d. halfDegree kind r + 1 - d) (take i (divisorsBelow r))
+    (getD (divisorsBelow r) i 0 ∷ []))
+    ∙ sum-append (map (λ d. halfDegree kind r + 1 - d) (take i (divisorsBelow r)))
+    ((halfDegree kind r + 1 - getD (divisorsBelow r) i 0) ∷ [])
     ∙ ap (λ k. sumOf (map (λ d. halfDegree kind r + 1 - d) (take i (divisorsBelow r))) + k) (NatL.add-zero _)
 
 module _ (kind r : ℕ) (O : OddSquarefree r) (small : r ≤ 65535) (above : r ≢ 1) where
@@ -55,7 +59,8 @@ module _ (kind r : ℕ) (O : OddSquarefree r) (small : r ≤ 65535) (above : r �
   pub sum-small : (i : ℕ) → additionsAfter kind r i ≤ 31 * 65536
   unfolding additionsAfter divisorsDue
   sum-small i =
-      let b = sum-at-most (λ d. halfDegree kind r + 1 - d) (halfDegree kind r + 1) (λ d. omega arith) (take i (divisorsBelow r)) in
+      let b = sum-at-most (λ d. halfDegree kind r + 1 - d) (halfDegree kind r + 1) (λ d. omega arith)
+      (take i (divisorsBelow r)) in
       let n : length (take i (divisorsBelow r)) ≤ 31 = omega (arith, length-take i (divisorsBelow r), few) in
       let d : halfDegree kind r + 1 ≤ 65536 = omega (arith, half-below kind r larger) in
       NatL.le-trans b (NatL.mul-le-mul n d)
@@ -69,7 +74,8 @@ pub record Running (kind r i additions bound : ℕ) (at : Walk) (a : List ℤ) :
   pub clear : overAmong largest kind r i ≡ false
   pub sum : additions ≡ additionsAfter kind r i
 
-module _ (kind r : ℕ) (O : OddSquarefree r) (small : r ≤ 65535) (above : r ≢ 1) {i additions bound : ℕ} {at : Walk} {a : List ℤ} (s : Running kind r i additions bound at a) (h : i < divisorsDue r) where
+module _ (kind r : ℕ) (O : OddSquarefree r) (small : r ≤ 65535) (above : r ≢ 1) {i additions bound : ℕ} {at : Walk}
+    {a : List ℤ} (s : Running kind r i additions bound at a) (h : i < divisorsDue r) where
   of-r : at .r ≡ r
   unfolding walkAt
   of-r = ap (λ (w : Walk). w .r) (s .walk)
@@ -134,10 +140,12 @@ pub over-among : (w kind r i j : ℕ) → i ≤ j → overAmong w kind r i ≡ t
 over-among w kind r i j h e = ap (overAmong w kind r) (sym (NatL.add-sub-of-le h)) ∙ over-later w kind r i (j - i) e
 
 -- ---- the start and the end
-pub standing-length : {kind bound : ℕ} {w : Walk} {l : List ℤ} → Standing kind w bound l → length l ≡ halfDegree kind (w .r) + 1
+pub standing-length : {kind bound : ℕ} {w : Walk} {l : List ℤ} → Standing kind w bound l
+    → length l ≡ halfDegree kind (w .r) + 1
 standing-length {kind} {w = w} s = ap length (s .half) ∙ kept-length kind (w .r) (taken w)
 
-pub run-start : (kind r : ℕ) (at : Walk) (a : List ℤ) → Standing kind at 1 a → at ≡ walkAt r 0 → Running kind r 0 0 1 at a
+pub run-start : (kind r : ℕ) (at : Walk) (a : List ℤ) → Standing kind at 1 a → at ≡ walkAt r 0
+    → Running kind r 0 0 1 at a
 unfolding overAmong additionsAfter sumOf walkAt divisorsDue
 run-start kind r at a s e =
     record {
@@ -149,7 +157,8 @@ run-start kind r at a s e =
       sum = refl;
     }
 
-pub ran-over : (kind r i j : ℕ) (m : List ℤ) (w : Walk) → i < j → overAmong largest kind r (suc i) ≡ true → length m ≡ halfDegree kind r + 1
+pub ran-over : (kind r i j : ℕ) (m : List ℤ) (w : Walk) → i < j → overAmong largest kind r (suc i) ≡ true
+    → length m ≡ halfDegree kind r + 1
     → Ran kind r j m (record { over = true; additions = 0; walk = w })
 ran-over kind r i j m w h e n =
     record {
@@ -183,21 +192,25 @@ pub start-bounded : (kind n : ℕ) → Bounded 1 (entries (firsts n (start kind)
 unfolding entries
 start-bounded kind n k =
     by-order k n (λ h. rw (getD-firsts n (start kind) k h) (start-at-most kind k))
-    (λ h. rw (List·getD-eq-default (firsts n (start kind)) 0ℤ {n = k} (omega (arith, length-firsts n (start kind)))) (omega arith))
+    (λ h. rw (List·getD-eq-default (firsts n (start kind)) 0ℤ {n = k} (omega (arith, length-firsts n (start kind))))
+    (omega arith))
 
 pub fresh-stands :
-    (kind : ℕ) (w : Walk) (l : List ℤ) (n : ℕ) → Fresh w → n ≡ halfDegree kind (w .r) + 1 → l ≡ firsts n (start kind) → Standing kind w 1 l
+    (kind : ℕ) (w : Walk) (l : List ℤ) (n : ℕ) → Fresh w → n ≡ halfDegree kind (w .r) + 1 → l ≡ firsts n (start kind)
+    → Standing kind w 1 l
 unfolding divisorsDue
 fresh-stands kind w l n f len e =
     record {
       walk = rw (f .here) (stands-at (w .r) 0 (f .squarefree) (f .small) (omega arith));
       above = f .above;
-      half = e ∙ ap (λ k. firsts k (start kind)) len ∙ sym (kept-start kind (w .r)) ∙ sym (ap (keptHalf kind (w .r)) (ap taken (f .here) ∙ taken-at (w .r) 0 (omega arith)));
+      half = e ∙ ap (λ k. firsts k (start kind)) len ∙ sym (kept-start kind (w .r))
+          ∙ sym (ap (keptHalf kind (w .r)) (ap taken (f .here) ∙ taken-at (w .r) 0 (omega arith)));
       bounded = rw e (start-bounded kind n);
       inside = omega arith;
     }
 
-pub made-zeros : (kind r j : ℕ) (m l : List ℤ) (h : Half) → Ran kind r j m h → h .over ≡ true → l ≡ zeros (length m) → Made kind r j l h
+pub made-zeros : (kind r j : ℕ) (m l : List ℤ) (h : Half) → Ran kind r j m h → h .over ≡ true → l ≡ zeros (length m)
+    → Made kind r j l h
 unfolding zeros
 made-zeros kind r j m l h t o e =
     record {

@@ -1,4 +1,5 @@
--- The shaping passes, turn by turn: what stands below the place where a pass has come is new, the rest is old (`Split`), and what a turn stores is the new entry there.
+-- The shaping passes, turn by turn: what stands below the place where a pass has come is new, the rest is old
+-- (`Split`), and what a turn stores is the new entry there.
 use Prim.Native.Nat.{ℕ, zero, suc, _+_, _*_, _-_, _/_, _%_, _<_, _≤_}
 use mathlib.Core.Path.{_≡_, refl, sym, _∙_, ap}
 use mathlib.Core.Bool.{Bool, true, false, cond}
@@ -61,7 +62,8 @@ module _ (negate : Bool) (n : ℕ) (f : Series) where
   unfolding mirroredUp
   mirrored-low i h = rw (lt-ltb i ((n + 1) / 2) h)
 
-  pub mirrored-high : (i : ℕ) → (n + 1) / 2 ≤ i → mirroredUp negate n f i ≡ cond negate (⊖ (f (n - 1 - i))) (f (n - 1 - i))
+  pub mirrored-high : (i : ℕ) → (n + 1) / 2 ≤ i → mirroredUp negate n f i
+      ≡ cond negate (⊖ (f (n - 1 - i))) (f (n - 1 - i))
   unfolding mirroredUp
   mirrored-high i h = rw (le-ltb i ((n + 1) / 2) h)
 
@@ -75,17 +77,20 @@ module _ (r : ℕ) (f : Series) where
   copied-high i h = rw (le-ltb i r h)
 
 -- ---- the turns
-module _ (negate : Bool) {n i : ℕ} {l : List ℤ} (e : Series) (s : Split l n i (mirroredUp negate n e) e) (h : (n + 1) / 2 ≤ i) (b : i < n) where
+module _ (negate : Bool) {n i : ℕ} {l : List ℤ} (e : Series) (s : Split l n i (mirroredUp negate n e) e)
+    (h : (n + 1) / 2 ≤ i) (b : i < n) where
   pub mirror-read : entries l (n - 1 - i) ≡ e (n - 1 - i)
   mirror-read = new-entry s (n - 1 - i) (omega arith) (omega arith) ∙ mirrored-low negate n e (n - 1 - i) (omega arith)
 
-  pub mirror-turn : {m : List ℤ} → m ≡ set l i (cond negate (⊖ (entries l (n - 1 - i))) (entries l (n - 1 - i))) → Split m n (i + 1) (mirroredUp negate n e) e
+  pub mirror-turn : {m : List ℤ} → m ≡ set l i (cond negate (⊖ (entries l (n - 1 - i))) (entries l (n - 1 - i)))
+      → Split m n (i + 1) (mirroredUp negate n e) e
   mirror-turn q =
       rw q
       (moved-up s i (i + 1) b refl refl _
       (ap (λ v. cond negate (⊖ v) v) mirror-read ∙ sym (mirrored-high negate n e i h)))
 
-module _ (r : ℕ) {n i : ℕ} {l : List ℤ} (e : Series) (s : Split l n i (copiedFrom r e) e) (h : r ≤ i) (b : i < n) (twice : n ≤ r + r) where
+module _ (r : ℕ) {n i : ℕ} {l : List ℤ} (e : Series) (s : Split l n i (copiedFrom r e) e) (h : r ≤ i) (b : i < n)
+    (twice : n ≤ r + r) where
   pub copy-read : entries l (i - r) ≡ e (i - r)
   copy-read = new-entry s (i - r) (omega arith) (omega arith) ∙ copied-low r e (i - r) (omega arith)
 
@@ -99,7 +104,8 @@ module _ {n i : ℕ} {l : List ℤ} (e : Series) (s : Split l n i (alternate e) 
   pub alternate-turn : {m : List ℤ} → m ≡ set l i (⊖ (entries l i)) → Split m n (i + 2) (alternate e) e
   alternate-turn q =
       rw (two i)
-      (skips (rw q (moved-up s i (i + 1) b refl refl _ (ap ⊖ alternate-read ∙ sym (alternate-odd i e o)))) (alternate-even (i + 1) e (omega arith)))
+      (skips (rw q (moved-up s i (i + 1) b refl refl _ (ap ⊖ alternate-read ∙ sym (alternate-odd i e o))))
+      (alternate-even (i + 1) e (omega arith)))
     where
       two : (j : ℕ) → j + 2 ≡ j + 1 + 1
       two j = omega arith

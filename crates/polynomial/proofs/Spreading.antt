@@ -1,4 +1,5 @@
--- z^t for z, in place from the top down: what lies above i t is spread, what lies up to i is still old, and a turn moves entry i to i t and clears the gap below it.
+-- z^t for z, in place from the top down: what lies above i t is spread, what lies up to i is still old, and a turn
+-- moves entry i to i t and clears the gap below it.
 use Prim.Native.Nat.{ℕ, zero, suc, _+_, _*_, _-_, _/_, _%_, _<_, _≤_}
 use mathlib.Core.Path.{_≡_, refl, sym, _∙_, ap, ap₂}
 use mathlib.Core.Bool.{cond, true, false, _&&_}
@@ -46,7 +47,8 @@ module _ (i at next : ℕ) (f : Series) where
       both false = refl
 
 -- a store and a clearing are that
-module _ (i at next : ℕ) (l m ys : List ℤ) (h : next ≤ at) (b : at < length l) (e : m ≡ set l at (entries l i)) (z : ys ≡ zeros (at - next)) where
+module _ (i at next : ℕ) (l m ys : List ℤ) (h : next ≤ at) (b : at < length l) (e : m ≡ set l at (entries l i))
+    (z : ys ≡ zeros (at - next)) where
   m-length : length m ≡ length l
   m-length = ap length e ∙ length-set l at (entries l i)
 
@@ -62,14 +64,17 @@ module _ (i at next : ℕ) (l m ys : List ℤ) (h : next ≤ at) (b : at < lengt
   unfolding entries zeros
   at-k k c =
       by-order k next
-      (λ u. put-before next at m ys h (omega (arith, m-length)) ys-length k u ∙ elsewhere k (λ q. omega arith) ∙ sym (moved-below i at next (entries l) k u h))
+      (λ u. put-before next at m ys h (omega (arith, m-length)) ys-length k u ∙ elsewhere k (λ q. omega arith)
+      ∙ sym (moved-below i at next (entries l) k u h))
       (λ u. by-order k at
-      (λ v. put-in next at m ys h (omega (arith, m-length)) ys-length k u v ∙ ap (λ x. getD x (k - next) 0ℤ) z ∙ getD-replicate (at - next) (k - next) 0ℤ 0ℤ (omega arith) ∙ sym (moved-gap i at next (entries l) k u v))
+      (λ v. put-in next at m ys h (omega (arith, m-length)) ys-length k u v ∙ ap (λ x. getD x (k - next) 0ℤ) z
+      ∙ getD-replicate (at - next) (k - next) 0ℤ 0ℤ (omega arith) ∙ sym (moved-gap i at next (entries l) k u v))
       (λ v. put-after next at m ys h (omega (arith, m-length)) ys-length k v ∙ last (ℕ-discrete k at) v))
     where
       last : Dec (k ≡ at) → at ≤ k → getD m k 0ℤ ≡ movedUp i at next (entries l) k
       last (yes q) v =
-          ap₂ (λ x j. getD x j 0ℤ) e q ∙ getD-set-same l at (entries l i) 0ℤ b ∙ sym (ap (movedUp i at next (entries l)) q ∙ moved-to i at next (entries l))
+          ap₂ (λ x j. getD x j 0ℤ) e q ∙ getD-set-same l at (entries l i) 0ℤ b
+          ∙ sym (ap (movedUp i at next (entries l)) q ∙ moved-to i at next (entries l))
       last (no q) v = elsewhere k q ∙ sym (moved-above i at next (entries l) k (omega arith))
 
   pub moved : putMid next (at - next) m ys ≡ firsts (length l) (movedUp i at next (entries l))
@@ -84,15 +89,18 @@ pub record Spreading (t : ℕ) (e : Series) (n : ℕ) (l : List ℤ) (i at : ℕ
   pub old : (k : ℕ) → k ≤ i → k < n → getD l k 0ℤ ≡ e k
   pub new : (k : ℕ) → at < k → k < n → getD l k 0ℤ ≡ spread t e k
 
-pub spreading-start : (t top : ℕ) (l : List ℤ) (at : ℕ) → length l ≡ top * t + 1 → at ≡ length l - 1 → Spreading t (entries l) (length l) l top at
+pub spreading-start : (t top : ℕ) (l : List ℤ) (at : ℕ) → length l ≡ top * t + 1 → at ≡ length l - 1
+    → Spreading t (entries l) (length l) l top at
 unfolding entries
-spreading-start t top l at e a = record { place = omega arith; len = refl; old = λ k h b. refl; new = λ k h b. absurd (never k h b) }
+spreading-start t top l at e a =
+    record { place = omega arith; len = refl; old = λ k h b. refl; new = λ k h b. absurd (never k h b) }
   where
     never : (k : ℕ) → at < k → k < length l → ⊥
     never k h b = omega arith
 
 -- one turn: i t is i + (i - 1)(t - 1) + t - 1 at least, so what is still old lies below the gap
-module _ (t : ℕ) (e : Series) {n : ℕ} {l : List ℤ} {i at : ℕ} (s : Spreading t e n l i at) (one : 1 ≤ t) (some : 0 < i) where
+module _ (t : ℕ) (e : Series) {n : ℕ} {l : List ℤ} {i at : ℕ} (s : Spreading t e n l i at) (one : 1 ≤ t)
+    (some : 0 < i) where
   -- (i - 1) t
   step-down : at ≡ (i - 1) * t + t
   step-down =
@@ -113,29 +121,35 @@ module _ (t : ℕ) (e : Series) {n : ℕ} {l : List ℤ} {i at : ℕ} (s : Sprea
       let high : k / t * t < i * t = omega (arith, s .place) in
       omega (arith, NatL.lt-of-mul-lt-mul-right t low, NatL.lt-of-mul-lt-mul-right t high)
 
-  pub spreading-turn : {m : List ℤ} → i ≤ at → at < n → m ≡ firsts (length l) (movedUp i at (at - t + 1) (entries l)) → Spreading t e n m (i - 1) (at - t)
+  pub spreading-turn : {m : List ℤ} → i ≤ at → at < n → m ≡ firsts (length l) (movedUp i at (at - t + 1) (entries l))
+      → Spreading t e n m (i - 1) (at - t)
   unfolding entries
   spreading-turn {m} w b q =
       record {
         place = omega (arith, step-down);
         len = ap length q ∙ length-firsts (length l) (movedUp i at (at - t + 1) (entries l)) ∙ s .len;
-        old = λ k h c. entry k c ∙ moved-below i at (at - t + 1) (entries l) k (omega (arith, far-enough)) (omega (arith, room)) ∙ s .old k (omega arith) c;
+        old = λ k h c. entry k c ∙ moved-below i at (at - t + 1) (entries l) k (omega (arith, far-enough))
+            (omega (arith, room)) ∙ s .old k (omega arith) c;
         new = λ k h c. entry k c ∙ fresh k h c (ℕ-discrete k at);
       }
     where
       entry : (k : ℕ) → k < n → getD m k 0ℤ ≡ movedUp i at (at - t + 1) (entries l) k
-      entry k c = ap (λ x. getD x k 0ℤ) q ∙ getD-firsts (length l) (movedUp i at (at - t + 1) (entries l)) k (omega (arith, s .len))
+      entry k c = ap (λ x. getD x k 0ℤ) q
+          ∙ getD-firsts (length l) (movedUp i at (at - t + 1) (entries l)) k (omega (arith, s .len))
 
       fresh : (k : ℕ) → at - t < k → k < n → Dec (k ≡ at) → movedUp i at (at - t + 1) (entries l) k ≡ spread t e k
       fresh k h c (yes p) =
-          ap (movedUp i at (at - t + 1) (entries l)) p ∙ moved-to i at (at - t + 1) (entries l) ∙ s .old i (NatL.le-refl i) (omega arith)
-          ∙ sym (ap (spread t e) (p ∙ s .place) ∙ spread-on t (i * t) e (NatL.mul-mod-left i t) ∙ ap e (NatL.mul-div-cancel i one))
+          ap (movedUp i at (at - t + 1) (entries l)) p ∙ moved-to i at (at - t + 1) (entries l)
+          ∙ s .old i (NatL.le-refl i) (omega arith)
+          ∙ sym (ap (spread t e) (p ∙ s .place) ∙ spread-on t (i * t) e (NatL.mul-mod-left i t)
+          ∙ ap e (NatL.mul-div-cancel i one))
       fresh k h c (no p) =
           by-order k at
           (λ u. moved-gap i at (at - t + 1) (entries l) k (omega arith) u ∙ sym (spread-off t k e (gap k h u)))
           (λ u. moved-above i at (at - t + 1) (entries l) k (omega arith) ∙ s .new k (omega arith) c)
 
-pub spreading-end : (t : ℕ) (e : Series) {n : ℕ} {l : List ℤ} {at : ℕ} (i : ℕ) → 1 ≤ t → Spreading t e n l i at → i ≡ 0 → l ≡ firsts n (spread t e)
+pub spreading-end : (t : ℕ) (e : Series) {n : ℕ} {l : List ℤ} {at : ℕ} (i : ℕ) → 1 ≤ t → Spreading t e n l i at → i ≡ 0
+    → l ≡ firsts n (spread t e)
 spreading-end t e {n} {l} {at} i one s z = is-firsts n (spread t e) l (s .len) (λ k b. go k b (ℕ-discrete k 0))
   where
     go : (k : ℕ) → k < n → Dec (k ≡ 0) → getD l k 0ℤ ≡ spread t e k

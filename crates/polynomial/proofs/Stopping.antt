@@ -1,4 +1,5 @@
--- The partial request's outcomes: which code each test leads to, what is then told and left, and what n taken apart gives the walk.
+-- The partial request's outcomes: which code each test leads to, what is then told and left, and what n taken apart
+-- gives the walk.
 use Prim.Native.Nat.{ℕ, zero, suc, _+_, _-_, _<_, _≤_}
 use mathlib.Core.Path.{_≡_, refl, sym, _∙_, ap, ap₂}
 use mathlib.Core.Bool.{Bool, true, false, cond, not, _||_}
@@ -96,11 +97,14 @@ module _ (kind n j room : ℕ) where
     module _ (few : j ≤ divisorsDue (rOf n)) where
       pub stop-short : room ≤ halfDegree kind (rOf n) → code kind n j room ≡ SHORT
       unfolding code
-      stop-short h = rw (e, f, ne-eqb (rOf n) 1 g, le-ltb (divisorsDue (rOf n)) j few, le-leb room (halfDegree kind (rOf n)) h)
+      stop-short h =
+          rw (e, f, ne-eqb (rOf n) 1 g, le-ltb (divisorsDue (rOf n)) j few, le-leb room (halfDegree kind (rOf n)) h)
 
-      pub stop-last : halfDegree kind (rOf n) < room → code kind n j room ≡ cond (overAmong largest kind (rOf n) j) OVER DONE
+      pub stop-last : halfDegree kind (rOf n) < room → code kind n j room
+          ≡ cond (overAmong largest kind (rOf n) j) OVER DONE
       unfolding code
-      stop-last h = rw (e, f, ne-eqb (rOf n) 1 g, le-ltb (divisorsDue (rOf n)) j few, lt-leb room (halfDegree kind (rOf n)) h)
+      stop-last h =
+          rw (e, f, ne-eqb (rOf n) 1 g, le-ltb (divisorsDue (rOf n)) j few, lt-leb room (halfDegree kind (rOf n)) h)
 
 -- ---- outcomes: the answer and what is left, by the code
 module _ (kind n j : ℕ) (l : List ℤ) (c : ℕ) (e : code kind n j (length l) ≡ c) where
@@ -119,42 +123,57 @@ Stopped kind n j a m l = (a ≡ answer kind n j (length l)) × (m ≡ leaves kin
 module _ (kind n j : ℕ) (l : List ℤ) where
   -- KIND, INDEX and STEP
   pub plain-stop :
-      (c : ℕ) → answered kind n j c ≡ record { code = c; degree = 0; additions = 0; due = 0 } → left kind n j c l ≡ l → code kind n j (length l) ≡ c
+      (c : ℕ) → answered kind n j c ≡ record { code = c; degree = 0; additions = 0; due = 0 } → left kind n j c l ≡ l
+      → code kind n j (length l) ≡ c
       → Stopped kind n j (record { code = c; degree = 0; additions = 0; due = 0 }) l l
   plain-stop c a b e = (sym (told kind n j l c e ∙ a), sym (stands-left kind n j l c e ∙ b))
 
-  pub at-kind : code kind n j (length l) ≡ KIND → Stopped kind n j (record { code = KIND; degree = 0; additions = 0; due = 0 }) l l
+  pub at-kind : code kind n j (length l) ≡ KIND
+      → Stopped kind n j (record { code = KIND; degree = 0; additions = 0; due = 0 }) l l
   unfolding answered left
   at-kind e = plain-stop KIND refl refl e
 
-  pub at-index : code kind n j (length l) ≡ INDEX → Stopped kind n j (record { code = INDEX; degree = 0; additions = 0; due = 0 }) l l
+  pub at-index : code kind n j (length l) ≡ INDEX
+      → Stopped kind n j (record { code = INDEX; degree = 0; additions = 0; due = 0 }) l l
   unfolding answered left
   at-index e = plain-stop INDEX refl refl e
 
-  pub at-step : code kind n j (length l) ≡ STEP → Stopped kind n j (record { code = STEP; degree = 0; additions = 0; due = 0 }) l l
+  pub at-step : code kind n j (length l) ≡ STEP
+      → Stopped kind n j (record { code = STEP; degree = 0; additions = 0; due = 0 }) l l
   unfolding answered left
   at-step e = plain-stop STEP refl refl e
 
-  pub at-short : code kind n j (length l) ≡ SHORT → Stopped kind n j (record { code = SHORT; degree = halfDegree kind (rOf n); additions = 0; due = 0 }) l l
+  pub at-short : code kind n j (length l) ≡ SHORT
+      → Stopped kind n j (record { code = SHORT; degree = halfDegree kind (rOf n); additions = 0; due = 0 }) l l
   unfolding answered left
   at-short e = (sym (told kind n j l SHORT e), sym (stands-left kind n j l SHORT e))
 
   pub at-over :
       code kind n j (length l) ≡ OVER
-      → Stopped kind n j (record { code = OVER; degree = halfDegree kind (rOf n); additions = 0; due = 0 }) (written (zeros (halfDegree kind (rOf n) + 1)) l) l
+      → Stopped kind n j (record { code = OVER; degree = halfDegree kind (rOf n); additions = 0; due = 0 })
+      (written (zeros (halfDegree kind (rOf n) + 1)) l) l
   unfolding answered left
   at-over e = (sym (told kind n j l OVER e), sym (stands-left kind n j l OVER e))
 
   pub at-done :
       code kind n j (length l) ≡ DONE
-      → Stopped kind n j (record { code = DONE; degree = halfDegree kind (rOf n); additions = additionsAfter kind (rOf n) j; due = divisorsDue (rOf n) - j }) (written (keptHalf kind (rOf n) j) l) l
+      → Stopped kind n j
+      (record {
+        code = DONE;
+        degree = halfDegree kind (rOf n);
+        additions = additionsAfter kind (rOf n) j;
+        due =
+            divisorsDue (rOf n) - j;
+      }) (written (keptHalf kind (rOf n) j) l) l
   unfolding answered left
   at-done e = (sym (told kind n j l DONE e), sym (stands-left kind n j l DONE e))
 
 -- ---- after the steps
 module _
-    (kind n j : ℕ) (l : List ℤ) (e : knownKind kind ≡ true) (f : goodIndex n ≡ true) (g : rOf n ≢ 1) (few : j ≤ divisorsDue (rOf n))
-    (m : List ℤ) (h : Half) (made : Made kind (rOf n) j m h) (d : ℕ) (ed : d ≡ halfDegree kind (rOf n)) (room : d < length l)
+    (kind n j : ℕ) (l : List ℤ) (e : knownKind kind ≡ true) (f : goodIndex n ≡ true) (g : rOf n ≢ 1)
+    (few : j ≤ divisorsDue (rOf n))
+    (m : List ℤ) (h : Half) (made : Made kind (rOf n) j m h) (d : ℕ) (ed : d ≡ halfDegree kind (rOf n))
+    (room : d < length l)
   where
     last-code : code kind n j (length l) ≡ cond (h .over) OVER DONE
     last-code =
@@ -165,24 +184,34 @@ module _
     unfolding written
     in-front new len q = ap₂ (λ x k. x ++ drop k l) q (ap (λ x. x + 1) ed ∙ sym len)
 
-    pub made-over : h .over ≡ true → Stopped kind n j (record { code = OVER; degree = d; additions = 0; due = 0 }) (m ++ drop (d + 1) l) l
+    pub made-over : h .over ≡ true → Stopped kind n j (record { code = OVER; degree = d; additions = 0; due = 0 })
+        (m ++ drop (d + 1) l) l
     unfolding zeros
     made-over o =
         let s = at-over kind n j l (last-code ∙ ap (λ b. cond b OVER DONE) o) in (
           ap (λ k. record { code = OVER; degree = k; additions = 0; due = 0 }) ed ∙ s .0,
-          in-front (zeros (halfDegree kind (rOf n) + 1)) (length-replicate (halfDegree kind (rOf n) + 1) 0ℤ) (made .zeroed o) ∙ s .1,
+          in-front (zeros (halfDegree kind (rOf n) + 1)) (length-replicate (halfDegree kind (rOf n) + 1) 0ℤ)
+              (made .zeroed o) ∙ s .1,
         )
 
-    pub made-done : h .over ≡ false → Stopped kind n j (record { code = DONE; degree = d; additions = h .additions; due = h .walk .due }) (m ++ drop (d + 1) l) l
+    pub made-done : h .over ≡ false
+        → Stopped kind n j (record { code = DONE; degree = d; additions = h .additions; due = h .walk .due })
+        (m ++ drop (d + 1) l) l
     made-done o =
-        let s = at-done kind n j l (last-code ∙ ap (λ b. cond b OVER DONE) o) in
-        (stop-same ed (made .ran .additions o) (made .ran .due o) ∙ s .0, in-front (keptHalf kind (rOf n) j) (kept-length kind (rOf n) j) (made .ran .half o) ∙ s .1)
+        let s = at-done kind n j l (last-code ∙ ap (λ b. cond b OVER DONE) o) in (
+          stop-same ed (made .ran .additions o) (made .ran .due o)
+              ∙ s .0,
+          in-front (keptHalf kind (rOf n) j) (kept-length kind (rOf n) j) (made .ran .half o) ∙ s .1,
+        )
       where
-        stop-same : {x y z x′ y′ z′ : ℕ} → x ≡ x′ → y ≡ y′ → z ≡ z′ → _≡_ {A = Stop} (record { code = DONE; degree = x; additions = y; due = z }) (record { code = DONE; degree = x′; additions = y′; due = z′ })
+        stop-same : {x y z x′ y′ z′ : ℕ} → x ≡ x′ → y ≡ y′ → z ≡ z′
+            → _≡_ {A = Stop} (record { code = DONE; degree = x; additions = y; due = z })
+            (record { code = DONE; degree = x′; additions = y′; due = z′ })
         stop-same p q r i = record { code = DONE; degree = p i; additions = q i; due = r i }
 
 -- what was made by the whole walk, for r
 pub made-here :
-    (n : ℕ) (g : goodIndex n ≡ true) (x : Apart) (e : x ≡ apartOf n) (w : Walk) (o : w ≡ overApart x) (kind : ℕ) (m : List ℤ) (h : Half)
+    (n : ℕ) (g : goodIndex n ≡ true) (x : Apart) (e : x ≡ apartOf n) (w : Walk) (o : w ≡ overApart x) (kind : ℕ)
+    (m : List ℤ) (h : Half)
     → Made kind (w .r) (w .due) m h → Made kind (rOf n) (divisorsDue (rOf n)) m h
 made-here n g x e w o kind m h t = rw (walk-r n g x e w o, walk-due n g x e w o) at t

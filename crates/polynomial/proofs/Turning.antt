@@ -1,5 +1,5 @@
--- One divisor's turn: where the walk stands at place j and more are due, it hands out the divisor there with mu of r/d, and the step on the kept half after j divisors gives
--- that after j + 1.
+-- One divisor's turn: where the walk stands at place j and more are due, it hands out the divisor there with mu of r/d,
+-- and the step on the kept half after j divisors gives that after j + 1.
 use Prim.Native.Nat.{ℕ, zero, suc, _+_, _-_, _/_, _<_, _≤_}
 use mathlib.Core.Path.{_≡_, refl, sym, _∙_, ap, ap₂}
 use mathlib.Core.Bool.{Bool, true, false, cond, not}
@@ -49,7 +49,12 @@ module _ (kind : ℕ) (w : Walk) (bound : ℕ) (l : List ℤ) (st : Standing kin
       let due : w .due ≡ length (divisorsBelow (w .r)) - taken w = ap (λ (x : Walk). x .due) (st .walk .here) in
       omega arith
 
-  pub handed : turnOf w ≡ record { next = Divisor (divisorAt (w .r) (taken w)) (muIsPlus (w .r / divisorAt (w .r) (taken w))); walk = walkAt (w .r) (suc (taken w)) }
+  pub handed : turnOf w
+      ≡ record {
+        next = Divisor (divisorAt (w .r) (taken w)) (muIsPlus (w .r / divisorAt (w .r) (taken w)));
+        walk =
+            walkAt (w .r) (suc (taken w));
+      }
   unfolding divisorsDue
   handed = turn-more (w .r) (taken w) still
 
@@ -57,7 +62,8 @@ module _ (kind : ℕ) (w : Walk) (bound : ℕ) (l : List ℤ) (st : Standing kin
   module _ (t : Turn) (e : t ≡ turnOf w) where
     pub not-nothing : t .next ≡ Nothing → ⊥
     not-nothing q =
-        let p : t .next ≡ Divisor (divisorAt (w .r) (taken w)) (muIsPlus (w .r / divisorAt (w .r) (taken w))) = ap (λ (x : Turn). x .next) (e ∙ handed) in
+        let p : t .next ≡ Divisor (divisorAt (w .r) (taken w)) (muIsPlus (w .r / divisorAt (w .r) (taken w))) =
+        ap (λ (x : Turn). x .next) (e ∙ handed) in
         let z : _≡_ {A = ℕ} 0 1 = cc in
         omega arith
 
@@ -79,15 +85,19 @@ module _ (kind : ℕ) (w : Walk) (bound : ℕ) (l : List ℤ) (st : Standing kin
           (omega (arith, size-is, d .0), omega (arith, size-is, d .1, st .walk .small))
 
       pub turned :
-          (s : Sort) → s ≡ cond (cond (eqb kind 1) plus (not plus)) comb accumulate → (m : List ℤ) (v : Moved) (count : ℕ)
+          (s : Sort) → s ≡ cond (cond (eqb kind 1) plus (not plus)) comb accumulate
+          → (m : List ℤ) (v : Moved) (count : ℕ)
           → Advanced s size l m v → count ≡ length l - size
           → Turned kind w m (record { over = v .over; count = count; bound = v .bound; walk = t .walk })
       unfolding overAt sortOf divisorsDue
       turned s es m v count a ec =
           record {
-            over = a .over ∙ ap₂ (λ x d. Rattle.definitions.specs.Steps.stepOver largest x d l) sort-is size-is ∙ ap (λ x. Rattle.definitions.specs.Steps.stepOver largest (sortOf kind (w .r) d) d x) (st .half);
+            over = a .over ∙ ap₂ (λ x d. Rattle.definitions.specs.Steps.stepOver largest x d l) sort-is size-is
+                ∙ ap (λ x. Rattle.definitions.specs.Steps.stepOver largest (sortOf kind (w .r) d) d x) (st .half);
             after = ap (λ (x : Turn). x .walk) (e ∙ handed);
-            half = λ o. a .leaves o ∙ ap₂ (λ x d. stepList x d l) sort-is size-is ∙ ap (stepList (sortOf kind (w .r) d) d) (st .half) ∙ step-kept kind (w .r) (taken w) still (divisor-in (w .r) (taken w) still .0);
+            half = λ o. a .leaves o ∙ ap₂ (λ x d. stepList x d l) sort-is size-is
+                ∙ ap (stepList (sortOf kind (w .r) d) d) (st .half)
+                ∙ step-kept kind (w .r) (taken w) still (divisor-in (w .r) (taken w) still .0);
             bounded = a .bounded;
             inside = a .inside;
             count = ec ∙ ap₂ (λ n d. n - d) l-length size-is;
@@ -103,5 +113,6 @@ module _ (kind : ℕ) (w : Walk) (bound : ℕ) (l : List ℤ) (st : Standing kin
           sort-is : s ≡ sortOf kind (w .r) d
           sort-is = es ∙ ap (λ b. cond (cond (eqb kind 1) b (not b)) comb accumulate) plus-is ∙ sort-of
             where
-              sort-of : cond (cond (eqb kind 1) (muIsPlus (w .r / d)) (not (muIsPlus (w .r / d)))) comb accumulate ≡ sortOf kind (w .r) d
+              sort-of : cond (cond (eqb kind 1) (muIsPlus (w .r / d)) (not (muIsPlus (w .r / d)))) comb accumulate
+                  ≡ sortOf kind (w .r) d
               sort-of = refl

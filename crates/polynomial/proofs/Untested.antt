@@ -29,14 +29,16 @@ pub within : {b t w : ℕ} → 1 ≤ t → b ≤ w → b ≤ (w - b) / t → b *
 within {b} {t} {w} one h q = omega (arith, le-div-iff-mul-le {x = b} {y = w - b} one .0 q)
 
 -- so no value leaves the range
-pub grown : (s : Sort) (d b : ℕ) → 1 ≤ d → (l : List ℤ) → Bounded b (entries l) → {g : ℕ} → growth s d (length l) b ≡ g → g ≤ largest → (stepOver largest s d l ≡ false) × Bounded g (entries (stepList s d l))
+pub grown : (s : Sort) (d b : ℕ) → 1 ≤ d → (l : List ℤ) → Bounded b (entries l) → {g : ℕ} → growth s d (length l) b ≡ g
+    → g ≤ largest → (stepOver largest s d l ≡ false) × Bounded g (entries (stepList s d l))
 grown s d b one l h e u = (
   growth-not-over s d b one l h largest (subst (λ x. x ≤ largest) (sym e) u),
   subst (λ x. Bounded x (entries (stepList s d l))) e (stepList-bound s d b one l h),
 )
 
 module _ (s : Sort) (d : ℕ) (l : List ℤ) where
-  pub under : {m : List ℤ} {g : ℕ} → stepOver largest s d l ≡ false → m ≡ stepList s d l → Bounded g (entries (stepList s d l)) → g ≤ largest → Advanced s d l m (record { over = false; bound = g })
+  pub under : {m : List ℤ} {g : ℕ} → stepOver largest s d l ≡ false → m ≡ stepList s d l
+      → Bounded g (entries (stepList s d l)) → g ≤ largest → Advanced s d l m (record { over = false; bound = g })
   under o e h u =
       record {
         over = sym o;
@@ -47,5 +49,6 @@ module _ (s : Sort) (d : ℕ) (l : List ℤ) where
       }
 
   -- a size that is at least the length
-  pub long : {b : ℕ} → length l ≤ d → Bounded b (entries l) → b ≤ largest → Advanced s d l l (record { over = false; bound = b })
+  pub long : {b : ℕ} → length l ≤ d → Bounded b (entries l) → b ≤ largest
+      → Advanced s d l l (record { over = false; bound = b })
   long n h u = under (long-not-over s d l largest n) (sym (long-stays s d l n)) (rw (long-stays s d l n) h) u

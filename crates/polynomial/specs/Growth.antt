@@ -17,7 +17,8 @@ pub record Lower (kind r : ℕ) (l : List ℤ) : Type 0 where
   pub half : (i : ℕ) → i < halfDegree kind r + 1 → entries l i ≡ polynomial kind r i
   pub inside : (i : ℕ) → i < halfDegree kind r + 1 → natAbs (polynomial kind r i) ≤ largest
 
--- the first copy of I(2r) stands in the first `top` entries, which is the number of coefficients of I(r), and there is room for the second
+-- the first copy of I(2r) stands in the first `top` entries, which is the number of coefficients of I(r), and there is
+-- room for the second
 pub record FirstCopy (r top : ℕ) (l : List ℤ) : Type 0 where
   pub squarefree : OddSquarefree r
   pub above : r ≢ 1

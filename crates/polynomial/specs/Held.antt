@@ -1,4 +1,5 @@
--- n taken apart, as the code holds it: the odd primes of n in ascending order in five places, with zeros after the last.
+-- n taken apart, as the code holds it: the odd primes of n in ascending order in five places, with zeros after the
+-- last.
 use Prim.Native.Nat.{ℕ, _+_, _*_, _-_, _<_, _∣_}
 use mathlib.Core.Path.{_≡_}
 use mathlib.Core.Logic.{_≢_}

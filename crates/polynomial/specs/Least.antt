@@ -1,4 +1,5 @@
--- What the search for the next divisor holds: the primes in their row, and the least divisor above a number among those of the first masks.
+-- What the search for the next divisor holds: the primes in their row, and the least divisor above a number among those
+-- of the first masks.
 use Prim.Native.Nat.{ℕ, _^_, _≤_, _<_, _∣_}
 use mathlib.Core.Path.{_≡_}
 use mathlib.Core.Bool.{cond, _&&_}

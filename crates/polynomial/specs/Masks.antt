@@ -1,11 +1,15 @@
--- A divisor of p(0) p(1) .. p(k - 1), different primes, is named by the set of its primes, one bit for each. Every divisor has such a mask; the
--- complement of a mask names the rest; and a mask has a one for each prime of what it names.
+-- A divisor of p(0) p(1) .. p(k - 1), different primes, is named by the set of its primes, one bit for each. Every
+-- divisor has such a mask; the complement of a mask names the rest; and a mask has a one for each prime of what it
+-- names.
 use Prim.Native.Nat.{ℕ, zero, suc, _+_, _*_, _-_, _/_, _%_, _^_, _≤_, _<_, _∣_}
 use mathlib.Core.Path.{_≡_, refl, sym, ap, ap₂, _∙_}
 use mathlib.Core.Bool.{cond}
 use mathlib.Core.List.{List}
 use mathlib.Core.Logic.{_⊎_, inl, inr, ⊎-elim}
-use native.Mathlib.Nat.{mul-one, add-comm, mul-pos, add-div-left, mul-assoc, mul-right-comm, one-mul, pow-suc, div-eq-of-lt, div-mul-cancel, mul-add-div-right, mul-add-mod-self-right, dvd-trans, dvd-mul-right, dvd-of-mul-dvd-mul-right, eq-one-of-dvd-one, pos-of-dvd-of-pos, div-eq-of-eq-mul-right}
+use native.Mathlib.Nat.{mul-one, add-comm, mul-pos, add-div-left, mul-assoc, mul-right-comm, one-mul, pow-suc}
+use native.Mathlib.Nat.{div-eq-of-lt, div-mul-cancel, mul-add-div-right, mul-add-mod-self-right, dvd-trans}
+use native.Mathlib.Nat.{dvd-mul-right, dvd-of-mul-dvd-mul-right, eq-one-of-dvd-one, pos-of-dvd-of-pos}
+use native.Mathlib.Nat.{div-eq-of-eq-mul-right}
 use native.Mathlib.Decide.{decDvd, decLt}
 use native.Mathlib.Omega.{arith}
 use lib.Dec.{eqb}
@@ -43,7 +47,8 @@ module _ (l : List ℕ) where
   high-bit : (m i j : ℕ) → j < i → bit (2 ^ i + m) j ≡ bit m j
   high-bit m i j u =
       ap (λ x. (x + m) / 2 ^ j % 2) parts
-      ∙ (ap (λ x. x % 2) (mul-add-div-right (pow-pos j) (2 ^ (i - suc j) * 2) m) ∙ mul-add-mod-self-right (2 ^ (i - suc j)) 2 (m / 2 ^ j))
+      ∙ (ap (λ x. x % 2) (mul-add-div-right (pow-pos j) (2 ^ (i - suc j) * 2) m)
+      ∙ mul-add-mod-self-right (2 ^ (i - suc j)) 2 (m / 2 ^ j))
     where
       parts : 2 ^ i ≡ 2 ^ (i - suc j) * 2 * 2 ^ j
       parts =
@@ -117,8 +122,14 @@ module _ (l : List ℕ) where
             → ((x : ℕ) → x ∣ rowTo l i → (m : ℕ) × (m < 2 ^ i) × (maskTo l m i ≡ x))
             → (m : ℕ) × (m < 2 ^ suc i) × (maskTo l m (suc i) ≡ d)
         go (yes y) ih =
-            let w : (m : ℕ) × (m < 2 ^ i) × (maskTo l m i ≡ d / getD l i 0) = ih (d / getD l i 0) (dvd-of-mul-dvd-mul-right (d / getD l i 0) (prime-pos P) (rw (div-mul-cancel (getD l i 0) y) h)) in
-            (2 ^ i + w .0, omega (arith, w .1), mask-on (w .0) i (w .1) ∙ (ap (λ x. x * getD l i 0) (w .2) ∙ div-mul-cancel (getD l i 0) y))
+            let w : (m : ℕ) × (m < 2 ^ i) × (maskTo l m i ≡ d / getD l i 0) =
+            ih (d / getD l i 0)
+            (dvd-of-mul-dvd-mul-right (d / getD l i 0) (prime-pos P) (rw (div-mul-cancel (getD l i 0) y) h)) in (
+              2 ^ i + w .0,
+              omega (arith, w .1),
+              mask-on (w .0) i (w .1)
+                  ∙ (ap (λ x. x * getD l i 0) (w .2) ∙ div-mul-cancel (getD l i 0) y),
+            )
         go (no y) ih =
             let w : (m : ℕ) × (m < 2 ^ i) × (maskTo l m i ≡ d) = ih d (divides-without (rowTo l i) d P y h) in
             (w .0, omega (arith, w .1), mask-off (w .0) i (w .1) ∙ w .2)
@@ -132,17 +143,23 @@ module _ (l : List ℕ) where
         (λ h. one-more i m (h .0) u (h .1) (h .2) (mask-primes i (h .0) (omega arith) (h .1))) (by-top m i v)
       where
         one-more :
-            (j x h : ℕ) → suc j ≤ k → h < 2 ^ j → x ≡ 2 ^ j + h → primesOf (maskTo l h j) ≡ ones h → primesOf (maskTo l x (suc j)) ≡ ones x
+            (j x h : ℕ) → suc j ≤ k → h < 2 ^ j → x ≡ 2 ^ j + h → primesOf (maskTo l h j) ≡ ones h
+            → primesOf (maskTo l x (suc j)) ≡ ones x
         one-more j x h a w e ih =
             let part : maskTo l h j ∣ rowTo l j = mask-divides j h w in
             ap primesOf (ap (λ c. maskTo l c (suc j)) e ∙ mask-on h j w)
-            ∙ (primes-times (maskTo l h j) (getD l j 0) (pos-of-dvd-of-pos part (row-pos j (omega arith))) (new j a .0) (λ d. new j a .1 (dvd-trans (getD l j 0) d part))
-            ∙ (ap (λ y. y + 1) ih ∙ sym (ap ones (e ∙ ap (λ y. y + h) (sym (one-mul (2 ^ j)))) ∙ (ones-cat j 1 h w ∙ add-comm 1 (ones h)))))
+            ∙ (primes-times (maskTo l h j) (getD l j 0) (pos-of-dvd-of-pos part (row-pos j (omega arith))) (new j a .0)
+            (λ d. new j a .1 (dvd-trans (getD l j 0) d part))
+            ∙ (ap (λ y. y + 1) ih
+            ∙ sym (ap ones (e ∙ ap (λ y. y + h) (sym (one-mul (2 ^ j))))
+            ∙ (ones-cat j 1 h w ∙ add-comm 1 (ones h)))))
 
     -- so mu of the rest is told by the ones of the complement
     pub mask-mu : (m : ℕ) → m < 2 ^ k → muIsPlus (rowTo l k / maskTo l m k) ≡ eqb (ones (2 ^ k - 1 - m) % 2) 0
     unfolding muIsPlus
     mask-mu m u =
         ap (λ q. eqb (q % 2) 0)
-        (ap primesOf (div-eq-of-eq-mul-right (pos-of-dvd-of-pos (mask-divides k m u) (row-pos k (omega arith))) (sym (mask-complement k m u)))
+        (ap primesOf
+        (div-eq-of-eq-mul-right (pos-of-dvd-of-pos (mask-divides k m u) (row-pos k (omega arith)))
+        (sym (mask-complement k m u)))
         ∙ mask-primes k (2 ^ k - 1 - m) (omega arith) (omega arith))

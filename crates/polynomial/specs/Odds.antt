@@ -1,5 +1,5 @@
--- The odd primes of n up to k, as the code holds them: one more where k + 1 is one, else the same; there is room for it and the numbers stay small; and
--- where no more follow they are all of them.
+-- The odd primes of n up to k, as the code holds them: one more where k + 1 is one, else the same; there is room for it
+-- and the numbers stay small; and where no more follow they are all of them.
 use Prim.Native.Nat.{ℕ, zero, suc, _+_, _*_, _-_, _≤_, _<_, _∣_}
 use mathlib.Core.Path.{_≡_, refl, sym, ap, _∙_}
 use mathlib.Core.Bool.{true, false}
@@ -29,7 +29,8 @@ padded-more : (l : List ℕ) (x : ℕ) → length l < 5 → padded (l ++ (x ∷ 
 unfolding padded
 padded-more l x u =
     ap (λ c. (l ++ (x ∷ [])) ++ replicate c 0) after
-    ∙ (append-assoc l (x ∷ []) (replicate j 0) ∙ sym (ap (λ c. set (l ++ replicate c 0) (length l) x) room ∙ set-append-seam l 0 (replicate j 0) x))
+    ∙ (append-assoc l (x ∷ []) (replicate j 0)
+    ∙ sym (ap (λ c. set (l ++ replicate c 0) (length l) x) room ∙ set-append-seam l 0 (replicate j 0) x))
   where
     j : ℕ
     j = 4 - length l
@@ -55,11 +56,18 @@ module _ (n : ℕ) (l : 0 < n) (u : n ≤ 65535) where
     odd-room : countTo k (oddPrimeOf n) < 5
     unfolding kOf
     odd-room =
-        omega (arith, count-yes (oddPrimeOf n) k e, rw (add-sub-of-le below) at (count-up (oddPrimeOf n) (suc k) (n - suc k)), k-at-most-5 n u)
+        omega (
+          arith,
+          count-yes (oddPrimeOf n) k e,
+          rw (add-sub-of-le below) at (count-up (oddPrimeOf n) (suc k) (n - suc k)),
+          k-at-most-5 n u,
+        )
 
     odd-small : productOfTo k (oddPrimeOf n) * suc k ≤ 65535
     odd-small =
-        le-trans (le-of-dvd l (rw (product-yes (oddPrimeOf n) k e) at (product-divides (oddPrimeOf n) odds n (λ x y. test-odd-prime n x .shows y .0 .1) (suc k)))) u
+        le-trans (le-of-dvd l
+        (rw (product-yes (oddPrimeOf n) k e) at (product-divides (oddPrimeOf n) odds n
+        (λ x y. test-odd-prime n x .shows y .0 .1) (suc k)))) u
 
     grown : phi (productOfTo k (oddPrimeOf n) * suc k) ≡ phi (productOfTo k (oddPrimeOf n)) * (suc k - 1)
     grown = phi-times (productOfTo k (oddPrimeOf n)) (suc k) (odds (suc k) e) new
@@ -89,7 +97,8 @@ module _ (n : ℕ) (l : 0 < n) (u : n ≤ 65535) where
             ≡ set (padded (listTo k (oddPrimeOf n))) (countTo k (oddPrimeOf n)) (suc k)
         listed =
             ap padded (list-yes (oddPrimeOf n) k e)
-            ∙ (padded-more (listTo k (oddPrimeOf n)) (suc k) (omega (arith, here, odd-room)) ∙ ap (λ c. set (padded (listTo k (oddPrimeOf n))) c (suc k)) here)
+            ∙ (padded-more (listTo k (oddPrimeOf n)) (suc k) (omega (arith, here, odd-room))
+            ∙ ap (λ c. set (padded (listTo k (oddPrimeOf n))) c (suc k)) here)
 
   pub odd-none : oddTo n 0 ≡ record { primes = 0 ∷ 0 ∷ 0 ∷ 0 ∷ 0 ∷ []; count = 0; product = 1; free = 1 }
   unfolding oddTo padded listTo countTo productOfTo
@@ -98,7 +107,8 @@ module _ (n : ℕ) (l : 0 < n) (u : n ≤ 65535) where
   pub odd-same : (k : ℕ) → oddPrimeOf n (suc k) ≡ false → oddTo n (suc k) ≡ oddTo n k
   unfolding oddTo
   odd-same k e =
-      same-odd _ _ (ap padded (list-no (oddPrimeOf n) k e)) (count-no (oddPrimeOf n) k e) (product-no (oddPrimeOf n) k e)
+      same-odd _ _ (ap padded (list-no (oddPrimeOf n) k e)) (count-no (oddPrimeOf n) k e)
+      (product-no (oddPrimeOf n) k e)
       (ap phi (product-no (oddPrimeOf n) k e))
 
   pub odd-further :
@@ -106,10 +116,12 @@ module _ (n : ℕ) (l : 0 < n) (u : n ≤ 65535) where
   odd-further m zero e = ap (oddTo n) (add-zero m)
   odd-further m (suc j) e =
       ap (oddTo n) (add-suc m j)
-      ∙ (odd-same (m + j) (e (suc (m + j)) (omega arith) (omega arith)) ∙ odd-further m j (λ d a b. e d a (omega arith)))
+      ∙ (odd-same (m + j) (e (suc (m + j)) (omega arith) (omega arith))
+      ∙ odd-further m j (λ d a b. e d a (omega arith)))
 
   -- none above k: they are all
   pub odd-all : (k : ℕ) → ((d : ℕ) → k < d → oddPrimeOf n d ≡ false) → oddTo n k ≡ oddTo n n
   odd-all k e =
       sym (odd-further k n (λ d a b. e d a))
-      ∙ (ap (oddTo n) (add-comm k n) ∙ odd-further n k (λ d a b. denies (test-odd-prime n d) (λ h. not-le-of-lt a (le-of-dvd l (h .0 .1)))))
+      ∙ (ap (oddTo n) (add-comm k n)
+      ∙ odd-further n k (λ d a b. denies (test-odd-prime n d) (λ h. not-le-of-lt a (le-of-dvd l (h .0 .1)))))

@@ -28,13 +28,15 @@ unfolding rowTo
 below-in-row l m p zero h P d = omega (arith, eq-one-of-dvd-one d, P .above)
 below-in-row l m p (suc i) h P d =
     ⊎-elim (λ x. below-in-row l m p i (λ j u. h j (omega arith)) P x)
-    (λ x. omega (arith, prime-same P (h i (omega arith) .0) x, h i (omega arith) .1)) (euclid (rowTo l i) (getD l i 0) P d)
+    (λ x. omega (arith, prime-same P (h i (omega arith) .0) x, h i (omega arith) .1))
+    (euclid (rowTo l i) (getD l i 0) P d)
 
 module _ (n : ℕ) where
   pub entry : (i : ℕ) → i < kOf n → getD (padded (listTo n (oddPrimeOf n))) i 0 ≡ getD (listTo n (oddPrimeOf n)) i 0
   unfolding padded kOf
   entry i u =
-      List·getD-append (listTo n (oddPrimeOf n)) (replicate (5 - length (listTo n (oddPrimeOf n))) 0) 0 i (omega (arith, list-length (oddPrimeOf n) n))
+      List·getD-append (listTo n (oddPrimeOf n)) (replicate (5 - length (listTo n (oddPrimeOf n))) 0) 0 i
+      (omega (arith, list-length (oddPrimeOf n) n))
 
   inside : (i : ℕ) → i < kOf n → i < length (listTo n (oddPrimeOf n))
   unfolding kOf
@@ -67,18 +69,25 @@ module _ (n : ℕ) where
       → getD (padded (listTo n (oddPrimeOf n))) (countTo j (oddPrimeOf n)) 0 ≡ suc j
   unfolding kOf
   next-place j u e =
-      let room : countTo j (oddPrimeOf n) < kOf n = omega (arith, count-yes (oddPrimeOf n) j e, rw (add-sub-of-le u) at (count-up (oddPrimeOf n) (suc j) (n - suc j))) in
+      let room : countTo j (oddPrimeOf n) < kOf n =
+      omega (
+        arith,
+        count-yes (oddPrimeOf n) j e,
+        rw (add-sub-of-le u) at (count-up (oddPrimeOf n) (suc j) (n - suc j)),
+      ) in
       entry (countTo j (oddPrimeOf n)) room ∙ list-next (oddPrimeOf n) j n u e
 
   row-product :
-      (j : ℕ) → j ≤ n → rowTo (padded (listTo n (oddPrimeOf n))) (countTo j (oddPrimeOf n)) ≡ productOfTo j (oddPrimeOf n)
+      (j : ℕ) → j ≤ n → rowTo (padded (listTo n (oddPrimeOf n))) (countTo j (oddPrimeOf n))
+      ≡ productOfTo j (oddPrimeOf n)
   unfolding rowTo productOfTo
   row-product zero u = ap (rowTo _) (count-zero (oddPrimeOf n))
   row-product (suc j) u =
       ⊎-elim
       (λ e. ap (rowTo _) (count-yes (oddPrimeOf n) j e ∙ add-one _)
       ∙ (ap₂ _*_ (row-product j (omega arith)) (next-place j u e) ∙ sym (product-yes (oddPrimeOf n) j e)))
-      (λ e. ap (rowTo _) (count-no (oddPrimeOf n) j e) ∙ (row-product j (omega arith) ∙ sym (product-no (oddPrimeOf n) j e)))
+      (λ e. ap (rowTo _) (count-no (oddPrimeOf n) j e)
+      ∙ (row-product j (omega arith) ∙ sym (product-no (oddPrimeOf n) j e)))
       (either (oddPrimeOf n (suc j)))
 
   pub row-r : rowTo (padded (listTo n (oddPrimeOf n))) (kOf n) ≡ rOf n

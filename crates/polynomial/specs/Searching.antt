@@ -1,10 +1,12 @@
--- The search for the next divisor, step by step: sizes stay small; the start is r itself; each mask is weighed; and at the end every mask was.
+-- The search for the next divisor, step by step: sizes stay small; the start is r itself; each mask is weighed; and at
+-- the end every mask was.
 use Prim.Native.Nat.{ℕ, zero, suc, _+_, _*_, _-_, _^_, _≤_, _<_}
 use mathlib.Core.Path.{_≡_, refl, sym, ap, ap₂, _∙_}
 use mathlib.Core.Bool.{Bool, true, false, cond, _&&_}
 use mathlib.Core.List.{List}
 use mathlib.Core.Logic.{_⊎_, inl, inr, ⊎-elim}
-use native.Mathlib.Nat.{sub-zero, mul-le-mul, le-mul-of-pos-right, le-trans, le-refl, le-of-eq, one-mul, add-zero, add-suc, add-sub-of-le, eq-or-lt-of-le}
+use native.Mathlib.Nat.{sub-zero, mul-le-mul, le-mul-of-pos-right, le-trans, le-refl, le-of-eq, one-mul, add-zero}
+use native.Mathlib.Nat.{add-suc, add-sub-of-le, eq-or-lt-of-le}
 use native.Mathlib.Numerals.{add-one}
 use native.Mathlib.Decide.{decLe}
 use native.Mathlib.Omega.{arith}
@@ -38,7 +40,8 @@ module _ (l : List ℕ) (k : ℕ) (w : Row l k) where
   mask-below : (m i : ℕ) → i ≤ k → maskTo l m i ≤ rowTo l i
   unfolding maskTo rowTo
   mask-below m zero u = le-refl 1
-  mask-below m (suc i) u = mul-le-mul (mask-below m i (omega arith)) (at-most (eqb (bit m i) 1) (getD l i 0) (entry-pos i u))
+  mask-below m (suc i) u =
+      mul-le-mul (mask-below m i (omega arith)) (at-most (eqb (bit m i) 1) (getD l i 0) (entry-pos i u))
 
   row-up : (i j : ℕ) → i + j ≤ k → rowTo l i ≤ rowTo l (i + j)
   unfolding rowTo
@@ -59,7 +62,8 @@ module _ (l : List ℕ) (k : ℕ) (w : Row l k) where
       → y ≡ cond (eqb (bit m i) 1) (getD l i 0) 1
       → (x * y ≡ maskTo l m (i + 1)) × (x * y ≤ 65535)
   mask-more m i x y u e h =
-      let step : x * y ≡ maskTo l m (i + 1) = ap₂ _*_ e h ∙ (sym (mask-suc l m i) ∙ ap (maskTo l m) (sym (add-one i))) in
+      let step : x * y ≡ maskTo l m (i + 1) = ap₂ _*_ e h
+      ∙ (sym (mask-suc l m i) ∙ ap (maskTo l m) (sym (add-one i))) in
       (step, rw step (mask-small m (i + 1) (omega arith)))
 
   mask-none : (i : ℕ) → maskTo l 0 i ≡ 1
@@ -70,7 +74,8 @@ module _ (l : List ℕ) (k : ℕ) (w : Row l k) where
   mask-full : maskTo l (2 ^ k - 1) k ≡ rowTo l k
   mask-full =
       sym (one-mul (maskTo l (2 ^ k - 1) k))
-      ∙ (ap (λ x. x * maskTo l (2 ^ k - 1) k) (sym (mask-none k)) ∙ rw (sub-zero (2 ^ k - 1)) at (mask-complement l k 0 (pow-pos k)))
+      ∙ (ap (λ x. x * maskTo l (2 ^ k - 1) k) (sym (mask-none k))
+      ∙ rw (sub-zero (2 ^ k - 1)) at (mask-complement l k 0 (pow-pos k)))
 
   pub least-start :
       (after a s : ℕ)
@@ -95,7 +100,8 @@ module _ (l : List ℕ) (k : ℕ) (w : Row l k) where
       all : (b : ℕ) → b < 2 ^ k → after < maskTo l b k → x .size ≤ maskTo l b k
       all b v a =
           let w : b ≤ 2 ^ k - 1 = omega arith in
-          ⊎-elim (λ h. le-trans (f .most) (le-of-eq (sym (ap (λ c. maskTo l c k) h ∙ mask-full)))) (λ h. f .least b h a) (eq-or-lt-of-le w)
+          ⊎-elim (λ h. le-trans (f .most) (le-of-eq (sym (ap (λ c. maskTo l c k) h ∙ mask-full)))) (λ h. f .least b h a)
+          (eq-or-lt-of-le w)
 
   pub least-step :
       (after m s : ℕ) (x : Named)

@@ -1,12 +1,14 @@
--- The trial division, step by step: factors taken out of n; the primes found up to k and what is left, at k + 1; and what is left when
--- p p is more: 1, or the last prime.
+-- The trial division, step by step: factors taken out of n; the primes found up to k and what is left, at k + 1; and
+-- what is left when p p is more: 1, or the last prime.
 use Prim.Native.Nat.{ℕ, suc, _+_, _*_, _-_, _/_, _%_, _≤_, _<_, _∣_}
 use mathlib.Core.Path.{_≡_, sym, subst, ap, _∙_}
 use mathlib.Core.Logic.{_≢_, _⊎_, inl, inr, ⊎-elim}
 use mathlib.Core.Bool.{true, false}
 use mathlib.Core.List.{[], _∷_}
 use native.Mathlib.Decide.{ℕ-discrete}
-use native.Mathlib.Nat.{eq-or-lt-of-le, one-mul, le-trans, not-le-of-lt, mul-le-mul, add-sub-of-le, dvd-antisymm, le-antisymm, le-of-dvd, pos-of-dvd-of-pos, dvd-refl, dvd-trans, dvd-of-mod-eq-zero, mod-eq-zero-of-dvd, div-mul-cancel}
+use native.Mathlib.Nat.{eq-or-lt-of-le, one-mul, le-trans, not-le-of-lt, mul-le-mul, add-sub-of-le, dvd-antisymm}
+use native.Mathlib.Nat.{le-antisymm, le-of-dvd, pos-of-dvd-of-pos, dvd-refl, dvd-trans, dvd-of-mod-eq-zero}
+use native.Mathlib.Nat.{mod-eq-zero-of-dvd, div-mul-cancel}
 use native.Mathlib.Omega.{arith}
 use Rattle.numbers.specs.Primes.{two-or-odd, Prime, prime-divisor, prime-same, euclid, quotient-divides, quotient-pos}
 use Rattle.polynomial.specs.Held.{Taking, Without, Sifted, withPrime, oddTo}
@@ -27,7 +29,8 @@ taking-step n p x P t e =
       part = dvd-trans (x / p) (quotient-divides p x d) (t .part);
       kept =
           λ q Q h u.
-          ⊎-elim (λ k. k) (λ k. absurd (u (prime-same Q P k))) (euclid (x / p) p Q (rw (div-mul-cancel p d) (t .kept q Q h u)));
+          ⊎-elim (λ k. k) (λ k. absurd (u (prime-same Q P k)))
+          (euclid (x / p) p Q (rw (div-mul-cancel p d) (t .kept q Q h u)));
     }
   where
     d : p ∣ x
@@ -89,11 +92,17 @@ module _ (n : ℕ) (l : 0 < n) (u : n ≤ 65535) (k : ℕ) (s : Sieve) (f : Sift
   pub passed : (Prime (suc k) → ¬ (suc k ∣ s .rest)) → Sifted n (suc k) s
   passed v =
       record {
-        found = f .found ∙ sym (odd-same n l u k (denies (test-odd-prime n (suc k)) (λ h. v (h .0 .0) (f .kept (suc k) (h .0 .0) (h .0 .1) (h .1) (omega arith)))));
+        found = f .found
+            ∙ sym (odd-same n l u k
+            (denies (test-odd-prime n (suc k))
+            (λ h. v (h .0 .0) (f .kept (suc k) (h .0 .0) (h .0 .1) (h .1) (omega arith)))));
         pos = f .pos;
         part = f .part;
         above =
-            λ q Q d. (let other : q ≢ suc k = λ y. v (rw y at Q) (rw y at d) in omega (arith, f .above q Q d .0), f .above q Q d .1);
+            λ q Q d. (
+              let other : q ≢ suc k = λ y. v (rw y at Q) (rw y at d) in omega (arith, f .above q Q d .0),
+              f .above q Q d .1,
+            );
         kept = λ q Q d w a. f .kept q Q d w (omega arith);
       }
 
@@ -124,7 +133,8 @@ pub sifted-start :
     → 0 < n
     → n ≤ 65535
     → Without n 2 x
-    → Sifted n 2 (record { odd = record { primes = 0 ∷ 0 ∷ 0 ∷ 0 ∷ 0 ∷ []; count = 0; product = 1; free = 1 }; rest = x })
+    → Sifted n 2
+    (record { odd = record { primes = 0 ∷ 0 ∷ 0 ∷ 0 ∷ 0 ∷ []; count = 0; product = 1; free = 1 }; rest = x })
 sifted-start n x l u w =
     record {
       found = sym (odd-further n l u 0 2 small ∙ odd-none n l u);
@@ -142,12 +152,14 @@ pub record Last (n : ℕ) (s : Sieve) : Type 0 where
   pub none : s .rest ≤ 1 → s .odd ≡ oddTo n n
   pub room :
       1 < s .rest
-      → (s .odd .count < 5) × (s .odd .product * s .rest ≤ 65535) × (s .odd .free * (s .rest - 1) ≤ 65535) × (0 < s .rest)
+      → (s .odd .count < 5) × (s .odd .product * s .rest ≤ 65535) × (s .odd .free * (s .rest - 1) ≤ 65535)
+      × (0 < s .rest)
   pub one : 1 < s .rest → withPrime (s .odd) (s .rest) ≡ oddTo n n
 
 module _ (n : ℕ) (l : 0 < n) (u : n ≤ 65535) (k : ℕ) (s : Sieve) (f : Sifted n k s) where
   rest-prime : s .rest < suc k * suc k → 1 < s .rest → Prime (s .rest)
-  rest-prime small a = ⊎-elim itself (λ b. absurd (too-large b)) (eq-or-lt-of-le (quotient-pos q (s .rest) (f .pos) (w .2)))
+  rest-prime small a =
+      ⊎-elim itself (λ b. absurd (too-large b)) (eq-or-lt-of-le (quotient-pos q (s .rest) (f .pos) (w .2)))
     where
       w : (x : ℕ) × Prime x × (x ∣ s .rest)
       w = prime-divisor (s .rest) a
@@ -164,14 +176,17 @@ module _ (n : ℕ) (l : 0 < n) (u : n ≤ 65535) (k : ℕ) (s : Sieve) (f : Sift
       too-large : ¬ (1 < s .rest / w .0)
       too-large b =
           let v : (x : ℕ) × Prime x × (x ∣ s .rest / w .0) = prime-divisor (s .rest / w .0) b in
-          let c : suc k ≤ s .rest / w .0 = le-trans (f .above (v .0) (v .1) (dvd-trans (v .0) (v .2) (quotient-divides (w .0) (s .rest) (w .2))) .0) (le-of-dvd (omega arith) (v .2)) in
+          let c : suc k ≤ s .rest / w .0 =
+          le-trans (f .above (v .0) (v .1) (dvd-trans (v .0) (v .2) (quotient-divides (w .0) (s .rest) (w .2))) .0)
+          (le-of-dvd (omega arith) (v .2)) in
           not-le-of-lt small (rw whole at (mul-le-mul c (f .above (w .0) (w .1) (w .2) .0)))
 
   rest-one : s .rest ≤ 1 → s .odd ≡ oddTo n n
   rest-one h =
       f .found
       ∙ odd-all n l u k
-      (λ d a. denies (test-odd-prime n d) (λ w. omega (arith, w .0 .0 .above, le-of-dvd (f .pos) (f .kept d (w .0 .0) (w .0 .1) (w .1) a))))
+      (λ d a. denies (test-odd-prime n d)
+      (λ w. omega (arith, w .0 .0 .above, le-of-dvd (f .pos) (f .kept d (w .0 .0) (w .0 .1) (w .1) a))))
 
   module _ (j : ℕ) (e : s .rest ≡ suc j) (P : Prime (suc j)) where
     last-odd : oddPrimeOf n (suc j) ≡ true
@@ -197,7 +212,12 @@ module _ (n : ℕ) (l : 0 < n) (u : n ≤ 65535) (k : ℕ) (s : Sieve) (f : Sift
         none-above : (d : ℕ) → suc j < d → oddPrimeOf n d ≡ false
         none-above d a =
             denies (test-odd-prime n d)
-            (λ h. omega (arith, le-of-dvd (f .pos) (f .kept d (h .0 .0) (h .0 .1) (h .1) (omega (arith, f .above (suc j) P (rw e (dvd-refl (suc j))) .0)))))
+            (λ h. omega (
+              arith,
+              le-of-dvd (f .pos)
+                  (f .kept d (h .0 .0) (h .0 .1) (h .1)
+                  (omega (arith, f .above (suc j) P (rw e (dvd-refl (suc j))) .0))),
+            ))
 
 pub last-of :
     (n : ℕ) → 0 < n → n ≤ 65535 → (p : ℕ) (s : Sieve) → 1 < p → Sifted n (p - 1) s → s .rest < p * p → Last n s
@@ -205,8 +225,10 @@ last-of n l u p s a f small =
     record {
       none = rest-one n l u (p - 1) s f;
       room =
-          λ b. subst (λ x. (s .odd .count < 5) × (s .odd .product * x ≤ 65535) × (s .odd .free * (x - 1) ≤ 65535) × (0 < x)) (sym e)
-          (odd-fields n l u j (last-odd n l u (p - 1) s f j e (prime b)) (s .odd) (up-to-last n l u (p - 1) s f j e (prime b)));
+          λ b. subst (λ x. (s .odd .count < 5) × (s .odd .product * x ≤ 65535) × (s .odd .free * (x - 1) ≤ 65535)
+          × (0 < x)) (sym e)
+          (odd-fields n l u j (last-odd n l u (p - 1) s f j e (prime b)) (s .odd)
+          (up-to-last n l u (p - 1) s f j e (prime b)));
       one = λ b. subst (λ x. withPrime (s .odd) x ≡ oddTo n n) (sym e) (last-all n l u (p - 1) s f j e (prime b));
     }
   where

@@ -1,5 +1,5 @@
--- The walk goes right: the primes of r make a row; the least divisor above the one taken last stands at the next place; and so a turn is the
--- definition's. Also the start, from n taken apart.
+-- The walk goes right: the primes of r make a row; the least divisor above the one taken last stands at the next place;
+-- and so a turn is the definition's. Also the start, from n taken apart.
 use Prim.Native.Nat.{ℕ, zero, suc, _-_, _/_, _%_, _^_, _≤_, _<_, _∣_}
 use mathlib.Core.Path.{_≡_, sym, ap, ap₂, subst, _∙_}
 use mathlib.Core.List.{List}
@@ -66,14 +66,17 @@ module _ (r : ℕ) (O : OddSquarefree r) (u : r ≤ 65535) where
   module _ (j : ℕ) (h : j < length (divisorsBelow r)) (x : Named)
       (f : LeastTo (padded (listTo r (oddPrimeOf r))) (kOf r) (lastOf r j) (2 ^ kOf r) x) where
     size-divides : x .size ∣ r
-    size-divides = rw (f .names, ← row-is) at (mask-divides (padded (listTo r (oddPrimeOf r))) (kOf r) (x .mask) (f .inside))
+    size-divides =
+        rw (f .names, ← row-is) at (mask-divides (padded (listTo r (oddPrimeOf r))) (kOf r) (x .mask) (f .inside))
 
     none-between : (d : ℕ) → lastOf r j < d → d ≤ x .size - 1 → divides d r ≡ false
     none-between d a b = divides-no d r too-small
       where
         too-small : ¬ (d ∣ r)
         too-small e =
-            let w : (m : ℕ) × (m < 2 ^ kOf r) × (maskTo (padded (listTo r (oddPrimeOf r))) m (kOf r) ≡ d) = divisor-mask (padded (listTo r (oddPrimeOf r))) (kOf r) (entry-new r) (kOf r) d (le-refl (kOf r)) (subst (λ y. d ∣ y) row-is e) in
+            let w : (m : ℕ) × (m < 2 ^ kOf r) × (maskTo (padded (listTo r (oddPrimeOf r))) m (kOf r) ≡ d) =
+            divisor-mask (padded (listTo r (oddPrimeOf r))) (kOf r) (entry-new r) (kOf r) d (le-refl (kOf r))
+            (subst (λ y. d ∣ y) row-is e) in
             omega (arith, w .2, f .least (w .0) (w .1) (omega (arith, w .2)), f .above)
 
     count-before : countTo (x .size - 1) (λ d. divides d r) ≡ j
@@ -82,13 +85,16 @@ module _ (r : ℕ) (O : OddSquarefree r) (u : r ≤ 65535) where
         ∙ last-count j (omega arith)
 
     size-below : x .size < r
-    size-below = ⊎-elim (λ e. absurd (omega (arith, ap (λ y. countTo (y - 1) (λ d. divides d r)) e, count-before, below-length))) (λ v. v) (eq-or-lt-of-le (le-of-dvd (O .pos) size-divides))
+    size-below =
+        ⊎-elim (λ e. absurd (omega (arith, ap (λ y. countTo (y - 1) (λ d. divides d r)) e, count-before, below-length)))
+        (λ v. v) (eq-or-lt-of-le (le-of-dvd (O .pos) size-divides))
 
     pub size-next : x .size ≡ divisorAt r j
     unfolding divisorsBelow
     size-next =
         sym whole
-        ∙ (sym (list-next (λ d. divides d r) (x .size - 1) (r - 1) (omega (arith, size-below, f .above)) (divides-yes (suc (x .size - 1)) r (rw whole size-divides)))
+        ∙ (sym (list-next (λ d. divides d r) (x .size - 1) (r - 1) (omega (arith, size-below, f .above))
+        (divides-yes (suc (x .size - 1)) r (rw whole size-divides)))
         ∙ ap (λ c. getD (listTo (r - 1) (λ d. divides d r)) c 0) count-before)
       where
         whole : suc (x .size - 1) ≡ x .size
@@ -97,7 +103,8 @@ module _ (r : ℕ) (O : OddSquarefree r) (u : r ≤ 65535) where
     pub mu-next : eqb (ones (2 ^ kOf r - 1 - x .mask) % 2) 0 ≡ muIsPlus (r / x .size)
     mu-next =
         sym
-        (ap₂ (λ a b. muIsPlus (a / b)) row-is (sym (f .names)) ∙ mask-mu (padded (listTo r (oddPrimeOf r))) (kOf r) (entry-new r) (x .mask) (f .inside))
+        (ap₂ (λ a b. muIsPlus (a / b)) row-is (sym (f .names))
+        ∙ mask-mu (padded (listTo r (oddPrimeOf r))) (kOf r) (entry-new r) (x .mask) (f .inside))
 
     -- the walk with the divisor found taken
     turn-next :
@@ -160,8 +167,11 @@ module _ (w : Walk) (S : Stands w) where
   -- what the search asks
   pub walk-row : Row (w .primes) (w .count) × (w .r ≡ rowTo (w .primes) (w .count)) × (w .last < w .r)
   walk-row =
-      rw (is-primes, is-count, is-last)
-      (row-of (w .r) (S .squarefree) (S .small), row-is (w .r) (S .squarefree) (S .small), last-below (w .r) (S .squarefree) (S .small) (taken w) taken-few)
+      rw (is-primes, is-count, is-last) (
+        row-of (w .r) (S .squarefree) (S .small),
+        row-is (w .r) (S .squarefree) (S .small),
+        last-below (w .r) (S .squarefree) (S .small) (taken w) taken-few,
+      )
 
   -- none is due
   pub walk-done : w .due ≡ 0 → _≡_ {A = Turn} (record { next = Nothing; walk = w }) (turnAt (w .r) (taken w))
@@ -180,12 +190,16 @@ module _ (w : Walk) (S : Stands w) where
       })
       (turnAt (w .r) (taken w))
   walk-next x a n e f =
-      let g : LeastTo (padded (listTo (w .r) (oddPrimeOf (w .r)))) (kOf (w .r)) (lastOf (w .r) (taken w)) (2 ^ kOf (w .r)) x = rw (is-primes, is-count, is-last) at f in
+      let g : LeastTo (padded (listTo (w .r) (oddPrimeOf (w .r)))) (kOf (w .r)) (lastOf (w .r) (taken w))
+      (2 ^ kOf (w .r)) x = rw (is-primes, is-count, is-last) at f in
       let more : taken w < length (divisorsBelow (w .r)) = omega (arith, is-due) in
-      turn-next (w .r) (S .squarefree) (S .small) (taken w) more x g (w .primes) (w .count) (w .due - 1) _ is-primes is-count (omega (arith, is-due))
-      (ap (λ y. eqb (ones (y - x .mask) % 2) 0) (e ∙ ap (λ c. 2 ^ c - 1) is-count) ∙ mu-next (w .r) (S .squarefree) (S .small) (taken w) more x g)
+      turn-next (w .r) (S .squarefree) (S .small) (taken w) more x g (w .primes) (w .count)
+      (w .due - 1) _ is-primes is-count (omega (arith, is-due))
+      (ap (λ y. eqb (ones (y - x .mask) % 2) 0) (e ∙ ap (λ c. 2 ^ c - 1) is-count)
+      ∙ mu-next (w .r) (S .squarefree) (S .small) (taken w) more x g)
 
--- for callers: the walk after j divisors stands, and has taken j; and the walk over n taken apart is the one over r at its start
+-- for callers: the walk after j divisors stands, and has taken j; and the walk over n taken apart is the one over r at
+-- its start
 pub taken-at : (r j : ℕ) → j ≤ length (divisorsBelow r) → taken (walkAt r j) ≡ j
 unfolding taken walkAt
 taken-at r j h = omega arith

@@ -1,5 +1,5 @@
--- The walk over the divisors of r below r after j of them, and the next turn: the divisor that stands at place j, with mu of r/d, and the walk
--- after j + 1; or nothing, where all were taken. The walk tells how many are still due.
+-- The walk over the divisors of r below r after j of them, and the next turn: the divisor that stands at place j, with
+-- mu of r/d, and the walk after j + 1; or nothing, where all were taken. The walk tells how many are still due.
 use Prim.Native.Nat.{ℕ, zero, suc, _-_, _/_, _^_, _≤_}
 use mathlib.Core.Path.{_≡_}
 use mathlib.Core.Bool.{cond}

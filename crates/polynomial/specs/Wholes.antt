@@ -1,4 +1,5 @@
--- The making of a polynomial, as the inner functions' contracts tell it: what they start from, the code they come to, and what they leave.
+-- The making of a polynomial, as the inner functions' contracts tell it: what they start from, the code they come to,
+-- and what they leave.
 use Prim.Native.Nat.{ℕ, suc, _+_}
 use mathlib.Core.Path.{_≡_}
 use mathlib.Core.Bool.{true, cond}
@@ -26,7 +27,8 @@ pub record Ready (kind n : ℕ) (a : Apart) (l : List ℤ) : Type 0 where
 
 -- OVER, then TALL
 unfoldable pub layCode : ℕ → ℕ → ℤ → ℕ
-layCode kind n h = cond (overAmong largest kind (rOf n) (divisorsDue (rOf n))) OVER (cond (ltZ h (pos (height kind n))) TALL DONE)
+layCode kind n h = cond (overAmong largest kind (rOf n) (divisorsDue (rOf n))) OVER
+    (cond (ltZ h (pos (height kind n))) TALL DONE)
 
 pub record Laid (kind n : ℕ) (h : ℤ) (m : List ℤ) (r : Layout) : Type 0 where
   pub code : r .code ≡ layCode kind n h

@@ -83,8 +83,8 @@ impl Sieve {
     }
 }
 
-// The odd primes of n: trial division by 3, 5, 7, .. (one that is no prime divides nothing that is left) as long as its square
-// is at most what is left; what is left then is 1 or the last prime.
+// The odd primes of n: trial division by 3, 5, 7, .. (one that is no prime divides nothing that is left) as long as its
+// square is at most what is left; what is left then is 1 or the last prime.
 fn odd_primes(n: u64) -> Odd
     requires { ⌜ (0 < n) × (n ≤ 65535) ⌝ }
     ensures { λ x. ⌜ x ≡ oddTo n n ⌝ }

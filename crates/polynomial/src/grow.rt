@@ -48,7 +48,8 @@ fn even_i(a: &mut [i64], r: u64, top: usize)
 
 // The polynomial of m, which is r or, where n is even, 2 r.
 pub(crate) fn grow(a: &mut [i64], kind: u64, r: u64, free: u64, even: bool)
-    requires { ⌜ Lower kind r (now a) × (knownKind kind ≡ true) × (free ≡ phi r) × (r ≤ 65535) × (length (now a) ≡ degree kind (cond even (2 * r) r) + 1) ⌝ }
+    requires { ⌜ Lower kind r (now a) × (knownKind kind ≡ true) × (free ≡ phi r) × (r ≤ 65535)
+        × (length (now a) ≡ degree kind (cond even (2 * r) r) + 1) ⌝ }
     ensures { λ _. ⌜ now (a .exit) ≡ firsts (length (now (a .entry))) (polynomial kind (cond even (2 * r) r)) ⌝ }
 {
     if !even {

@@ -1,4 +1,5 @@
-// The requests: the half-built polynomial (`partial`) and the polynomial (`polynomial`). Nothing is asked of the caller.
+// The requests: the half-built polynomial (`partial`) and the polynomial (`polynomial`). Nothing is asked of the
+// caller.
 mod apart;
 mod gain;
 mod grow;

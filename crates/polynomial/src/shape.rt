@@ -1,5 +1,5 @@
-// From the kept half to the polynomial, in place: the upper half, the signs and the second copy of an even index, and z^t for z.
-// Each works on a slice that is just as long as what it makes.
+// From the kept half to the polynomial, in place: the upper half, the signs and the second copy of an even index, and
+// z^t for z. Each works on a slice that is just as long as what it makes.
 ghost use Prim.Native.Nat.{ℕ, _+_, _*_, _-_, _/_, _<_, _≤_};
 ghost use mathlib.Core.Path.{_≡_};
 ghost use mathlib.Core.Bool.{cond};
@@ -25,7 +25,9 @@ pub(crate) fn clear(a: &mut [i64])
 // The upper half from the lower: entry N - i is entry i, or its negative.
 pub(crate) fn mirror(a: &mut [i64], negate: bool)
     requires { ⌜ InRange ((length (now a) + 1) / 2) (now a) ⌝ }
-    ensures { λ _. ⌜ now (a .exit) ≡ firsts (length (now (a .entry))) (mirroredUp negate (length (now (a .entry))) (entries (now (a .entry)))) ⌝ }
+    ensures { λ _.
+        ⌜ now (a .exit)
+        ≡ firsts (length (now (a .entry))) (mirroredUp negate (length (now (a .entry))) (entries (now (a .entry)))) ⌝ }
 {
     let n = a.len();
     let mut i = (n + 1) / 2;
@@ -39,7 +41,9 @@ pub(crate) fn mirror(a: &mut [i64], negate: bool)
 // Entry k, or its negative, at i.
 fn turn_to(a: &mut [i64], k: usize, i: usize, negate: bool)
     requires { ⌜ (k < length (now a)) × (i < length (now a)) × (natAbs (entries (now a) k) ≤ largest) ⌝ }
-    ensures { λ _. ⌜ now (a .exit) ≡ set (now (a .entry)) i (cond negate (⊖ (entries (now (a .entry)) k)) (entries (now (a .entry)) k)) ⌝ }
+    ensures { λ _.
+        ⌜ now (a .exit)
+        ≡ set (now (a .entry)) i (cond negate (⊖ (entries (now (a .entry)) k)) (entries (now (a .entry)) k)) ⌝ }
 {
     if negate {
         negate_to(a, k, i);
@@ -97,7 +101,8 @@ fn move_up(a: &mut [i64], i: usize, at: usize, next: usize)
     clear(&mut a[next..at]);
 }
 
-// z^t for z: the entries 0, 1, .. go to 0, t, .. with zeros between, from the top down, so that none is overwritten before it is moved.
+// z^t for z: the entries 0, 1, .. go to 0, t, .. with zeros between, from the top down, so that none is overwritten
+// before it is moved.
 pub(crate) fn spread(a: &mut [i64], top: usize, t: usize)
     requires { ⌜ (1 ≤ t) × (length (now a) ≡ top * t + 1) ⌝ }
     ensures { λ _. ⌜ now (a .exit) ≡ firsts (length (now (a .entry))) (spread t (entries (now (a .entry)))) ⌝ }

@@ -1,4 +1,5 @@
-// The divisors of r below r, one after the other in ascending order. A divisor is named by the set of its primes, one bit for each.
+// The divisors of r below r, one after the other in ascending order. A divisor is named by the set of its primes, one
+// bit for each.
 use super::apart::Apart;
 ghost use Prim.Native.Nat.{ℕ, _+_, _*_, _-_, _^_, _<_, _≤_};
 ghost use mathlib.Core.Path.{_≡_};
@@ -14,7 +15,8 @@ pub(crate) struct Named {
     pub size: u64,
 }
 
-// The walk: the primes of r in five places, how many, r, the divisor taken last (0 before the first) and how many are still due.
+// The walk: the primes of r in five places, how many, r, the divisor taken last (0 before the first) and how many are
+// still due.
 pub(crate) struct Walk {
     pub primes: [u64; 5],
     pub count: usize,

@@ -84,8 +84,8 @@ fn tall(h: i64, height: u64) -> bool
     (h as u64) < height
 }
 
-// r > 1: the kept half after all divisors, the polynomial of m from it, and z^t for z. The height is that of the kept half, so a polynomial too
-// tall is never laid out.
+// r > 1: the kept half after all divisors, the polynomial of m from it, and z^t for z. The height is that of the kept
+// half, so a polynomial too tall is never laid out.
 fn lay_more(b: &mut [i64], kind: u64, n: u64, a: Apart, h: i64) -> Layout
     requires { ⌜ Ready kind n a (now b) × (rOf n ≢ 1) × (ltZ h (pos 1) ≡ false) ⌝ }
     ensures { λ r. ⌜ Laid kind n h (now (b .exit)) r ⌝ }

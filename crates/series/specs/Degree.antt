@@ -1,5 +1,6 @@
--- Polynomials: series that are 0 from some degree on. They are closed under the ring's operations and z ↦ z^t; the highest coefficients of a product multiply;
--- a polynomial factor of a monic polynomial by a monic one is monic, and its degree is the difference (`monic-div`).
+-- Polynomials: series that are 0 from some degree on. They are closed under the ring's operations and z ↦ z^t; the
+-- highest coefficients of a product multiply; a polynomial factor of a monic polynomial by a monic one is monic, and
+-- its degree is the difference (`monic-div`).
 use Prim.Native.Nat.{ℕ, zero, suc, _+_, _*_, _-_, _/_, _%_, _≤_, _<_}
 use mathlib.Core.Path.{_≡_, refl, sym, _∙_, ap, ap₂, subst, fun-ext}
 use mathlib.Core.Logic.{_≢_, _⊎_, inl, inr}
@@ -40,7 +41,8 @@ none-mul : (f g : Series) → ZeroFrom 0 f → (i : ℕ) → (f · g) i ≡ 0ℤ
 none-mul f g a zero = at-mul-zero f g ∙ ap (λ q. q ⊗ g zero) (a 0 (omega arith)) ∙ zero-⊗ (g zero)
 none-mul f g a (suc i) =
     at-mul-suc f g i
-    ∙ ap₂ _⊕_ (ap (λ q. q ⊗ g (suc i)) (a 0 (omega arith)) ∙ zero-⊗ (g (suc i))) (none-mul (tail f) g (λ j h. a (suc j) (omega arith)) i)
+    ∙ ap₂ _⊕_ (ap (λ q. q ⊗ g (suc i)) (a 0 (omega arith)) ∙ zero-⊗ (g (suc i)))
+    (none-mul (tail f) g (λ j h. a (suc j) (omega arith)) i)
     ∙ ⊕-zero 0ℤ
 
 -- f(0) times nothing is nothing, so what is left is the tail's
@@ -58,17 +60,22 @@ zero-mul (suc m) n f g a b (suc i) h =
 only-first : (f g : Series) → ZeroFrom 1 f → (i : ℕ) → (f · g) i ≡ f zero ⊗ g i
 only-first f g a zero = at-mul-zero f g
 only-first f g a (suc i) =
-    at-mul-suc f g i ∙ ap (λ q. f zero ⊗ g (suc i) ⊕ q) (none-mul (tail f) g (λ j h. a (suc j) (omega arith)) i) ∙ ⊕-zero (f zero ⊗ g (suc i))
+    at-mul-suc f g i ∙ ap (λ q. f zero ⊗ g (suc i) ⊕ q) (none-mul (tail f) g (λ j h. a (suc j) (omega arith)) i)
+    ∙ ⊕-zero (f zero ⊗ g (suc i))
 
 pub top-mul : (m n : ℕ) (f g : Series) → ZeroFrom (suc m) f → ZeroFrom (suc n) g → (f · g) (m + n) ≡ f m ⊗ g n
 top-mul zero n f g a b = only-first f g a (0 + n) ∙ ap (λ k. f zero ⊗ g k) (NatL.zero-add n)
 top-mul (suc m) n f g a b =
-    ap (f · g) (NatL.suc-add m n) ∙ low-mul f g (m + n) (b (suc (m + n)) (omega arith)) ∙ top-mul m n (tail f) g (λ j k. a (suc j) (omega arith)) b
+    ap (f · g) (NatL.suc-add m n) ∙ low-mul f g (m + n) (b (suc (m + n)) (omega arith))
+    ∙ top-mul m n (tail f) g (λ j k. a (suc j) (omega arith)) b
 
 -- ---- polynomials
 pub poly-add : (f g : Series) → Poly f → Poly g → Poly (f +ˢ g)
-poly-add f g (m, a) (n, b) =
-    (m + n, zero-add (m + n) f g (zero-later {f = f} (NatL.le-add-right m n) a) (zero-later {f = g} (NatL.le-add-left n m) b))
+poly-add f g (m, a) (n, b) = (
+  m + n,
+  zero-add (m + n) f g (zero-later {f = f} (NatL.le-add-right m n) a)
+      (zero-later {f = g} (NatL.le-add-left n m) b),
+)
 
 pub poly-neg : (f : Series) → Poly f → Poly (-ˢ f)
 poly-neg f p = (p .0, zero-neg (p .0) f (p .1))
@@ -90,7 +97,8 @@ poly-z^ n = (suc n, λ i h. off-z^ n i (λ e. lemma i h e))
     lemma : (i : ℕ) → suc n ≤ i → i ≡ n → ⊥
     lemma i h e = omega arith
 
-spread-zero-from : (t n : ℕ) (f : Series) → 0 < t → ZeroFrom n f → (i : ℕ) → n * t ≤ i → Dec (i % t ≡ 0) → spread t f i ≡ 0ℤ
+spread-zero-from : (t n : ℕ) (f : Series) → 0 < t → ZeroFrom n f → (i : ℕ) → n * t ≤ i → Dec (i % t ≡ 0)
+    → spread t f i ≡ 0ℤ
 spread-zero-from t n f h a i k (yes e) = spread-on t i f e ∙ a (i / t) (NatL.le-div-iff-mul-le h .1 k)
 spread-zero-from t n f h a i k (no e) = spread-off t i f e
 

@@ -1,5 +1,6 @@
--- The power series are a commutative ring. A product recurses on its first factor; the recursion on the second (`mul-suc-right`) gives commutativity, and
--- scaling gives associativity. Each law holds degree by degree, so the series are equal.
+-- The power series are a commutative ring. A product recurses on its first factor; the recursion on the second
+-- (`mul-suc-right`) gives commutativity, and scaling gives associativity. Each law holds degree by degree, so the
+-- series are equal.
 use Prim.Native.Nat.{ℕ, zero, suc, _≤_}
 use mathlib.Core.Path.{_≡_, refl, sym, _∙_, ap, ap₂, fun-ext}
 use mathlib.Core.List.{List, [], _∷_}
@@ -58,7 +59,8 @@ unfolding _·_
 mul-assoc-at f g h zero = ringℤ (f zero ∷ g zero ∷ h zero ∷ []) (x :* y :* z) (x :* (y :* z)) refl
 mul-assoc-at f g h (suc n) =
     ap (λ a. f zero ⊗ g zero ⊗ h (suc n) ⊕ a)
-    (ap (λ s. (s · h) n) (tail-mul f g) ∙ add-mul-at (scale (f zero) (tail g)) (tail f · g) h n ∙ ap₂ _⊕_ (scale-mul-at (f zero) (tail g) h n) (mul-assoc-at (tail f) g h n))
+    (ap (λ s. (s · h) n) (tail-mul f g) ∙ add-mul-at (scale (f zero) (tail g)) (tail f · g) h n
+    ∙ ap₂ _⊕_ (scale-mul-at (f zero) (tail g) h n) (mul-assoc-at (tail f) g h n))
     ∙ ringℤ (f zero ∷ g zero ∷ h (suc n) ∷ (tail g · h) n ∷ (tail f · (g · h)) n ∷ [])
     (x :* y :* z :+ (x :* w :+ u)) (x :* (y :* z :+ w) :+ u) refl
 
@@ -137,7 +139,8 @@ series-ring =
     }
 
 -- ring equations between series
-pub ringˢ : (values : List Series) (a b : Expr) → normal a ≡ normal b → eval series-ring values a ≡ eval series-ring values b
+pub ringˢ : (values : List Series) (a b : Expr) → normal a ≡ normal b → eval series-ring values a
+    ≡ eval series-ring values b
 ringˢ values a b e = ring series-ring values a b e
 
 -- ---- coefficients of sums and products

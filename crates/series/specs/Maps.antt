@@ -1,5 +1,6 @@
--- Putting something for z. A map of series that keeps the first coefficient and sends the tail of f to w times the image of the tail, φ f = f(0) + z w φ(tail f),
--- is a ring homomorphism (`sub-add`, `sub-mul`, ..). z ↦ z^t (`spread`) is one with w = z^(t-1), and z ↦ -z (`alternate`) with w = -1.
+-- Putting something for z. A map of series that keeps the first coefficient and sends the tail of f to w times the
+-- image of the tail, φ f = f(0) + z w φ(tail f), is a ring homomorphism (`sub-add`, `sub-mul`, ..). z ↦ z^t (`spread`)
+-- is one with w = z^(t-1), and z ↦ -z (`alternate`) with w = -1.
 use Prim.Native.Nat.{ℕ, zero, suc, pred, _+_, _*_, _-_, _/_, _%_, _≤_, _<_}
 use mathlib.Core.Path.{_≡_, refl, sym, _∙_, ap, ap₂, subst, fun-ext}
 use mathlib.Core.Bool.{Bool, true, false, cond}
@@ -18,7 +19,8 @@ use Rattle.definitions.specs.Series.{Series, tail, constant, 𝟘, 𝟙, _+ˢ_,
 use Rattle.integers.specs.Solver.{Expr, :0, :1, _:+_, _:*_, :-, x, y, z, w, u}
 use Rattle.integers.specs.Ring as Laws
 use Rattle.integers.specs.Whole.{⊕-assoc, ⊕-zero, ⊗-one, zero-⊗, zero-⊕, ⊖-zero, ⊗-zero, ringℤ}
-use Rattle.series.specs.Laws.{scale, at-+ˢ, at--ˢ, at-𝟘, at-mul-zero, at-mul-suc, agree-mul, tail-mul, scale-mul, constant-mul, one-·, +ˢ-zero, +ˢ-neg, ·-+ˢ, ·-assoc, series-ring, ringˢ}
+use Rattle.series.specs.Laws.{scale, at-+ˢ, at--ˢ, at-𝟘, at-mul-zero, at-mul-suc, agree-mul, tail-mul, scale-mul}
+use Rattle.series.specs.Laws.{constant-mul, one-·, +ˢ-zero, +ˢ-neg, ·-+ˢ, ·-assoc, series-ring, ringˢ}
 
 -- ---- two families of series that start alike and go on alike are the same
 module _ {X : Type 0} (w : Series) (next : X → X) (c : X → Series) (A B : X → Series)
@@ -56,7 +58,8 @@ module _ (φ : Series → Series) (w : Series) (P : Puts φ w) where
       (λ s. φ (s .0 +ˢ s .1)) (λ s. φ (s .0) +ˢ φ (s .1))
       (λ s. head (s .0 +ˢ s .1) ∙ sym (ap₂ _⊕_ (head (s .0)) (head (s .1))))
       (λ s i. step⁺ (s .0 +ˢ s .1) i)
-      (λ s i. ap₂ _⊕_ (step (s .0) i) (step (s .1) i) ∙ sym (zero-⊕ _ ∙ ap (λ q. q i) (·-+ˢ w (φ (tail (s .0))) (φ (tail (s .1))))))
+      (λ s i. ap₂ _⊕_ (step (s .0) i) (step (s .1) i)
+      ∙ sym (zero-⊕ _ ∙ ap (λ q. q i) (·-+ˢ w (φ (tail (s .0))) (φ (tail (s .1))))))
       (f, g)
 
   put-scale : (a : ℤ) (f : Series) → φ (scale a f) ≡ scale a (φ f)
@@ -74,7 +77,8 @@ module _ (φ : Series → Series) (w : Series) (P : Puts φ w) where
       (λ s. head (s · g) ∙ at-mul-zero s g ∙ sym (at-mul-zero (φ s) (φ g) ∙ ap₂ _⊗_ (head s) (head g)))
       (λ s i. step (s · g) i
       ∙ ap (λ q. (w · φ q) i) (tail-mul s g)
-      ∙ ap (λ q. (w · q) i) (put-add (scale (s zero) (tail g)) (tail s · g) ∙ ap (λ q. q +ˢ φ (tail s · g)) (put-scale (s zero) (tail g)))
+      ∙ ap (λ q. (w · q) i) (put-add (scale (s zero) (tail g)) (tail s · g)
+      ∙ ap (λ q. q +ˢ φ (tail s · g)) (put-scale (s zero) (tail g)))
       ∙ ap (λ q. q i) (·-+ˢ w (scale (s zero) (φ (tail g))) (φ (tail s · g)))
       ∙ at-+ˢ (w · scale (s zero) (φ (tail g))) (w · φ (tail s · g)) i
       ∙ ap (λ q. q ⊕ (w · φ (tail s · g)) i) (scale-mul w (s zero) (φ (tail g)) i))
@@ -135,13 +139,15 @@ z^-zero = fun-ext (at)
 z^-suc-mul : (n : ℕ) (f : Series) (i : ℕ) → (z^ (suc n) · f) (suc i) ≡ (z^ n · f) i
 z^-suc-mul n f i =
     at-mul-suc (z^ (suc n)) f i
-    ∙ ap₂ _⊕_ (ap (λ q. q ⊗ f (suc i)) (z^-no (suc n) 0 (λ e. NatL.suc-ne-zero n (sym e))) ∙ zero-⊗ (f (suc i))) (ap (λ q. (q · f) i) (tail-z^ n))
+    ∙ ap₂ _⊕_ (ap (λ q. q ⊗ f (suc i)) (z^-no (suc n) 0 (λ e. NatL.suc-ne-zero n (sym e))) ∙ zero-⊗ (f (suc i)))
+    (ap (λ q. (q · f) i) (tail-z^ n))
     ∙ zero-⊕ ((z^ n · f) i)
 
 -- z^n f is f moved up by n: nothing below n, and f(i) at n + i
 pub shift-below : (n : ℕ) (f : Series) (i : ℕ) → i < n → (z^ n · f) i ≡ 0ℤ
 shift-below zero f i h = absurd (NatL.not-suc-le-zero h)
-shift-below (suc n) f zero h = at-mul-zero (z^ (suc n)) f ∙ ap (λ q. q ⊗ f zero) (z^-no (suc n) 0 (λ e. NatL.suc-ne-zero n (sym e))) ∙ zero-⊗ (f zero)
+shift-below (suc n) f zero h = at-mul-zero (z^ (suc n)) f
+    ∙ ap (λ q. q ⊗ f zero) (z^-no (suc n) 0 (λ e. NatL.suc-ne-zero n (sym e))) ∙ zero-⊗ (f zero)
 shift-below (suc n) f (suc i) h = z^-suc-mul n f i ∙ shift-below n f i (NatL.le-of-suc-le-suc h)
 
 pub shift-at : (n : ℕ) (f : Series) (i : ℕ) → (z^ n · f) (n + i) ≡ f i
@@ -175,7 +181,12 @@ z^-add m n =
 -- ---- z ↦ z^t
 pub spread-puts : (k : ℕ) → Puts (spread (suc k)) (z^ k)
 unfolding spread
-spread-puts k = record { head = λ f. ap₂ (λ a b. cond (eqb a 0) (f b) 0ℤ) (NatL.zero-mod (suc k)) (NatL.zero-div (suc k)); step = λ f i. go f i (decLt i k) }
+spread-puts k =
+    record {
+      head = λ f. ap₂ (λ a b. cond (eqb a 0) (f b) 0ℤ) (NatL.zero-mod (suc k)) (NatL.zero-div (suc k));
+      step =
+          λ f i. go f i (decLt i k);
+    }
   where
     low : (f : Series) (i : ℕ) → i < k → spread (suc k) f (suc i) ≡ 0ℤ
     low f i h = rw (NatL.mod-eq-of-lt {n = suc i} {m = suc k} (omega arith), ne-eqb (suc i) 0 (NatL.suc-ne-zero i))
@@ -183,7 +194,8 @@ spread-puts k = record { head = λ f. ap₂ (λ a b. cond (eqb a 0) (f b) 0ℤ) 
     high : (f : Series) (j : ℕ) → spread (suc k) f (suc (k + j)) ≡ spread (suc k) (tail f) j
     high f j =
         ap (spread (suc k) f) (sym (NatL.suc-add k j))
-        ∙ ap₂ (λ a b. cond (eqb a 0) (f b) 0ℤ) (NatL.add-mod-left (suc k) j) (NatL.add-div-left j (NatL.zero-lt-suc k) ∙ add-one (j / suc k))
+        ∙ ap₂ (λ a b. cond (eqb a 0) (f b) 0ℤ) (NatL.add-mod-left (suc k) j) (NatL.add-div-left j (NatL.zero-lt-suc k)
+        ∙ add-one (j / suc k))
 
     go : (f : Series) (i : ℕ) → Dec (i < k) → spread (suc k) f (suc i) ≡ (z^ k · spread (suc k) (tail f)) i
     go f i (yes h) = low f i h ∙ sym (shift-below k (spread (suc k) (tail f)) i h)
@@ -202,15 +214,24 @@ parity i = go (ℕ-discrete (i % 2) 0)
 
 pub alternate-puts : Puts alternate (constant (⊖ 1ℤ))
 unfolding alternate
-alternate-puts = record { head = λ f. refl; step = λ f i. go f i (parity i) ∙ sym (constant-mul (⊖ 1ℤ) (alternate (tail f)) i ∙ ringℤ (alternate (tail f) i ∷ []) (:- :1 :* x) (:- x) refl) }
+alternate-puts =
+    record {
+      head = λ f. refl;
+      step = λ f i. go f i (parity i)
+          ∙ sym (constant-mul (⊖ 1ℤ) (alternate (tail f)) i
+          ∙ ringℤ (alternate (tail f) i ∷ []) (:- :1 :* x) (:- x) refl);
+    }
   where
     go : (f : Series) (i : ℕ) → (i % 2 ≡ 0) ⊎ (i % 2 ≡ 1) → alternate f (suc i) ≡ ⊖ (alternate (tail f) i)
     go f i (inl e) =
         let o : suc i % 2 ≡ 1 = omega arith in
-        ap (λ a. cond (eqb a 0) (f (suc i)) (⊖ (f (suc i)))) o ∙ sym (ap (λ a. ⊖ (cond (eqb a 0) (f (suc i)) (⊖ (f (suc i))))) e)
+        ap (λ a. cond (eqb a 0) (f (suc i)) (⊖ (f (suc i)))) o
+        ∙ sym (ap (λ a. ⊖ (cond (eqb a 0) (f (suc i)) (⊖ (f (suc i))))) e)
     go f i (inr e) =
         let o : suc i % 2 ≡ 0 = omega arith in
-        ap (λ a. cond (eqb a 0) (f (suc i)) (⊖ (f (suc i)))) o ∙ sym (ap (λ a. ⊖ (cond (eqb a 0) (f (suc i)) (⊖ (f (suc i))))) e ∙ ringℤ (f (suc i) ∷ []) (:- (:- x)) x refl)
+        ap (λ a. cond (eqb a 0) (f (suc i)) (⊖ (f (suc i)))) o
+        ∙ sym (ap (λ a. ⊖ (cond (eqb a 0) (f (suc i)) (⊖ (f (suc i))))) e
+        ∙ ringℤ (f (suc i) ∷ []) (:- (:- x)) x refl)
 
 -- ---- z ↦ z^t for every t above 0, as a ring homomorphism
 spread-puts⁺ : (t : ℕ) → 0 < t → Puts (spread t) (z^ (pred t))
@@ -243,7 +264,8 @@ unfolding spread
 spread-off t i f e = rw (ne-eqb (i % t) 0 e)
 
 -- two series that are f(i/t) at the multiples of t and 0 elsewhere are the same
-pub is-spread : (t : ℕ) (f g : Series) → ((i : ℕ) → i % t ≡ 0 → g i ≡ f (i / t)) → ((i : ℕ) → i % t ≢ 0 → g i ≡ 0ℤ) → spread t f ≡ g
+pub is-spread : (t : ℕ) (f g : Series) → ((i : ℕ) → i % t ≡ 0 → g i ≡ f (i / t)) → ((i : ℕ) → i % t ≢ 0 → g i ≡ 0ℤ)
+    → spread t f ≡ g
 is-spread t f g yes′ no′ = fun-ext (λ i. go i (ℕ-discrete (i % t) 0))
   where
     go : (i : ℕ) → Dec (i % t ≡ 0) → spread t f i ≡ g i
@@ -254,7 +276,8 @@ exact : (i t : ℕ) → i % t ≡ 0 → i / t * t ≡ i
 exact i t e = omega (arith, NatL.div-add-mod' i t)
 
 pub spread-z^ : (t : ℕ) → 0 < t → (n : ℕ) → spread t (z^ n) ≡ z^ (n * t)
-spread-z^ t h n = is-spread t (z^ n) (z^ (n * t)) (λ i e. on i e (ℕ-discrete (i / t) n)) (λ i e. z^-no (n * t) i (λ q. e (ap (λ k. k % t) q ∙ NatL.mul-mod-left n t)))
+spread-z^ t h n = is-spread t (z^ n) (z^ (n * t)) (λ i e. on i e (ℕ-discrete (i / t) n))
+    (λ i e. z^-no (n * t) i (λ q. e (ap (λ k. k % t) q ∙ NatL.mul-mod-left n t)))
   where
     on : (i : ℕ) → i % t ≡ 0 → Dec (i / t ≡ n) → z^ (n * t) i ≡ z^ n (i / t)
     on i e (yes q) = z^-yes (n * t) i (sym (exact i t e) ∙ ap (λ k. k * t) q) ∙ sym (z^-yes n (i / t) q)
@@ -274,9 +297,12 @@ spread-spread a b ha hb f = is-spread a (spread b f) (spread (b * a) f) (λ i e.
 
     on : (i : ℕ) → i % a ≡ 0 → Dec (i / a % b ≡ 0) → spread (b * a) f i ≡ spread b f (i / a)
     on i e (yes q) =
-        spread-on (b * a) i f (split i ∙ ap₂ (λ m n. m * a + n) q e ∙ simp (NatL.zero-mul, NatL.add-zero)) ∙ ap f (quot i) ∙ sym (spread-on b (i / a) f q)
+        spread-on (b * a) i f (split i ∙ ap₂ (λ m n. m * a + n) q e ∙ simp (NatL.zero-mul, NatL.add-zero))
+        ∙ ap f (quot i) ∙ sym (spread-on b (i / a) f q)
     on i e (no q) =
-        spread-off (b * a) i f (λ p. q (times-zero (i / a % b) (sym (ap (λ n. (i / a % b) * a + n) e ∙ NatL.add-zero _) ∙ sym (split i) ∙ p))) ∙ sym (spread-off b (i / a) f q)
+        spread-off (b * a) i f
+        (λ p. q (times-zero (i / a % b) (sym (ap (λ n. (i / a % b) * a + n) e ∙ NatL.add-zero _) ∙ sym (split i)
+        ∙ p))) ∙ sym (spread-off b (i / a) f q)
       where
         times-zero : (k : ℕ) → k * a ≡ 0 → k ≡ 0
         times-zero k p = NatL.eq-of-mul-eq-mul-right a ha k 0 (p ∙ sym (NatL.zero-mul a))
@@ -321,7 +347,8 @@ alternate-z^-odd n o = fun-ext (λ i. go i (ℕ-discrete i n) ∙ sym (at--ˢ (z
 
 -- the two maps commute where t is odd
 pub alternate-spread : (t : ℕ) → t % 2 ≡ 1 → (f : Series) → spread t (alternate f) ≡ alternate (spread t f)
-alternate-spread t o f = is-spread t (alternate f) (alternate (spread t f)) (λ i e. on i e (parity (i / t))) (λ i e. off i e (parity i))
+alternate-spread t o f = is-spread t (alternate f) (alternate (spread t f)) (λ i e. on i e (parity (i / t)))
+    (λ i e. off i e (parity i))
   where
     odd-times : (q i : ℕ) → q * t ≡ i → i % 2 ≡ q % 2
     odd-times q i e =
@@ -331,9 +358,11 @@ alternate-spread t o f = is-spread t (alternate f) (alternate (spread t f)) (λ 
 
     on : (i : ℕ) → i % t ≡ 0 → (i / t % 2 ≡ 0) ⊎ (i / t % 2 ≡ 1) → alternate (spread t f) i ≡ alternate f (i / t)
     on i e (inl p) =
-        alternate-even i (spread t f) (odd-times (i / t) i (exact i t e) ∙ p) ∙ spread-on t i f e ∙ sym (alternate-even (i / t) f p)
+        alternate-even i (spread t f) (odd-times (i / t) i (exact i t e) ∙ p) ∙ spread-on t i f e
+        ∙ sym (alternate-even (i / t) f p)
     on i e (inr p) =
-        alternate-odd i (spread t f) (odd-times (i / t) i (exact i t e) ∙ p) ∙ ap ⊖ (spread-on t i f e) ∙ sym (alternate-odd (i / t) f p)
+        alternate-odd i (spread t f) (odd-times (i / t) i (exact i t e) ∙ p) ∙ ap ⊖ (spread-on t i f e)
+        ∙ sym (alternate-odd (i / t) f p)
 
     off : (i : ℕ) → i % t ≢ 0 → (i % 2 ≡ 0) ⊎ (i % 2 ≡ 1) → alternate (spread t f) i ≡ 0ℤ
     off i e (inl p) = alternate-even i (spread t f) p ∙ spread-off t i f e

@@ -1,5 +1,6 @@
--- A polynomial read backwards: the mirror of f at n has f(n - i) at i. The mirror of a product is the product of the mirrors, degrees added (`mirror-mul`),
--- by recursion on the first factor, f = f(0) + z (tail f), and it goes with z ↦ z^t (`mirror-spread`).
+-- A polynomial read backwards: the mirror of f at n has f(n - i) at i. The mirror of a product is the product of the
+-- mirrors, degrees added (`mirror-mul`), by recursion on the first factor, f = f(0) + z (tail f), and it goes with z ↦
+-- z^t (`mirror-spread`).
 use Prim.Native.Nat.{ℕ, zero, suc, _+_, _*_, _-_, _/_, _%_, _≤_, _<_}
 use mathlib.Core.Path.{_≡_, refl, sym, _∙_, ap, ap₂, fun-ext}
 use mathlib.Core.Bool.{cond}
@@ -15,7 +16,8 @@ use Rattle.definitions.specs.Integers.{_⊕_, _⊗_, ⊖, 0ℤ, 1ℤ}
 use Rattle.definitions.specs.Series.{Series, tail, constant, 𝟘, 𝟙, _+ˢ_, -ˢ, _·_, z^, spread}
 use Rattle.integers.specs.Solver.{_:+_, _:*_, x, y, z, w, u}
 use Rattle.integers.specs.Whole.{⊕-zero, ⊗-one, ⊗-zero, zero-⊕, ⊖-zero, ringℤ}
-use Rattle.series.specs.Laws.{at-+ˢ, at--ˢ, at-mul-zero, tail-mul, scale, constant-mul, constants-mul, ·-comm, ·-assoc, ·-+ˢ, ringˢ}
+use Rattle.series.specs.Laws.{at-+ˢ, at--ˢ, at-mul-zero, tail-mul, scale, constant-mul, constants-mul, ·-comm}
+use Rattle.series.specs.Laws.{·-assoc, ·-+ˢ, ringˢ}
 use Rattle.series.specs.Maps.{at-z^, off-z^, shift-below, shift-from, is-shift, spread-on, spread-off, is-spread}
 use Rattle.series.specs.Degree.{ZeroFrom}
 
@@ -31,7 +33,8 @@ unfolding mirror
 mirror-out n f i h = rw (lt-leb i n h)
 
 -- what has f(n - i) up to n, and nothing above, is the mirror
-pub is-mirror : (n : ℕ) (f g : Series) → ((i : ℕ) → i ≤ n → g i ≡ f (n - i)) → ((i : ℕ) → n < i → g i ≡ 0ℤ) → mirror n f ≡ g
+pub is-mirror : (n : ℕ) (f g : Series) → ((i : ℕ) → i ≤ n → g i ≡ f (n - i)) → ((i : ℕ) → n < i → g i ≡ 0ℤ)
+    → mirror n f ≡ g
 is-mirror n f g low high = fun-ext (λ i. go i (decLe i n))
   where
     go : (i : ℕ) → Dec (i ≤ n) → mirror n f i ≡ g i
@@ -42,7 +45,8 @@ is-mirror n f g low high = fun-ext (λ i. go i (decLe i n))
 mirror-add : (n : ℕ) (f g : Series) → mirror n (f +ˢ g) ≡ mirror n f +ˢ mirror n g
 mirror-add n f g =
     is-mirror n (f +ˢ g) (mirror n f +ˢ mirror n g)
-    (λ i h. at-+ˢ (mirror n f) (mirror n g) i ∙ ap₂ _⊕_ (mirror-in n f i h) (mirror-in n g i h) ∙ sym (at-+ˢ f g (n - i)))
+    (λ i h. at-+ˢ (mirror n f) (mirror n g) i ∙ ap₂ _⊕_ (mirror-in n f i h) (mirror-in n g i h)
+    ∙ sym (at-+ˢ f g (n - i)))
     (λ i h. at-+ˢ (mirror n f) (mirror n g) i ∙ ap₂ _⊕_ (mirror-out n f i h) (mirror-out n g i h) ∙ ⊕-zero 0ℤ)
 
 pub mirror-neg : (n : ℕ) (f : Series) → mirror n (-ˢ f) ≡ -ˢ (mirror n f)
@@ -63,11 +67,14 @@ first-last : (n : ℕ) (f : Series) → mirror (suc n) f ≡ constant (f zero) �
 first-last n f =
     is-mirror (suc n) f (constant (f zero) · z^ (suc n) +ˢ mirror n (tail f)) (λ i h. low i h (decLe i n)) high
   where
-    parts : (i : ℕ) → (constant (f zero) · z^ (suc n) +ˢ mirror n (tail f)) i ≡ f zero ⊗ z^ (suc n) i ⊕ mirror n (tail f) i
-    parts i = at-+ˢ (constant (f zero) · z^ (suc n)) (mirror n (tail f)) i ∙ ap (λ q. q ⊕ mirror n (tail f) i) (constant-mul (f zero) (z^ (suc n)) i)
+    parts : (i : ℕ) → (constant (f zero) · z^ (suc n) +ˢ mirror n (tail f)) i
+        ≡ f zero ⊗ z^ (suc n) i ⊕ mirror n (tail f) i
+    parts i = at-+ˢ (constant (f zero) · z^ (suc n)) (mirror n (tail f)) i
+        ∙ ap (λ q. q ⊕ mirror n (tail f) i) (constant-mul (f zero) (z^ (suc n)) i)
 
     off : (i : ℕ) → i ≢ suc n → (constant (f zero) · z^ (suc n) +ˢ mirror n (tail f)) i ≡ mirror n (tail f) i
-    off i e = parts i ∙ ap (λ q. f zero ⊗ q ⊕ mirror n (tail f) i) (off-z^ (suc n) i e) ∙ ap (λ q. q ⊕ mirror n (tail f) i) (⊗-zero (f zero)) ∙ zero-⊕ (mirror n (tail f) i)
+    off i e = parts i ∙ ap (λ q. f zero ⊗ q ⊕ mirror n (tail f) i) (off-z^ (suc n) i e)
+        ∙ ap (λ q. q ⊕ mirror n (tail f) i) (⊗-zero (f zero)) ∙ zero-⊕ (mirror n (tail f) i)
 
     low : (i : ℕ) → i ≤ suc n → Dec (i ≤ n) → (constant (f zero) · z^ (suc n) +ˢ mirror n (tail f)) i ≡ f (suc n - i)
     low i h (yes k) =
@@ -77,7 +84,8 @@ first-last n f =
         let at : i ≡ suc n = omega (arith, NatL.lt-of-not-le k) in
         let none : 0 ≡ suc n - i = omega arith in
         parts i
-        ∙ ap₂ (λ a b. f zero ⊗ a ⊕ b) (ap (z^ (suc n)) at ∙ at-z^ (suc n)) (mirror-out n (tail f) i (NatL.lt-of-not-le k))
+        ∙ ap₂ (λ a b. f zero ⊗ a ⊕ b) (ap (z^ (suc n)) at ∙ at-z^ (suc n))
+        (mirror-out n (tail f) i (NatL.lt-of-not-le k))
         ∙ ⊕-zero (f zero ⊗ 1ℤ) ∙ ⊗-one (f zero) ∙ ap f none
 
     high : (i : ℕ) → suc n < i → (constant (f zero) · z^ (suc n) +ˢ mirror n (tail f)) i ≡ 0ℤ
@@ -122,7 +130,8 @@ scale-is : (a : ℤ) (f : Series) → constant a · f ≡ scale a f
 unfolding scale
 scale-is a f = fun-ext (constant-mul a f)
 
-pub mirror-mul : (m n : ℕ) (f g : Series) → ZeroFrom (suc m) f → ZeroFrom (suc n) g → mirror (m + n) (f · g) ≡ mirror m f · mirror n g
+pub mirror-mul : (m n : ℕ) (f g : Series) → ZeroFrom (suc m) f → ZeroFrom (suc n) g → mirror (m + n) (f · g)
+    ≡ mirror m f · mirror n g
 mirror-mul zero n f g a b =
     ap₂ (λ k q. mirror k (q · g)) (NatL.zero-add n) (constant-only f a)
     ∙ ap (mirror n) (scale-is (f zero) g)
@@ -135,8 +144,10 @@ mirror-mul (suc m) n f g a b =
     ∙ ap (λ q. constant (f zero ⊗ g zero) · z^ (suc (m + n)) +ˢ q)
     (mirror-add (m + n) (scale (f zero) (tail g)) (tail f · g)
     ∙ ap₂ _+ˢ_ (mirror-scale (m + n) (f zero) (tail g)) (mirror-mul m n (tail f) g (λ i h. a (suc i) (omega arith)) b))
-    ∙ ap (λ q. q · z^ (suc (m + n)) +ˢ (constant (f zero) · mirror (m + n) (tail g) +ˢ mirror m (tail f) · mirror n g)) (constants-mul (f zero) (g zero))
-    ∙ ringˢ (constant (f zero) ∷ constant (g zero) ∷ z^ (suc (m + n)) ∷ mirror (m + n) (tail g) ∷ (mirror m (tail f) · mirror n g) ∷ [])
+    ∙ ap (λ q. q · z^ (suc (m + n)) +ˢ (constant (f zero) · mirror (m + n) (tail g) +ˢ mirror m (tail f) · mirror n g))
+    (constants-mul (f zero) (g zero))
+    ∙ ringˢ (constant (f zero) ∷ constant (g zero) ∷ z^ (suc (m + n)) ∷ mirror (m + n) (tail g)
+    ∷ (mirror m (tail f) · mirror n g) ∷ [])
     (x :* y :* z :+ (x :* w :+ u)) (x :* (y :* z :+ w) :+ u) refl
     ∙ ap (λ q. constant (f zero) · q +ˢ mirror m (tail f) · mirror n g)
     (sym (first-last (m + n) g) ∙ ap (λ k. mirror k g) (sym (NatL.suc-add m n)) ∙ sym (higher (suc m) n g b))
@@ -146,7 +157,8 @@ mirror-mul (suc m) n f g a b =
 
 pub mirror-spread : (t n : ℕ) (f : Series) → 0 < t → spread t (mirror n f) ≡ mirror (n * t) (spread t f)
 mirror-spread t n f h =
-    is-spread t (mirror n f) (mirror (n * t) (spread t f)) (λ i e. on i (i / t) e refl (decLe (i / t) n)) (λ i e. off i e (decLe i (n * t)))
+    is-spread t (mirror n f) (mirror (n * t) (spread t f)) (λ i e. on i (i / t) e refl (decLe (i / t) n))
+    (λ i e. off i e (decLe i (n * t)))
   where
     exact : (i : ℕ) → i % t ≡ 0 → i ≡ i / t * t
     exact i e = omega (arith, NatL.div-add-mod' i t)
@@ -173,5 +185,6 @@ mirror-spread t n f h =
     off i e (yes k) =
         mirror-in (n * t) (spread t f) i k
         ∙ spread-off t (n * t - i) f
-        (λ p. e (NatL.mod-eq-zero-of-dvd t (NatL.dvd-sub-iff-right t k (NatL.dvd-mul-left t n) .0 (NatL.dvd-of-mod-eq-zero t p))))
+        (λ p. e (NatL.mod-eq-zero-of-dvd t
+        (NatL.dvd-sub-iff-right t k (NatL.dvd-mul-left t n) .0 (NatL.dvd-of-mod-eq-zero t p))))
     off i e (no k) = mirror-out (n * t) (spread t f) i (NatL.lt-of-not-le k)

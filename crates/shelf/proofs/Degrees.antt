@@ -1,5 +1,5 @@
--- The degree as its function tells it, 0 above 65,535: it is small, it is the true one where an index is right, and where
--- the index is too large no answer of the writer hangs on it.
+-- The degree as its function tells it, 0 above 65,535: it is small, it is the true one where an index is right, and
+-- where the index is too large no answer of the writer hangs on it.
 use Prim.Native.Nat.{ℕ, zero, suc, _+_, _-_, _≤_}
 use mathlib.Core.Path.{_≡_, refl, ap, _∙_}
 use mathlib.Core.Bool.{Bool, true, false, cond}
@@ -53,10 +53,12 @@ module _ (kind n d : ℕ) (told : d ≡ cond (ltb 65535 n) 0 (degree kind n)) wh
       go true e false ek = simp ek
       go true e true ek = simp (ek, or-right (eqb n 0) (ltb 65535 n) e)
 
-  pub same-leaves : (cs : List ℤ) (bytes : List ℕ) → writeLeaves d kind n cs bytes ≡ writeLeaves (degree kind n) kind n cs bytes
+  pub same-leaves : (cs : List ℤ) (bytes : List ℕ) → writeLeaves d kind n cs bytes
+      ≡ writeLeaves (degree kind n) kind n cs bytes
   unfolding writeLeaves writeAnswer writeTells
   same-leaves cs bytes =
-      let e : writeCode d kind n cs (length bytes) ≡ writeCode (degree kind n) kind n cs (length bytes) = ap (λ (r : Written). r .code)
+      let e : writeCode d kind n cs (length bytes) ≡ writeCode (degree kind n) kind n cs (length bytes) =
+      ap (λ (r : Written). r .code)
       (same-answer cs (length bytes)) in
       rw e
 

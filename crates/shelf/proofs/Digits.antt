@@ -90,7 +90,8 @@ coefficients-body w (c ∷ cs) rest h t =
     let others : heightOf cs ≤ top w = omega arith in
     let tail = body w cs ++ rest in
     let long = length-bytesOf w z in
-    let first : signedOf w (number (bytesOf w z)) ≡ c = ap (signedOf w) (number-bytes w z (twos-less w c h tall)) ∙ signed-twos w c h tall in
+    let first : signedOf w (number (bytesOf w z)) ≡ c = ap (signedOf w) (number-bytes w z (twos-less w c h tall))
+    ∙ signed-twos w c h tall in
     rw (
       append-assoc (bytesOf w z) (body w cs) rest,
       take-at (bytesOf w z) tail w long,
@@ -99,7 +100,8 @@ coefficients-body w (c ∷ cs) rest h t =
       coefficients-body w cs rest h others,
     )
 
-pub body-coefficients : (w k : ℕ) (bs : List ℕ) → k * w ≤ length bs → Bytes bs → body w (coefficientsAt w k bs) ≡ take (k * w) bs
+pub body-coefficients : (w k : ℕ) (bs : List ℕ) → k * w ≤ length bs → Bytes bs → body w (coefficientsAt w k bs)
+    ≡ take (k * w) bs
 unfolding coefficientsAt body
 body-coefficients w zero bs h p = rw zero-mul
 body-coefficients w (suc k) bs h p =
@@ -107,7 +109,8 @@ body-coefficients w (suc k) bs h p =
     let one = take w bs in
     let long : length one ≡ w = length-take-le w bs (omega arith) in
     let bytes = bytes-take w bs p in
-    let first : bytesOf w (twos w (signedOf w (number one))) ≡ one = ap (bytesOf w) (twos-signed w (number one) (number-less w one long bytes))
+    let first : bytesOf w (twos w (signedOf w (number one))) ≡ one =
+    ap (bytesOf w) (twos-signed w (number one) (number-less w one long bytes))
     ∙ bytes-number w one long bytes in
     let others : body w (coefficientsAt w k (drop w bs)) ≡ take (k * w) (drop w bs) = body-coefficients w k (drop w bs)
     (rw length-drop (omega arith)) (bytes-drop w bs p) in

@@ -12,7 +12,8 @@ use Rattle.definitions.specs.Answer.{heightOf}
 use Rattle.definitions.specs.Steps.{largest}
 use Rattle.definitions.specs.Codes.{DONE, KIND, INDEX, SHORT, OVER, CUT, FIELD, WIDTH}
 use Rattle.shelf.specs.Numbers.{width}
-use Rattle.shelf.specs.Format.{size, isKind, writeCode, widthIn, countIn, coefficientsIn, sizeIn, headerCode, readCode}
+use Rattle.shelf.specs.Format.{size, isKind, writeCode, widthIn, countIn, coefficientsIn, sizeIn, headerCode}
+use Rattle.shelf.specs.Format.{readCode}
 
 -- what a writer that refuses nothing was given
 pub record Written-right (d kind n : ℕ) (cs : List ℤ) (room : ℕ) : Type 0 where
@@ -23,7 +24,8 @@ pub record Written-right (d kind n : ℕ) (cs : List ℤ) (room : ℕ) : Type 0 
   pub within : ltb largest (heightOf cs) ≡ false
   pub fits : size cs ≤ room
 
-pub written-right : (d kind n : ℕ) (cs : List ℤ) (room : ℕ) → writeCode d kind n cs room ≡ DONE → Written-right d kind n cs room
+pub written-right : (d kind n : ℕ) (cs : List ℤ) (room : ℕ) → writeCode d kind n cs room ≡ DONE
+    → Written-right d kind n cs room
 unfolding writeCode
 written-right d kind n cs room = go (isKind kind) refl (eqb n 0) refl (ltb 65535 n) refl (eqb (length cs) (d + 1)) refl
     (ltb largest (heightOf cs)) refl (ltb room (size cs)) refl
@@ -31,7 +33,8 @@ written-right d kind n cs room = go (isKind kind) refl (eqb n 0) refl (ltb 65535
     wrong : {k : ℕ} → suc k ≡ 0 → Written-right d kind n cs room
     wrong e = absurd (omega arith)
 
-    go : (k : Bool) → isKind kind ≡ k → (z : Bool) → eqb n 0 ≡ z → (a : Bool) → ltb 65535 n ≡ a → (m : Bool) → eqb (length cs) (d + 1) ≡ m →
+    go : (k : Bool) → isKind kind ≡ k → (z : Bool) → eqb n 0 ≡ z → (a : Bool) → ltb 65535 n ≡ a → (m : Bool)
+        → eqb (length cs) (d + 1) ≡ m →
         (o : Bool) → ltb largest (heightOf cs) ≡ o → (s : Bool) → ltb room (size cs) ≡ s →
         cond (not k) KIND (cond (z || a) INDEX (cond (not m) FIELD (cond o OVER (cond s SHORT DONE)))) ≡ DONE →
         Written-right d kind n cs room
@@ -61,15 +64,18 @@ pub record Read-right (d : ℕ) (bs : List ℕ) (room : ℕ) : Type 0 where
 
 pub read-right : (d : ℕ) (bs : List ℕ) (room : ℕ) → readCode d bs room ≡ DONE → Read-right d bs room
 unfolding readCode
-read-right d bs room = go (headerCode bs) refl (eqb (countIn bs) (d + 1)) refl (ltb (length bs) (sizeIn bs)) refl (ltb room (countIn bs)) refl
+read-right d bs room = go (headerCode bs) refl (eqb (countIn bs) (d + 1)) refl (ltb (length bs) (sizeIn bs)) refl
+    (ltb room (countIn bs)) refl
     (eqb (width (coefficientsIn bs)) (widthIn bs)) refl
   where
     wrong : {k : ℕ} → suc k ≡ 0 → Read-right d bs room
     wrong e = absurd (omega arith)
 
-    go : (h : ℕ) → headerCode bs ≡ h → (m : Bool) → eqb (countIn bs) (d + 1) ≡ m → (s : Bool) → ltb (length bs) (sizeIn bs) ≡ s →
+    go : (h : ℕ) → headerCode bs ≡ h → (m : Bool) → eqb (countIn bs) (d + 1) ≡ m → (s : Bool)
+        → ltb (length bs) (sizeIn bs) ≡ s →
         (r : Bool) → ltb room (countIn bs) ≡ r → (w : Bool) → eqb (width (coefficientsIn bs)) (widthIn bs) ≡ w →
-        cond (not (eqb h DONE)) h (cond (not m) FIELD (cond s CUT (cond r SHORT (cond (not w) WIDTH DONE)))) ≡ DONE → Read-right d bs room
+        cond (not (eqb h DONE)) h (cond (not m) FIELD (cond s CUT (cond r SHORT (cond (not w) WIDTH DONE)))) ≡ DONE
+        → Read-right d bs room
     go (suc h) eh m em s es r er w ew e = wrong (simp (eqb·suc-zero h) at e)
     go zero eh false em s es r er w ew e = wrong e
     go zero eh true em true es r er w ew e = wrong e

@@ -1,5 +1,5 @@
--- The least width: it takes its height and is one of the widths; there is none exactly where a height is above 2^63 - 1.
--- Shown of any list of widths.
+-- The least width: it takes its height and is one of the widths; there is none exactly where a height is above 2^63 -
+-- 1. Shown of any list of widths.
 use Prim.Native.Nat.{ℕ, _*_, _≤_, _<_, _^_}
 use mathlib.Core.Path.{_≡_, refl, sym, ap, _∙_}
 use mathlib.Core.Bool.{Bool, true, false, cond, _||_, true≢false}
@@ -44,10 +44,13 @@ least (w ∷ ws) h = go (leb h (top w)) refl (leastOf ws h) (least ws h)
 found : (ws : List ℕ) (h w : ℕ) → oneOf ws 0 ≡ false → oneOf ws w ≡ true → h ≤ top w → leastOf ws h ≡ 0 → ⊥
 unfolding leastOf oneOf
 found [] h w p o t z = true≢false (sym o)
-found (v ∷ ws) h w p o t z = go (leb h (top v)) refl (eqb 0 v) refl p z (or-cases (eqb w v) (oneOf ws w) o) (found ws h w)
+found (v ∷ ws) h w p o t z = go (leb h (top v)) refl (eqb 0 v) refl p z (or-cases (eqb w v) (oneOf ws w) o)
+    (found ws h w)
   where
-    go : (b : Bool) → leb h (top v) ≡ b → (a : Bool) → eqb 0 v ≡ a → (a || oneOf ws 0) ≡ false → cond b v (leastOf ws h) ≡ 0 →
-        (eqb w v ≡ true) ⊎ (oneOf ws w ≡ true) → (oneOf ws 0 ≡ false → oneOf ws w ≡ true → h ≤ top w → leastOf ws h ≡ 0 → ⊥) → ⊥
+    go : (b : Bool) → leb h (top v) ≡ b → (a : Bool) → eqb 0 v ≡ a → (a || oneOf ws 0) ≡ false → cond b v (leastOf ws h)
+        ≡ 0 →
+        (eqb w v ≡ true) ⊎ (oneOf ws w ≡ true)
+        → (oneOf ws 0 ≡ false → oneOf ws w ≡ true → h ≤ top w → leastOf ws h ≡ 0 → ⊥) → ⊥
     go true e true f q y s more = true≢false q
     go true e false f q y s more = eqb-false 0 v f (sym y)
     go false e true f q y s more = true≢false q
@@ -63,7 +66,8 @@ width-bounds w o =
     ⊎-elim (λ e. let s : w ≡ 1 = eqb-true w 1 e in omega arith)
     (λ o₂. ⊎-elim (λ e. let s : w ≡ 2 = eqb-true w 2 e in omega arith)
     (λ o₄. ⊎-elim (λ e. let s : w ≡ 4 = eqb-true w 4 e in omega arith)
-    (λ o₈. ⊎-elim (λ e. let s : w ≡ 8 = eqb-true w 8 e in omega arith) (λ e. absurd (true≢false (sym e))) (or-cases (eqb w 8) false o₈))
+    (λ o₈. ⊎-elim (λ e. let s : w ≡ 8 = eqb-true w 8 e in omega arith) (λ e. absurd (true≢false (sym e)))
+    (or-cases (eqb w 8) false o₈))
     (or-cases (eqb w 4) (oneOf (8 ∷ []) w) o₄))
     (or-cases (eqb w 2) (oneOf (4 ∷ 8 ∷ []) w) o₂))
     (or-cases (eqb w 1) (oneOf (2 ∷ 4 ∷ 8 ∷ []) w) o)
@@ -89,7 +93,14 @@ fitting : (cs : List ℤ) (w : ℕ) → oneOf widths w ≡ true → heightOf cs 
 fitting cs w o t =
     let b : (0 < w) × (w ≤ 8) = width-bounds w o in
     let small : 2 ^ (8 * w) ≤ 2 ^ 64 = full-mono (b .1) in
-    record { one = o; low = b .0; high = b .1; takes = t; within = le-ltb largest (heightOf cs) (omega (arith, full w (b .0))) }
+    record {
+      one = o;
+      low = b .0;
+      high = b .1;
+      takes = t;
+      within =
+          le-ltb largest (heightOf cs) (omega (arith, full w (b .0)));
+    }
 
 pub width-some : (cs : List ℤ) → (width cs ≡ 0 → ⊥) → Fitting cs (width cs)
 unfolding width

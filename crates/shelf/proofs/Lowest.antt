@@ -1,5 +1,5 @@
--- OVER in document 01's words: of 64-bit entries, the height is above 2^63 - 1 exactly where an entry is -2^63. And a record
--- that holds -2^63 has no least width, so no width in its header is right.
+-- OVER in document 01's words: of 64-bit entries, the height is above 2^63 - 1 exactly where an entry is -2^63. And a
+-- record that holds -2^63 has no least width, so no width in its header is right.
 use Prim.Native.Nat.{ℕ, zero, suc, _≤_, _<_, _^_}
 use mathlib.Core.Path.{_≡_, refl, sym, ap, _∙_}
 use mathlib.Core.Bool.{Bool, true, false, true≢false}
@@ -44,7 +44,8 @@ entry-height [] i = omega arith
 entry-height (c ∷ cs) zero = omega arith
 entry-height (c ∷ cs) (suc i) = omega (arith, entry-height cs i)
 
-pub over-means : (cs : List ℤ) → ((i : ℕ) → mag (getD cs i (pos 0)) < 2 ^ 63) → (ltb largest (heightOf cs) ≡ true) ↔ HasLowest cs
+pub over-means : (cs : List ℤ) → ((i : ℕ) → mag (getD cs i (pos 0)) < 2 ^ 63)
+    → (ltb largest (heightOf cs) ≡ true) ↔ HasLowest cs
 over-means cs fits = (
   λ t. over→lowest cs fits (ltb-true largest (heightOf cs) t),
   λ h. lt-ltb largest (heightOf cs) (omega (arith, ap natAbs (h .2), entry-height cs (h .0))),

@@ -1,5 +1,5 @@
--- One turn of each loop. A pass that stores has the invariant: what is still to be stored, stored now, gives what the whole
--- pass gives; so a turn is the definition's own step. A pass that looks has the same with the largest so far.
+-- One turn of each loop. A pass that stores has the invariant: what is still to be stored, stored now, gives what the
+-- whole pass gives; so a turn is the definition's own step. A pass that looks has the same with the largest so far.
 use Prim.Native.Nat.{ℕ, zero, suc, _+_, _*_, _-_, _/_, _%_, _<_, _≤_, _^_, max}
 use mathlib.Core.Path.{_≡_, refl, sym, ap, _∙_}
 use mathlib.Core.List.{List, [], _∷_, _++_}
@@ -14,7 +14,8 @@ use Rattle.shelf.specs.Numbers.{bytesOf, number, twos, signedOf, body, c
 use Rattle.shelf.proofs.Widths.{full-suc, full-mono}
 
 -- a number put: the lowest byte first
-pub put-turn : (b : List ℕ) (i k v : ℕ) → 0 < k → sets (set b i (v % 256)) (i + 1) (bytesOf (k - 1) (v / 256)) ≡ sets b i (bytesOf k v)
+pub put-turn : (b : List ℕ) (i k v : ℕ) → 0 < k → sets (set b i (v % 256)) (i + 1) (bytesOf (k - 1) (v / 256))
+    ≡ sets b i (bytesOf k v)
 unfolding bytesOf
 put-turn b i zero v h = absurd (omega arith)
 put-turn b i (suc k) v h =
@@ -36,7 +37,8 @@ got-none bs at w =
     let e : w - w ≡ 0 = omega arith in
     rw e (refl, omega arith)
 
-pub got-all : (bs : List ℕ) (at w v left : ℕ) → left ≡ 0 → Got bs at w left v → (v ≡ number (take w (drop at bs))) × (v < 2 ^ (8 * w))
+pub got-all : (bs : List ℕ) (at w v left : ℕ) → left ≡ 0 → Got bs at w left v → (v ≡ number (take w (drop at bs)))
+    × (v < 2 ^ (8 * w))
 got-all bs at w v left z g =
     let e : w - 0 ≡ w = omega arith in
     rw (z, e, add-zero) at g
@@ -47,7 +49,8 @@ got-room bs at w left v h l (same, less) =
     let few : w - left ≤ 7 = omega arith in
     omega (arith, full-mono few)
 
-pub get-turn : (bs : List ℕ) (at w left v b : ℕ) → 0 < left → left ≤ w → at + w ≤ length bs → b ≡ getD bs (at + (left - 1)) 0 → b < 256 →
+pub get-turn : (bs : List ℕ) (at w left v b : ℕ) → 0 < left → left ≤ w → at + w ≤ length bs
+    → b ≡ getD bs (at + (left - 1)) 0 → b < 256 →
     Got bs at w left v → Got bs at w (left - 1) (v * 256 + b)
 unfolding number
 get-turn bs at w left v b h l room e small (same, less) =
@@ -60,7 +63,8 @@ get-turn bs at w left v b h l room e small (same, less) =
     )
 
 -- the store, of a slice's coefficients
-pub sets-append : {A : Type 0} (l : List A) (i : ℕ) (xs ys : List A) → sets l i (xs ++ ys) ≡ sets (sets l i xs) (i + length xs) ys
+pub sets-append : {A : Type 0} (l : List A) (i : ℕ) (xs ys : List A) → sets l i (xs ++ ys)
+    ≡ sets (sets l i xs) (i + length xs) ys
 sets-append l i [] ys = rw add-zero
 sets-append l i (x ∷ xs) ys =
     let e : suc i + length xs ≡ i + suc (length xs) = omega arith in
@@ -77,7 +81,8 @@ unfolding body
 body-cons w cs i l = rw (drop-cons cs i (pos 0), add-one)
 
 pub body-turn : (w : ℕ) (cs : List ℤ) (b : List ℕ) (at i : ℕ) → i < length cs →
-    sets (sets b at (bytesOf w (twos w (getD cs i (pos 0))))) (at + w) (body w (drop (i + 1) cs)) ≡ sets b at (body w (drop i cs))
+    sets (sets b at (bytesOf w (twos w (getD cs i (pos 0))))) (at + w) (body w (drop (i + 1) cs))
+    ≡ sets b at (body w (drop i cs))
 body-turn w cs b at i l =
     let c = twos w (getD cs i (pos 0)) in
     let e : at + length (bytesOf w c) ≡ at + w = ap (λ (k : ℕ). at + k) (length-bytesOf w c) in
@@ -89,12 +94,14 @@ unfolding body
 body-none w cs b at i h = rw (drop-of-length-le cs h)
 
 -- what is left keeps within its bounds
-pub body-left : (w : ℕ) (cs : List ℤ) (i : ℕ) → i < length cs → length (body w (drop i cs)) ≡ w + length (body w (drop (i + 1) cs))
+pub body-left : (w : ℕ) (cs : List ℤ) (i : ℕ) → i < length cs → length (body w (drop i cs))
+    ≡ w + length (body w (drop (i + 1) cs))
 body-left w cs i l = rw (body-cons w cs i l, length-append, length-bytesOf)
 
 -- both passes over the coefficients in some bytes
 pub next-in : (w k at : ℕ) (bs : List ℕ) → 0 < k →
-    coefficientsAt w k (drop at bs) ≡ signedOf w (number (take w (drop at bs))) ∷ coefficientsAt w (k - 1) (drop (at + w) bs)
+    coefficientsAt w k (drop at bs) ≡ signedOf w (number (take w (drop at bs))) ∷ coefficientsAt w (k - 1)
+    (drop (at + w) bs)
 unfolding coefficientsAt
 next-in w zero at bs h = absurd (omega arith)
 next-in w (suc k) at bs h =
@@ -113,7 +120,8 @@ one-less (suc k) w h =
     rw e (omega (arith, suc-mul k w))
 
 pub look-turn : (w k at h : ℕ) (bs : List ℕ) → 0 < k →
-    max (max h (natAbs (signedOf w (number (take w (drop at bs)))))) (heightOf (coefficientsAt w (k - 1) (drop (at + w) bs)))
+    max (max h (natAbs (signedOf w (number (take w (drop at bs))))))
+    (heightOf (coefficientsAt w (k - 1) (drop (at + w) bs)))
     ≡ max h (heightOf (coefficientsAt w k (drop at bs)))
 unfolding heightOf
 look-turn w k at h bs l = rw (next-in w k at bs l) (omega arith)

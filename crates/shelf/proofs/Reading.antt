@@ -14,7 +14,8 @@ use Rattle.definitions.specs.Answer.{heightOf}
 use Rattle.definitions.specs.Codes.{DONE, SHORT, CUT, MARK, FIELD, WIDTH}
 use Rattle.shelf.specs.declared.Record.{Record}
 use Rattle.shelf.specs.Numbers.{coefficientsAt, widths, oneOf, leastOf, width}
-use Rattle.shelf.specs.Format.{isKind, marked, kindIn, widthIn, indexIn, countIn, coefficientsIn, sizeIn, fieldsRight, headerCode, readCode, readTells, readAnswer, readLeaves}
+use Rattle.shelf.specs.Format.{isKind, marked, kindIn, widthIn, indexIn, countIn, coefficientsIn, sizeIn}
+use Rattle.shelf.specs.Format.{fieldsRight, headerCode, readCode, readTells, readAnswer, readLeaves}
 use Rattle.shelf.proofs.Least.{width-bounds}
 
 -- the header by itself
@@ -57,12 +58,14 @@ pub record Right (bs : List ℕ) : Type 0 where
 
 pub right : (bs : List ℕ) → headerCode bs ≡ DONE → Right bs
 unfolding headerCode fieldsRight
-right bs = go (ltb (length bs) 10) refl (marked bs) refl (isKind (kindIn bs)) refl (oneOf widths (widthIn bs)) refl (eqb (indexIn bs) 0) refl
+right bs = go (ltb (length bs) 10) refl (marked bs) refl (isKind (kindIn bs)) refl (oneOf widths (widthIn bs)) refl
+    (eqb (indexIn bs) 0) refl
   where
     wrong : {k : ℕ} → suc k ≡ 0 → Right bs
     wrong e = absurd (omega arith)
 
-    go : (s : Bool) → ltb (length bs) 10 ≡ s → (m : Bool) → marked bs ≡ m → (k : Bool) → isKind (kindIn bs) ≡ k → (w : Bool) →
+    go : (s : Bool) → ltb (length bs) 10 ≡ s → (m : Bool) → marked bs ≡ m → (k : Bool) → isKind (kindIn bs) ≡ k
+        → (w : Bool) →
         oneOf widths (widthIn bs) ≡ w → (z : Bool) → eqb (indexIn bs) 0 ≡ z →
         cond s CUT (cond (not m) MARK (cond (not (k && w && not z)) FIELD DONE)) ≡ DONE → Right bs
     go true es m em k ek w ew z ez e = wrong e
@@ -120,7 +123,13 @@ module _ (d : ℕ) (bs : List ℕ) (cs : List ℤ) where
       module _ (s : sizeIn bs ≤ length bs) where
         pub no-room : length cs < countIn bs → Answered (readTells d bs SHORT) cs
         unfolding readCode
-        no-room r = by-code SHORT (simp (h, eq-eqb (countIn bs) (d + 1) m, le-ltb (length bs) (sizeIn bs) s, lt-ltb (length cs) (countIn bs) r))
+        no-room r = by-code SHORT
+            (simp (
+              h,
+              eq-eqb (countIn bs) (d + 1) m,
+              le-ltb (length bs) (sizeIn bs) s,
+              lt-ltb (length cs) (countIn bs) r,
+            ))
 
         module _ (r : countIn bs ≤ length cs) where
           pub width-wrong : (width (coefficientsIn bs) ≡ widthIn bs → ⊥) → Answered (readTells d bs WIDTH) cs
@@ -133,7 +142,8 @@ module _ (d : ℕ) (bs : List ℕ) (cs : List ℤ) where
             ne-eqb (width (coefficientsIn bs)) (widthIn bs) w,
           ))
 
-          pub filled : width (coefficientsIn bs) ≡ widthIn bs → Answered (readTells d bs DONE) (coefficientsIn bs ++ drop (countIn bs) cs)
+          pub filled : width (coefficientsIn bs) ≡ widthIn bs
+              → Answered (readTells d bs DONE) (coefficientsIn bs ++ drop (countIn bs) cs)
           unfolding readCode
           filled w = by-code DONE (simp (
             h,
@@ -158,7 +168,8 @@ module _ (bs : List ℕ) (w k : ℕ) (ew : w ≡ widthIn bs) (ek : k ≡ countIn
   unfolding sizeIn
   size-in = rw (ew, ek)
 
-  pub seen-in : (h v : ℕ) → h ≡ heightOf (coefficientsAt w k (drop 10 bs)) → v ≡ leastOf widths h → v ≡ width (coefficientsIn bs)
+  pub seen-in : (h v : ℕ) → h ≡ heightOf (coefficientsAt w k (drop 10 bs)) → v ≡ leastOf widths h
+      → v ≡ width (coefficientsIn bs)
   unfolding coefficientsIn width
   seen-in h v eh ev = rw (ev, eh, ew, ek)
 

@@ -13,7 +13,8 @@ use Rattle.definitions.specs.Codes.{DONE}
 use Rattle.definitions.specs.Polynomials.{degree}
 use Rattle.shelf.specs.declared.Written.{Written}
 use Rattle.shelf.specs.declared.Record.{Record}
-use Rattle.shelf.specs.Format.{recordOf, size, writeCode, writeTells, writeAnswer, writeLeaves, degreeIn, countIn, coefficientsIn, sizeIn, readCode, readTells, readAnswer, readLeaves}
+use Rattle.shelf.specs.Format.{recordOf, size, writeCode, writeTells, writeAnswer, writeLeaves, degreeIn, countIn}
+use Rattle.shelf.specs.Format.{coefficientsIn, sizeIn, readCode, readTells, readAnswer, readLeaves}
 use Rattle.shelf.proofs.Writing.{length-record}
 use Rattle.shelf.proofs.Reading.{length-all}
 use Rattle.shelf.proofs.Digits.{bytes-each}
@@ -38,7 +39,8 @@ left-by-read bs out = readLeaves (degreeIn bs) bs out
 -- Written, then read, in a buffer with enough entries.
 module _ (kind n : ℕ) (cs : List ℤ) (b : List ℕ) (out : List ℤ) where
   pub write-read : wrote kind n cs b .code ≡ DONE → length cs ≤ length out →
-      (did-read (left-by-write kind n cs b) out ≡ record { code = DONE; degree = degree kind n; used = wrote kind n cs b .used; kind = kind; n = n })
+      (did-read (left-by-write kind n cs b) out
+      ≡ record { code = DONE; degree = degree kind n; used = wrote kind n cs b .used; kind = kind; n = n })
       × (left-by-read (left-by-write kind n cs b) out ≡ cs ++ drop (length cs) out)
   unfolding writeAnswer writeTells
   write-read done room =
@@ -64,21 +66,25 @@ module _ (bs : List ℕ) (out : List ℤ) (done : did-read bs out .code ≡ DONE
 
 -- What lies past a record is untouched, and on refusal all of it.
 pub past-written : (d kind n : ℕ) (cs : List ℤ) (b : List ℕ) →
-    drop (writeAnswer d kind n cs (length b) .used) (writeLeaves d kind n cs b) ≡ drop (writeAnswer d kind n cs (length b) .used) b
+    drop (writeAnswer d kind n cs (length b) .used) (writeLeaves d kind n cs b)
+    ≡ drop (writeAnswer d kind n cs (length b) .used) b
 unfolding writeAnswer writeTells writeLeaves
 past-written d kind n cs b = go (eqb (writeCode d kind n cs (length b)) DONE)
   where
-    go : (t : Bool) → drop (cond t (size cs) 0) (cond t (recordOf kind n cs ++ drop (size cs) b) b) ≡ drop (cond t (size cs) 0) b
+    go : (t : Bool) → drop (cond t (size cs) 0) (cond t (recordOf kind n cs ++ drop (size cs) b) b)
+        ≡ drop (cond t (size cs) 0) b
     go true = drop-at (recordOf kind n cs) (drop (size cs) b) (size cs) (length-record kind n cs)
     go false = refl
 
 -- the entries that a reader fills are as many as the record has coefficients, and none on refusal
 pub past-read : (d : ℕ) (bs : List ℕ) (out : List ℤ) →
-    let k = cond (eqb (readAnswer d bs (length out) .code) DONE) (countIn bs) 0 in drop k (readLeaves d bs out) ≡ drop k out
+    let k = cond (eqb (readAnswer d bs (length out) .code) DONE) (countIn bs) 0 in drop k (readLeaves d bs out)
+    ≡ drop k out
 unfolding readAnswer readTells readLeaves
 past-read d bs out = go (eqb (readCode d bs (length out)) DONE)
   where
     go : (t : Bool) →
-        drop (cond t (countIn bs) 0) (cond t (coefficientsIn bs ++ drop (countIn bs) out) out) ≡ drop (cond t (countIn bs) 0) out
+        drop (cond t (countIn bs) 0) (cond t (coefficientsIn bs ++ drop (countIn bs) out) out)
+        ≡ drop (cond t (countIn bs) 0) out
     go true = drop-at (coefficientsIn bs) (drop (countIn bs) out) (countIn bs) (length-all bs)
     go false = refl

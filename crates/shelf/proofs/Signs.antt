@@ -1,4 +1,5 @@
--- Two's complement of a signed number by its sign and what stands beside it (heights' Signs), and the way back from the bits.
+-- Two's complement of a signed number by its sign and what stands beside it (heights' Signs), and the way back from the
+-- bits.
 use Prim.Native.Nat.{ℕ, suc, _+_, _*_, _-_, _<_, _^_}
 use mathlib.Core.Path.{_≡_, refl, sym}
 use mathlib.Core.Bool.{Bool, true, false, not, cond, true≢false}

@@ -34,7 +34,8 @@ top-small w h l = omega (arith, full w h, full-mono l)
 pub shifted : (w : ℕ) → 0 < w → w ≤ 8 → (1 * 2 ^ (8 * w - 1)) % 2 ^ 64 ≡ top w + 1
 unfolding top
 shifted w h l =
-    shl-exact 1 (8 * w - 1) 64 (omega arith) (omega arith) ∙ omega (arith, one-mul (2 ^ (8 * w - 1)), pow-pos (8 * w - 1))
+    shl-exact 1 (8 * w - 1) 64 (omega arith) (omega arith)
+    ∙ omega (arith, one-mul (2 ^ (8 * w - 1)), pow-pos (8 * w - 1))
 
 -- what v stands for, by its half, as the code makes it from m, which is top w
 pub signed-low : (w m v : ℕ) → m ≡ top w → v ≤ m → pos v ≡ signedOf w v

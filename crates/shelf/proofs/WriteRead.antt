@@ -12,7 +12,9 @@ use Rattle.definitions.specs.Steps.{largest}
 use Rattle.definitions.specs.Codes.{DONE}
 use Rattle.definitions.specs.Polynomials.{degree}
 use Rattle.shelf.specs.Numbers.{bytesOf, number, body, widths, oneOf, width}
-use Rattle.shelf.specs.Format.{headerOf, recordOf, size, isKind, writeCode, writeLeaves, marked, degreeIn, kindIn, widthIn, indexIn, countIn, coefficientsIn, sizeIn, readTells, readAnswer, readLeaves}
+use Rattle.shelf.specs.Format.{headerOf, recordOf, size, isKind, writeCode, writeLeaves, marked, degreeIn, kindIn}
+use Rattle.shelf.specs.Format.{widthIn, indexIn, countIn, coefficientsIn, sizeIn, readTells, readAnswer}
+use Rattle.shelf.specs.Format.{readLeaves}
 use Rattle.shelf.proofs.Least.{Fitting, width-none, width-some}
 use Rattle.shelf.proofs.Writing.{length-record}
 use Rattle.shelf.proofs.Reading.{header-right, filled}
@@ -52,7 +54,8 @@ module _ (kind n : ℕ) (cs : List ℤ) (rest : List ℕ) where
   pub coefficients-back : length cs ≤ 65536 → Fitting cs (width cs) → coefficientsIn (recordOf kind n cs ++ rest) ≡ cs
   unfolding coefficientsIn
   coefficients-back h f =
-      let tail : drop 10 (recordOf kind n cs ++ rest) ≡ body (width cs) cs ++ rest = unfold recordOf headerOf bytesOf in refl in
+      let tail : drop 10 (recordOf kind n cs ++ rest) ≡ body (width cs) cs ++ rest = unfold recordOf headerOf bytesOf in
+      refl in
       rw (width-back, count-back h, tail) (coefficients-body (width cs) cs rest (f .low) (f .takes))
 
   pub size-back : length cs ≤ 65536 → sizeIn (recordOf kind n cs ++ rest) ≡ size cs
@@ -60,14 +63,16 @@ module _ (kind n : ℕ) (cs : List ℤ) (rest : List ℕ) where
   size-back h = rw (width-back, count-back h)
 
 -- Written, then read.
-module _ (d kind n : ℕ) (cs : List ℤ) (b : List ℕ) (small : d ≤ 65535) (done : writeCode d kind n cs (length b) ≡ DONE) where
+module _ (d kind n : ℕ) (cs : List ℤ) (b : List ℕ) (small : d ≤ 65535)
+    (done : writeCode d kind n cs (length b) ≡ DONE) where
   pub left-written : writeLeaves d kind n cs b ≡ recordOf kind n cs ++ drop (size cs) b
   unfolding writeLeaves
   left-written = rw done
 
   pub write-read-record : (out : List ℤ) → length cs ≤ length out →
       let bs = recordOf kind n cs ++ drop (size cs) b in (readAnswer d bs (length out)
-      ≡ record { code = DONE; degree = d; used = size cs; kind = kind; n = n }) × (readLeaves d bs out ≡ cs ++ drop (length cs) out)
+      ≡ record { code = DONE; degree = d; used = size cs; kind = kind; n = n })
+      × (readLeaves d bs out ≡ cs ++ drop (length cs) out)
   unfolding readTells
   write-read-record out room =
       let rest = drop (size cs) b in
@@ -82,7 +87,9 @@ module _ (d kind n : ℕ) (cs : List ℤ) (b : List ℕ) (small : d ≤ 65535) (
       let wide = width-back kind n cs rest in
       let whole = size-back kind n cs rest few in
       let index = index-back kind n cs rest (g .high) in
-      let head = header-right bs (omega (arith, g .fits)) (marked-back kind n cs rest) (ap isKind (kind-back kind n cs rest) ∙ g .kinds)
+      let head = header-right bs (omega (arith, g .fits)) (marked-back kind n cs rest)
+      (ap isKind (kind-back kind n cs rest) ∙ g .kinds)
       (ap (oneOf widths) wide ∙ f .one) (λ z. g .low (sym index ∙ z)) in
-      let p = filled d bs out head (count ∙ g .count) (omega (arith, g .fits)) (omega arith) (ap width back ∙ sym wide) in
+      let p = filled d bs out head (count ∙ g .count) (omega (arith, g .fits)) (omega arith)
+      (ap width back ∙ sym wide) in
       (sym (p .0) ∙ rw (whole, kind-back kind n cs rest, index), sym (p .1) ∙ rw (back, count))

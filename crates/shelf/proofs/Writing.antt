@@ -37,13 +37,15 @@ length-record kind n cs = rw (length-append, length-header, length-body)
 pub four-long : (b : List ℕ) (kind w : ℕ) → length (set (set (set (set b 0 0xC9) 1 0x50) 2 kind) 3 w) ≡ length b
 four-long b kind w = simp length-set
 
-pub header-stored : (b b₁ b₂ : List ℕ) (kind w n count : ℕ) → b₁ ≡ sets (set (set (set (set b 0 0xC9) 1 0x50) 2 kind) 3 w) 4 (bytesOf 2 n) →
+pub header-stored : (b b₁ b₂ : List ℕ) (kind w n count : ℕ)
+    → b₁ ≡ sets (set (set (set (set b 0 0xC9) 1 0x50) 2 kind) 3 w) 4 (bytesOf 2 n) →
     b₂ ≡ sets b₁ 6 (bytesOf 4 count) → b₂ ≡ sets b 0 (headerOf kind w n count)
 unfolding headerOf
 header-stored b b₁ b₂ kind w n count e₁ e₂ =
     let l = set (set (set (set b 0 0xC9) 1 0x50) 2 kind) 3 w in
     let e : 4 + length (bytesOf 2 n) ≡ 6 = ap (λ (k : ℕ). 4 + k) (length-bytesOf 2 n) in
-    rw (e₂, e₁) (sym (sets-append l 4 (bytesOf 2 n) (bytesOf 4 count) ∙ ap (λ (k : ℕ). sets (sets l 4 (bytesOf 2 n)) k (bytesOf 4 count)) e))
+    rw (e₂, e₁) (sym (sets-append l 4 (bytesOf 2 n) (bytesOf 4 count)
+    ∙ ap (λ (k : ℕ). sets (sets l 4 (bytesOf 2 n)) k (bytesOf 4 count)) e))
 
 module _ (d kind n : ℕ) (cs : List ℤ) (b : List ℕ) where
   abbrev pub Answered : Written → List ℕ → Type 0
@@ -85,7 +87,8 @@ module _ (d kind n : ℕ) (cs : List ℤ) (b : List ℕ) where
 
 -- header and body stored one after the other are the record, with the rest as it was
 pub record-stored : (kind n : ℕ) (cs : List ℤ) (b : List ℕ) → size cs ≤ length b →
-    sets (sets b 0 (headerOf kind (width cs) n (length cs))) 10 (body (width cs) cs) ≡ recordOf kind n cs ++ drop (size cs) b
+    sets (sets b 0 (headerOf kind (width cs) n (length cs))) 10 (body (width cs) cs)
+    ≡ recordOf kind n cs ++ drop (size cs) b
 unfolding recordOf
 record-stored kind n cs b s =
     let h = headerOf kind (width cs) n (length cs) in
@@ -95,7 +98,8 @@ record-stored kind n cs b s =
     sym whole ∙ sets-eq (h ++ r) b 0 (omega arith) ∙ rw (long, zero-add)
 
 pub record-made : (kind n w : ℕ) (cs : List ℤ) (b b₁ b₂ : List ℕ) → w ≡ width cs → size cs ≤ length b →
-    b₁ ≡ sets b 0 (headerOf kind w n (length cs)) → b₂ ≡ sets b₁ 10 (body w cs) → b₂ ≡ recordOf kind n cs ++ drop (size cs) b
+    b₁ ≡ sets b 0 (headerOf kind w n (length cs)) → b₂ ≡ sets b₁ 10 (body w cs)
+    → b₂ ≡ recordOf kind n cs ++ drop (size cs) b
 record-made kind n w cs b b₁ b₂ e s e₁ e₂ = rw (e₂, e₁, e) (record-stored kind n cs b s)
 
 pub size-made : (cs : List ℤ) (w : ℕ) → w ≡ width cs → 10 + length cs * w ≡ size cs

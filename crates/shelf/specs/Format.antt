@@ -1,5 +1,6 @@
--- The shelf record (document 01, 'The shelf record'): its bytes, what the writer answers and leaves, and what the reader
--- answers on any bytes at all and leaves. `d` is the degree of the kind at the index, which the caller works out.
+-- The shelf record (document 01, 'The shelf record'): its bytes, what the writer answers and leaves, and what the
+-- reader answers on any bytes at all and leaves. `d` is the degree of the kind at the index, which the caller works
+-- out.
 use Prim.Native.Nat.{ℕ, _+_, _*_}
 use mathlib.Core.Bool.{Bool, cond, not, _&&_, _||_}
 use mathlib.Core.List.{List, _∷_, _++_}

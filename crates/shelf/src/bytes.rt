@@ -1,4 +1,5 @@
-// Numbers in bytes, and the passes over the coefficients: one that looks and one that stores, for the writer and the reader.
+// Numbers in bytes, and the passes over the coefficients: one that looks and one that stores, for the writer and the
+// reader.
 use super::numbers::signed_of;
 use super::numbers::twos_of;
 ghost use mathlib.Core.Path.{_≡_};
@@ -54,7 +55,8 @@ fn coefficient(bytes: &[u8], at: usize, w: usize) -> i64
 
 // Writing, the store: each coefficient in w bytes, after the header.
 pub(crate) fn put_body(coeffs: &[i64], w: usize, bytes: &mut [u8])
-    requires { ⌜ (0 < w) × (w ≤ 8) × (heightOf (now coeffs) ≤ top w) × (10 + length (body w (now coeffs)) ≤ length (now bytes)) ⌝ }
+    requires { ⌜ (0 < w) × (w ≤ 8) × (heightOf (now coeffs) ≤ top w)
+        × (10 + length (body w (now coeffs)) ≤ length (now bytes)) ⌝ }
     ensures { λ r. ⌜ now (bytes .exit) ≡ sets (now (bytes .entry)) 10 (body w (now (coeffs .entry))) ⌝ }
 {
     let mut i = 0;
@@ -85,7 +87,8 @@ pub(crate) fn height_in(bytes: &[u8], w: usize, k: usize) -> u64
 // Reading, the store: the k coefficients after the header.
 pub(crate) fn fill(bytes: &[u8], w: usize, k: usize, coeffs: &mut [i64])
     requires { ⌜ (0 < w) × (w ≤ 8) × (10 + k * w ≤ length (now bytes)) × (k ≤ length (now coeffs)) ⌝ }
-    ensures { λ r. ⌜ now (coeffs .exit) ≡ sets (now (coeffs .entry)) 0 (coefficientsAt w k (drop 10 (now (bytes .entry)))) ⌝ }
+    ensures { λ r.
+        ⌜ now (coeffs .exit) ≡ sets (now (coeffs .entry)) 0 (coefficientsAt w k (drop 10 (now (bytes .entry)))) ⌝ }
 {
     let mut left = k;
     let mut at = 10;

@@ -27,16 +27,20 @@ pub struct Record {
 
 // The record of some coefficients, in the bytes lent.
 pub fn write(kind: u64, n: u64, coeffs: &[i64], bytes: &mut [u8]) -> Written
-    ensures answer { λ r. ⌜ r ≡ writeAnswer (degree kind n) kind n (now (coeffs .entry)) (length (now (bytes .entry))) ⌝ }
-    ensures leaves { λ r. ⌜ now (bytes .exit) ≡ writeLeaves (degree kind n) kind n (now (coeffs .entry)) (now (bytes .entry)) ⌝ }
+    ensures answer { λ r.
+        ⌜ r ≡ writeAnswer (degree kind n) kind n (now (coeffs .entry)) (length (now (bytes .entry))) ⌝ }
+    ensures leaves { λ r.
+        ⌜ now (bytes .exit) ≡ writeLeaves (degree kind n) kind n (now (coeffs .entry)) (now (bytes .entry)) ⌝ }
 {
     writer::write_with(kind, n, polynomial::degree_of(kind, n), coeffs, bytes)
 }
 
 // The coefficients of the record that some bytes start with, in the entries lent.
 pub fn read(bytes: &[u8], coeffs: &mut [i64]) -> Record
-    ensures answer { λ r. ⌜ r ≡ readAnswer (degreeIn (now (bytes .entry))) (now (bytes .entry)) (length (now (coeffs .entry))) ⌝ }
-    ensures leaves { λ r. ⌜ now (coeffs .exit) ≡ readLeaves (degreeIn (now (bytes .entry))) (now (bytes .entry)) (now (coeffs .entry)) ⌝ }
+    ensures answer { λ r.
+        ⌜ r ≡ readAnswer (degreeIn (now (bytes .entry))) (now (bytes .entry)) (length (now (coeffs .entry))) ⌝ }
+    ensures leaves { λ r.
+        ⌜ now (coeffs .exit) ≡ readLeaves (degreeIn (now (bytes .entry))) (now (bytes .entry)) (now (coeffs .entry)) ⌝ }
 {
     let code = reader::header_code(bytes);
     if code != 0 {

@@ -28,7 +28,9 @@ fn put_header(bytes: &mut [u8], kind: u8, w: u8, n: u64, count: u64)
 // The record, in bytes of which there are enough.
 fn store(kind: u64, n: u64, w: usize, coeffs: &[i64], bytes: &mut [u8])
     requires { ⌜ (kind < 256) × (w ≡ width (now coeffs)) × (0 < w) × (size (now coeffs) ≤ length (now bytes)) ⌝ }
-    ensures { λ r. ⌜ now (bytes .exit) ≡ recordOf kind n (now (coeffs .entry)) ++ drop (size (now (coeffs .entry))) (now (bytes .entry)) ⌝ }
+    ensures { λ r.
+        ⌜ now (bytes .exit) ≡ recordOf kind n (now (coeffs .entry)) ++ drop (size (now (coeffs .entry)))
+        (now (bytes .entry)) ⌝ }
 {
     put_header(bytes, kind as u8, w as u8, n, coeffs.len() as u64);
     put_body(coeffs, w, bytes);

@@ -1,5 +1,5 @@
-// Records of each width with extreme coefficients, written, read back, rewritten and damaged. What it prints is held to what
-// second/shelf.py makes of the same cases.
+// Records of each width with extreme coefficients, written, read back, rewritten and damaged. What it prints is held to
+// what second/shelf.py makes of the same cases.
 use libc::STDOUT_FILENO;
 ghost use Prim.Native.Nat.{_≤_};
 

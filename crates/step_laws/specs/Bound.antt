@@ -1,16 +1,18 @@
--- How far a step can make the entries grow: a comb at most doubles the largest magnitude b, and an accumulate at size d makes entry i
--- at most b (i / d + 1). So a step whose growth stays within the range can't be OVER, and needs no test.
+-- How far a step can make the entries grow: a comb at most doubles the largest magnitude b, and an accumulate at size d
+-- makes entry i at most b (i / d + 1). So a step whose growth stays within the range can't be OVER, and needs no test.
 use mathlib.Core.Path.{_≡_}
 use mathlib.Core.Bool.{true, false}
 use mathlib.Core.List.{List}
 use Prim.Native.Nat.{ℕ, zero, suc, _+_, _*_, _-_, _/_, _<_, _≤_}
-use native.Mathlib.Nat.{not-suc-le-zero, le-trans, mul-add, mul-one, mul-le-mul-left, div-eq-of-lt, div-eq-sub-div, le-div-iff-mul-le, div-mul-le-self}
+use native.Mathlib.Nat.{not-suc-le-zero, le-trans, mul-add, mul-one, mul-le-mul-left, div-eq-of-lt, div-eq-sub-div}
+use native.Mathlib.Nat.{le-div-iff-mul-le, div-mul-le-self}
 use native.Mathlib.Omega.{arith}
 use lib.ListN.{length, List·getD-eq-default}
 use lib.IntN.{ℤ, natAbs}
 use Rattle.definitions.specs.Integers.{0ℤ}
 use Rattle.definitions.specs.Series.{Series}
-use Rattle.definitions.specs.Steps.{Sort, comb, accumulate, combed, accumulated, stepped, inRange, entries, stepOver, stepList}
+use Rattle.definitions.specs.Steps.{Sort, comb, accumulate, combed, accumulated, stepped, inRange, entries, stepOver}
+use Rattle.definitions.specs.Steps.{stepList}
 use Rattle.step_laws.specs.Tests.{by-order}
 use Rattle.step_laws.specs.Signed.{abs-⊕, abs-⊝, in-range}
 use Rattle.step_laws.specs.Summed.{accumulated-from, accumulated-below}
@@ -45,7 +47,8 @@ module _ (d b : ℕ) (a : Series) (h : Bounded b a) where
       by-order i d (λ l. rw (accumulated-below d a i l, div-eq-of-lt l) (omega (arith, h i, mul-one b)))
       (λ l.
       let rest = up-to one n (i - d) (omega arith) in
-      rw (accumulated-from d a i one l, ← turn one i l) (omega (arith, abs-⊕ (a i) (accumulated d a (i - d)), h i, rest)))
+      rw (accumulated-from d a i one l, ← turn one i l)
+      (omega (arith, abs-⊕ (a i) (accumulated d a (i - d)), h i, rest)))
 
   pub accumulated-bound : 1 ≤ d → (i : ℕ) → natAbs (accumulated d a i) ≤ b * (i / d + 1)
   accumulated-bound one i = up-to one (suc i) i (omega arith)
@@ -57,9 +60,11 @@ module _ (s : Sort) (d b : ℕ) (one : 1 ≤ d) (l : List ℤ) (h : Bounded b (e
   stepped-bound comb i m = combed-bound d b (entries l) h i
   stepped-bound accumulate i m =
       le-trans (accumulated-bound d b (entries l) h one i)
-      (mul-le-mul-left b (omega (arith, le-div-iff-mul-le {x = i / d} {y = length l} one .1 (omega (arith, div-mul-le-self i d)))))
+      (mul-le-mul-left b
+      (omega (arith, le-div-iff-mul-le {x = i / d} {y = length l} one .1 (omega (arith, div-mul-le-self i d)))))
 
-  pub growth-inside : (w : ℕ) → growth s d (length l) b ≤ w → (i : ℕ) → i < length l → inRange w (stepped s d (entries l) i) ≡ true
+  pub growth-inside : (w : ℕ) → growth s d (length l) b ≤ w → (i : ℕ) → i < length l
+      → inRange w (stepped s d (entries l) i) ≡ true
   growth-inside w g i m = in-range w (stepped s d (entries l) i) (omega (arith, stepped-bound s i m))
 
   pub growth-not-over : (w : ℕ) → growth s d (length l) b ≤ w → stepOver w s d l ≡ false

@@ -1,5 +1,5 @@
--- Lists and the series of their entries: `firsts n f` has n entries, the one at k is f k, and a list is the firsts of its
--- entries. By induction on n.
+-- Lists and the series of their entries: `firsts n f` has n entries, the one at k is f k, and a list is the firsts of
+-- its entries. By induction on n.
 use mathlib.Core.Path.{_≡_, refl, sym, _∙_, ap}
 use mathlib.Core.List.{List}
 use Prim.Native.Nat.{ℕ, zero, suc, _<_}
@@ -24,7 +24,8 @@ getD-firsts (suc n) f zero h = refl
 getD-firsts (suc n) f (suc k) h = getD-firsts n (tail f) k (le-of-suc-le-suc h)
 
 -- a list of n entries, each that of f, is the firsts of f
-pub is-firsts : (n : ℕ) (f : Series) (l : List ℤ) → length l ≡ n → ((k : ℕ) → k < n → getD l k 0ℤ ≡ f k) → l ≡ firsts n f
+pub is-firsts : (n : ℕ) (f : Series) (l : List ℤ) → length l ≡ n → ((k : ℕ) → k < n → getD l k 0ℤ ≡ f k)
+    → l ≡ firsts n f
 is-firsts n f l e h =
     ext-getD 0ℤ l (firsts n f) (e ∙ sym (length-firsts n f))
     (λ k b. let below : k < n = omega arith in h k below ∙ sym (getD-firsts n f k below))

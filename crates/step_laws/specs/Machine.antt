@@ -1,5 +1,5 @@
--- A signed local is its bits, so a number that was read is `seen`: the number of its own bits. It is the number itself where
--- that fits, and the tests of `Signed` are stated here of what the machine sees.
+-- A signed local is its bits, so a number that was read is `seen`: the number of its own bits. It is the number itself
+-- where that fits, and the tests of `Signed` are stated here of what the machine sees.
 use mathlib.Core.Path.{_≡_, sym, _∙_, ap, ap₂}
 use mathlib.Core.Bool.{Bool, true, false}
 use Prim.Native.Nat.{ℕ, suc, _≤_}
@@ -11,7 +11,8 @@ use mir.Val.{SFits, toZ, ofZ}
 use mir.Facts.{toZ-ofZ}
 use Rattle.definitions.specs.Integers.{_⊝_}
 use Rattle.definitions.specs.Steps.{inRange, largest}
-use Rattle.step_laws.specs.Signed.{upper-test, lower-test, upper-fits, lower-fits, mag-abs, abs-mag, abs-negℤ, range-in}
+use Rattle.step_laws.specs.Signed.{upper-test, lower-test, upper-fits, lower-fits, mag-abs, abs-mag, abs-negℤ}
+use Rattle.step_laws.specs.Signed.{range-in}
 
 abbrev pub seen : ℤ → ℤ
 seen v = toZ w64 (ofZ w64 v)
@@ -44,10 +45,12 @@ module _ (e : ℤ) (he : natAbs e ≤ suc largest) where
   pub lower : ltZ e (pos 0) ≡ false → SFits w64 (negsuc 9223372036854775806 +ℤ e)
   lower t = record { sfits = lower-fits 9223372036854775806 e he t }
 
-  pub upper-is : (a : ℤ) → SFits w64 a → ltZ e (pos 0) ≡ true → leZ (seen a) (seen (pos largest +ℤ e)) ≡ inRange largest (a ⊝ e)
+  pub upper-is : (a : ℤ) → SFits w64 a → ltZ e (pos 0) ≡ true → leZ (seen a) (seen (pos largest +ℤ e))
+      ≡ inRange largest (a ⊝ e)
   upper-is a f t = rw (toZ-ofZ f, toZ-ofZ (upper t)) (upper-test 9223372036854775806 a e (f .sfits) he t)
 
-  pub lower-is : (a : ℤ) → SFits w64 a → ltZ e (pos 0) ≡ false → leZ (seen (negsuc 9223372036854775806 +ℤ e)) (seen a) ≡ inRange largest (a ⊝ e)
+  pub lower-is : (a : ℤ) → SFits w64 a → ltZ e (pos 0) ≡ false → leZ (seen (negsuc 9223372036854775806 +ℤ e)) (seen a)
+      ≡ inRange largest (a ⊝ e)
   lower-is a f t = rw (toZ-ofZ f, toZ-ofZ (lower t)) (lower-test 9223372036854775806 a e (f .sfits) he t)
 
 -- the magnitude of a machine number and of its negative

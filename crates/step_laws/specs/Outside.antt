@@ -1,4 +1,5 @@
--- `someOutside w d n a` is true exactly where an entry of a from d on and below n is outside the range w. By induction on n.
+-- `someOutside w d n a` is true exactly where an entry of a from d on and below n is outside the range w. By induction
+-- on n.
 use mathlib.Core.Path.{_≡_, refl, sym, _∙_, ap}
 use mathlib.Core.Bool.{Bool, true, false, not, _&&_, _||_, true≢false, false≢true, or-true}
 use mathlib.Core.Logic.{_⊎_, inl, inr, ⊎-elim}
@@ -20,7 +21,8 @@ pub record OutsideAt (w d n : ℕ) (a : Series) : Type 0 where
 
 module _ (w d : ℕ) (a : Series) where
   -- what the last entry adds: an earlier one is outside, or this one
-  last : (n : ℕ) (o l r : Bool) → someOutside w d n a ≡ o → leb d n ≡ l → inRange w (a n) ≡ r → (o || l && not r) ≡ true → (someOutside w d n a ≡ true) ⊎ OutsideAt w d (suc n) a
+  last : (n : ℕ) (o l r : Bool) → someOutside w d n a ≡ o → leb d n ≡ l → inRange w (a n) ≡ r → (o || l && not r) ≡ true
+      → (someOutside w d n a ≡ true) ⊎ OutsideAt w d (suc n) a
   last n true l r eo el er h = inl eo
   last n false true false eo el er h =
       inr (record { at = n; from = leb-true d n el; below = omega arith; outside = er })

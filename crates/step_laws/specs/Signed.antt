@@ -1,5 +1,5 @@
--- Whole numbers and the range of a step: cancellation, the magnitude of a sum, and the tests by which a machine number shows
--- that a - e stays within ±(K + 1) without taking the difference. By cases of the signs.
+-- Whole numbers and the range of a step: cancellation, the magnitude of a sum, and the tests by which a machine number
+-- shows that a - e stays within ±(K + 1) without taking the difference. By cases of the signs.
 use mathlib.Core.Path.{_≡_, refl, sym, _∙_}
 use mathlib.Core.Bool.{true, false, true≢false}
 use native.Mathlib.Nat.{not-suc-le-zero}
@@ -66,19 +66,22 @@ mag-abs (negsuc n) = omega arith
 
 module _ (K : ℕ) where
   -- e is negative: only the upper end can be passed
-  pub upper-test : (a e : ℤ) → mag a < suc (suc K) → natAbs e ≤ suc (suc K) → ltZ e (pos 0) ≡ true → leZ a (pos (suc K) +ℤ e) ≡ inRange (suc K) (a ⊝ e)
+  pub upper-test : (a e : ℤ) → mag a < suc (suc K) → natAbs e ≤ suc (suc K) → ltZ e (pos 0) ≡ true
+      → leZ a (pos (suc K) +ℤ e) ≡ inRange (suc K) (a ⊝ e)
   unfolding inRange _⊕_ ⊖
   upper-test a (pos n) ha he t = absurd (not-suc-le-zero (ltb-true n 0 t))
   upper-test (pos m) (negsuc n) ha he t =
       by-order (suc K) (suc n) (λ l. rw (lt-ltb (suc K) (suc n) l) (sym (lt-leb (m + suc n) (suc K) (omega arith))))
-      (λ l. rw (le-ltb (suc K) (suc n) l) (same-test m (suc K - suc n) (m + suc n) (suc K) (λ h. omega arith) (λ h. omega arith)))
+      (λ l. rw (le-ltb (suc K) (suc n) l)
+      (same-test m (suc K - suc n) (m + suc n) (suc K) (λ h. omega arith) (λ h. omega arith)))
   upper-test (negsuc m) (negsuc n) ha he t =
       rw (le-leb (natAbs (subℕ (suc n) (suc m))) (suc K) (abs-sub (suc n) (suc m) (suc K) (omega arith) (omega arith)))
       (by-order (suc K) (suc n) (λ l. rw (lt-ltb (suc K) (suc n) l) (le-leb (suc n - suc (suc K)) m (omega arith)))
       (λ l. rw (le-ltb (suc K) (suc n) l) refl))
 
   -- e is not negative: only the lower end
-  pub lower-test : (a e : ℤ) → mag a < suc (suc K) → natAbs e ≤ suc (suc K) → ltZ e (pos 0) ≡ false → leZ (negsuc K +ℤ e) a ≡ inRange (suc K) (a ⊝ e)
+  pub lower-test : (a e : ℤ) → mag a < suc (suc K) → natAbs e ≤ suc (suc K) → ltZ e (pos 0) ≡ false
+      → leZ (negsuc K +ℤ e) a ≡ inRange (suc K) (a ⊝ e)
   unfolding inRange _⊕_ ⊖
   lower-test a (negsuc n) ha he t = absurd (true≢false t)
   lower-test (pos m) (pos zero) ha he t =
@@ -88,14 +91,18 @@ module _ (K : ℕ) where
       (same-test m (suc K - 1) (suc (suc m - 1)) (suc K) (λ h. omega arith) (λ h. omega arith))
   lower-test (pos m) (pos (suc n)) ha he t =
       by-order (suc n) (suc K)
-      (λ l. rw (lt-ltb (suc n) (suc K) l) (sym (le-leb (natAbs (subℕ m (suc n))) (suc K) (abs-sub m (suc n) (suc K) (omega arith) (omega arith)))))
+      (λ l. rw (lt-ltb (suc n) (suc K) l)
+      (sym (le-leb (natAbs (subℕ m (suc n))) (suc K) (abs-sub m (suc n) (suc K) (omega arith) (omega arith)))))
       (λ l. rw (le-ltb (suc n) (suc K) l)
       (by-order m (suc n)
-      (λ k. rw (lt-ltb m (suc n) k) (same-test (suc n - suc K) m (suc (suc n - suc m)) (suc K) (λ h. omega arith) (λ h. omega arith)))
-      (λ k. rw (le-ltb m (suc n) k) (same-test (suc n - suc K) m (m - suc n) (suc K) (λ h. omega arith) (λ h. omega arith)))))
+      (λ k. rw (lt-ltb m (suc n) k)
+      (same-test (suc n - suc K) m (suc (suc n - suc m)) (suc K) (λ h. omega arith) (λ h. omega arith)))
+      (λ k. rw (le-ltb m (suc n) k)
+      (same-test (suc n - suc K) m (m - suc n) (suc K) (λ h. omega arith) (λ h. omega arith)))))
   lower-test (negsuc m) (pos (suc n)) ha he t =
       by-order (suc n) (suc K)
-      (λ l. rw (lt-ltb (suc n) (suc K) l) (same-test m (suc K - suc (suc n)) (suc (suc (m + n))) (suc K) (λ h. omega arith) (λ h. omega arith)))
+      (λ l. rw (lt-ltb (suc n) (suc K) l)
+      (same-test m (suc K - suc (suc n)) (suc (suc (m + n))) (suc K) (λ h. omega arith) (λ h. omega arith)))
       (λ l. rw (le-ltb (suc n) (suc K) l) (sym (lt-leb (suc (suc (m + n))) (suc K) (omega arith))))
 
   -- the bound that is tested is itself a number of the range, or one below it

@@ -1,5 +1,6 @@
--- The steps, entry by entry: below d an entry stays; from d on a comb takes the older entry away and an accumulate adds the new
--- one. Then the same of `stepList` and `stepOver`, and that a step whose size is at least the length does nothing.
+-- The steps, entry by entry: below d an entry stays; from d on a comb takes the older entry away and an accumulate adds
+-- the new one. Then the same of `stepList` and `stepOver`, and that a step whose size is at least the length does
+-- nothing.
 use mathlib.Core.Path.{_≡_, sym, _∙_, ap}
 use mathlib.Core.Bool.{true, false}
 use mathlib.Core.List.{List}
@@ -48,11 +49,13 @@ module _ (s : Sort) (d : ℕ) (l : List ℤ) where
   over-is w = outside-is w d (stepped s d (entries l)) (length l)
 
   -- each value from d on is in range
-  pub not-over-each : (w : ℕ) → stepOver w s d l ≡ false → (i : ℕ) → d ≤ i → i < length l → inRange w (stepped s d (entries l) i) ≡ true
+  pub not-over-each : (w : ℕ) → stepOver w s d l ≡ false → (i : ℕ) → d ≤ i → i < length l
+      → inRange w (stepped s d (entries l) i) ≡ true
   unfolding stepOver
   not-over-each w = inside-each w d (stepped s d (entries l)) (length l)
 
-  pub not-over-all : (w : ℕ) → ((i : ℕ) → d ≤ i → i < length l → inRange w (stepped s d (entries l) i) ≡ true) → stepOver w s d l ≡ false
+  pub not-over-all : (w : ℕ) → ((i : ℕ) → d ≤ i → i < length l → inRange w (stepped s d (entries l) i) ≡ true)
+      → stepOver w s d l ≡ false
   unfolding stepOver
   not-over-all w = inside-all w d (stepped s d (entries l)) (length l)
 
@@ -66,15 +69,18 @@ module _ (s : Sort) (d : ℕ) (l : List ℤ) where
   pub long-stays : length l ≤ d → stepList s d l ≡ l
   unfolding stepList
   long-stays h =
-      firsts-same (length l) (stepped s d (entries l)) (entries l) (λ k b. stepped-below d (entries l) s k (omega arith))
+      firsts-same (length l) (stepped s d (entries l)) (entries l)
+      (λ k b. stepped-below d (entries l) s k (omega arith))
       ∙ firsts-entries l
 
 -- the two sorts at d and above
-pub getD-combed : (d : ℕ) (l : List ℤ) (i : ℕ) → d ≤ i → i < length l → getD (stepList comb d l) i 0ℤ ≡ getD l i 0ℤ ⊝ getD l (i - d) 0ℤ
+pub getD-combed : (d : ℕ) (l : List ℤ) (i : ℕ) → d ≤ i → i < length l → getD (stepList comb d l) i 0ℤ
+    ≡ getD l i 0ℤ ⊝ getD l (i - d) 0ℤ
 unfolding stepped entries
 getD-combed d l i h b = getD-stepList comb d l i b ∙ combed-from d (entries l) i h
 
-pub getD-accumulated : (d : ℕ) (l : List ℤ) (i : ℕ) → 1 ≤ d → d ≤ i → i < length l → getD (stepList accumulate d l) i 0ℤ ≡ getD l i 0ℤ ⊕ getD (stepList accumulate d l) (i - d) 0ℤ
+pub getD-accumulated : (d : ℕ) (l : List ℤ) (i : ℕ) → 1 ≤ d → d ≤ i → i < length l → getD (stepList accumulate d l) i 0ℤ
+    ≡ getD l i 0ℤ ⊕ getD (stepList accumulate d l) (i - d) 0ℤ
 unfolding stepped entries
 getD-accumulated d l i one h b =
     getD-stepList accumulate d l i b

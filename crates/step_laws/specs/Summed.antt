@@ -1,5 +1,5 @@
--- An accumulate that starts late: the entries from `from` on, each with the new one d before it added. It undoes a comb that came
--- down to there, and with from = d it is the accumulate, so the laws are shown once.
+-- An accumulate that starts late: the entries from `from` on, each with the new one d before it added. It undoes a comb
+-- that came down to there, and with from = d it is the accumulate, so the laws are shown once.
 use mathlib.Core.Path.{_≡_, refl, ap}
 use mathlib.Core.Bool.{cond}
 use Prim.Native.Nat.{ℕ, zero, suc, _-_, _<_, _≤_}

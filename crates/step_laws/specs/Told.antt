@@ -26,7 +26,8 @@ nothing h = omega arith
 
 module _ (w : ℕ) (s : Sort) (d : ℕ) (l : List ℤ) where
   -- the code says the rest
-  told-by : {c : ℕ} → stepCode w s d l ≡ c → Told w s d l c (cond (eqb c DONE) (length l - d) 0) (cond (eqb c DONE) (stepList s d l) l)
+  told-by : {c : ℕ} → stepCode w s d l ≡ c
+      → Told w s d l c (cond (eqb c DONE) (length l - d) 0) (cond (eqb c DONE) (stepList s d l) l)
   unfolding stepCount stepLeaves
   told-by e = record { code = sym e; count = rw e; leaves = rw e }
 

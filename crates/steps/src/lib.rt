@@ -24,7 +24,8 @@ pub struct Stepped {
 }
 
 impl Step {
-    // One step on any slice: STEP for a size of 0 or above 65,535, then OVER, each with every entry as it was and the count 0.
+    // One step on any slice: STEP for a size of 0 or above 65,535, then OVER, each with every entry as it was and the
+    // count 0.
     pub fn apply(self, a: &mut [i64]) -> Stepped
         ensures { λ r. ⌜ r .code ≡ stepCode largest (sortMeans (self .sort)) (self .size) (now (a .entry)) ⌝ }
         ensures { λ r. ⌜ r .count ≡ stepCount largest (sortMeans (self .sort)) (self .size) (now (a .entry)) ⌝ }

@@ -58,7 +58,8 @@ module _ (x : ℤ) (f : SFits w64 x) (t : ltZ (seen x) (pos 0) ≡ true) where
       by-sign (negsuc n) t = omega arith
 
 -- a number that is not negative
-pub not-negative : (x : ℤ) → SFits w64 x → ltZ (seen x) (pos 0) ≡ false → T (nonNeg (seen x)) × Fits w64 (natAbs (seen x))
+pub not-negative : (x : ℤ) → SFits w64 x → ltZ (seen x) (pos 0) ≡ false → T (nonNeg (seen x))
+    × Fits w64 (natAbs (seen x))
 not-negative x f t = rw (toZ-ofZ f) (by-sign x (f .sfits) (rw (toZ-ofZ f) at t))
   where
     by-sign : (x : ℤ) → mag x < 2 ^ 63 → ltZ x (pos 0) ≡ false → T (nonNeg x) × Fits w64 (natAbs x)

@@ -1,5 +1,5 @@
-// Takes steps on awkward slices and prints what becomes of them, a line for each: the sort's letter, the size, the code, the count, a
-// colon and the entries. `second/steps.py` makes the same lines from the definition.
+// Takes steps on awkward slices and prints what becomes of them, a line for each: the sort's letter, the size, the
+// code, the count, a colon and the entries. `second/steps.py` makes the same lines from the definition.
 
 ghost use Prim.Native.Nat.{_≤_};
 ghost use mathlib.Core.Path.{_≡_};

@@ -1,4 +1,5 @@
-// Both kinds of every index to 400 and of a broad choice above (choice.rt, made by second/), in buffers longer than needed.
+// Both kinds of every index to 400 and of a broad choice above (choice.rt, made by second/), in buffers longer than
+// needed.
 mod choice;
 
 use choice::CHOICE;

@@ -1,5 +1,6 @@
-// What the trial programs share: one request on a buffer that holds a pattern first, printed as a line of numbers. The line has what was asked,
-// what came back, how many entries were written, and a checksum over those. second/lines.py makes the same lines by another road.
+// What the trial programs share: one request on a buffer that holds a pattern first, printed as a line of numbers. The
+// line has what was asked, what came back, how many entries were written, and a checksum over those. second/lines.py
+// makes the same lines by another road.
 ghost use mathlib.Core.Path.{_≡_};
 ghost use Prim.Native.Nat.{_≤_, _<_};
 ghost use lib.ListN.{length, take};

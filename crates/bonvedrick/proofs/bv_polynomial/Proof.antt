@@ -1,4 +1,5 @@
--- `bv_polynomial` meets its contract: the request's, in the struct that C sees. The limit is passed as its bits, which stand for it since it fits.
+-- `bv_polynomial` meets its contract: the request's, in the struct that C sees. The limit is passed as its bits, which
+-- stand for it since it fits.
 use mathlib.Core.Path.{_∙_, ap}
 use lib.IntN.{ℤ}
 use lib.ListN.{length}

@@ -31,15 +31,22 @@ magnitude-requires : tie.Need-magnitude-requires Inv-loop μ-loop
 magnitude-requires c κs = search needs
 
 -- the magnitude that was looked at is the entry's
-seen : (c : tie.After-magnitude Inv-loop μ-loop) → c .magnitude .result ≡ natAbs (getD (c .before .before .before .before .args .coeffs .now) (c .before .before .before .loop .i) (pos 0))
+seen : (c : tie.After-magnitude Inv-loop μ-loop) → c .magnitude .result
+    ≡ natAbs (getD (c .before .before .before .before .args .coeffs .now) (c .before .before .before .loop .i) (pos 0))
 seen c =
     let x = getD (c .before .before .before .before .args .coeffs .now) (c .before .before .before .loop .i) (pos 0) in
     c .magnitude .ensures ∙ ap natAbs (passed x (c .before .magnitude-arg .given))
 
 returns : tie.Need-returns Inv-loop μ-loop
 returns c =
-    let loop = c .before .before .before .before .loop in
-    ((loop .inv .0, loop .inv .1), (loop .inv .2, λ _. subst (λ m. c .before .before .before .before .before .args .h < m) (seen (c .before)) (c .if1 .taken)))
+    let loop = c .before .before .before .before .loop in (
+      (loop .inv .0, loop .inv .1),
+      (
+        loop .inv .2,
+        λ _. subst (λ m. c .before .before .before .before .before .args .h < m) (seen (c .before))
+            (c .if1 .taken),
+      ),
+    )
 
 add-i : tie.Need-add-i Inv-loop μ-loop
 add-i c = omega arith
@@ -50,8 +57,12 @@ loop-less c = omega arith
 loop-again : tie.Need-loop-again Inv-loop μ-loop
 loop-again c =
     let at = c .before .before .before .before in
-    let small = subst (λ m. m ≤ at .before .args .h) (seen (c .before)) (c .if1 .left) in
-    (omega arith, omega arith, height-passed _ _ _ (c .before .before .before .loop-test .taken) small ∙ at .loop .inv .2)
+    let small = subst (λ m. m ≤ at .before .args .h) (seen (c .before)) (c .if1 .left) in (
+      omega arith,
+      omega arith,
+      height-passed _ _ _ (c .before .before .before .loop-test .taken) small
+          ∙ at .loop .inv .2,
+    )
 
 returns-2 : tie.Need-returns-2 Inv-loop μ-loop
 returns-2 c =

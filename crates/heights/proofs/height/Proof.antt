@@ -13,7 +13,8 @@ use Rattle.heights.proofs.height.Tie as tie
 
 abbrev Inv-loop : tie.InvT-loop
 Inv-loop coeffs h₀ i₀ h i =
-    (max h (heightOf (drop i coeffs)) ≡ heightOf coeffs) × (i ≤ length coeffs) × (i < length coeffs → h < natAbs (getD coeffs i (pos 0)))
+    (max h (heightOf (drop i coeffs)) ≡ heightOf coeffs) × (i ≤ length coeffs)
+    × (i < length coeffs → h < natAbs (getD coeffs i (pos 0)))
 
 abbrev μ-loop : tie.MeasureT-loop
 μ-loop coeffs h₀ i₀ h i = length coeffs - i
@@ -51,7 +52,8 @@ loop-again c =
     let seen : c .before .magnitude .result ≡ natAbs (getD cs i (pos 0)) =
     c .before .magnitude .ensures ∙ ap natAbs (passed (getD cs i (pos 0)) (c .before .before .magnitude-arg .given)) in
     let f = c .above2 .ensures in (
-      f .1 .0 ∙ ap (λ m. max m (heightOf (drop (i + 1) cs))) seen ∙ height-found cs i (at .loop .h) more (at .loop .inv .2 more) ∙ at .loop .inv .0,
+      f .1 .0 ∙ ap (λ m. max m (heightOf (drop (i + 1) cs))) seen
+          ∙ height-found cs i (at .loop .h) more (at .loop .inv .2 more) ∙ at .loop .inv .0,
       f .0 .1,
       f .1 .1,
     )

@@ -13,15 +13,22 @@ cast-result c =
 
 add-result : tie.Need-add-result
 add-result c =
-    omega (arith, ap natAbs (turned (c .before .args .x) (c .before .fits .x) (c .if1 .taken)), c .before .fits .x .sfits)
+    omega (
+      arith,
+      ap natAbs (turned (c .before .args .x) (c .before .fits .x) (c .if1 .taken)),
+      c .before .fits .x .sfits,
+    )
 
 cast-result-2 : tie.Need-cast-result-2
 cast-result-2 c = casts (plain (c .before .args .x) (c .before .fits .x) (c .if1 .left)) (c .before .fits .x .sfits)
 
 returns : tie.Need-returns
 returns c =
-    omega
-    (arith, ap natAbs (turned (c .before .args .x) (c .before .fits .x) (c .if1 .taken)), natAbs-below (c .before .args .x) (c .before .fits .x) (c .if1 .taken))
+    omega (
+      arith,
+      ap natAbs (turned (c .before .args .x) (c .before .fits .x) (c .if1 .taken)),
+      natAbs-below (c .before .args .x) (c .before .fits .x) (c .if1 .taken),
+    )
 
 returns-2 : tie.Need-returns-2
 returns-2 c = search needs

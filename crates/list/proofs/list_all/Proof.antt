@@ -24,7 +24,8 @@ count-requires : tie.Need-count-requires Inv-loop μ-loop
 count-requires c κs = tt
 
 same-length : tie.Need-same-length Inv-loop μ-loop
-same-length c = c .before .before .before .before .before .read .kept .1 .0 ∙ c .before .before .before .before .before .before .before .before .loop .inv .0
+same-length c = c .before .before .before .before .before .read .kept .1 .0
+    ∙ c .before .before .before .before .before .before .before .before .loop .inv .0
 
 same-length-2 : tie.Need-same-length-2 Inv-loop μ-loop
 same-length-2 c = c .before .before .before .before .before .before .before .before .loop .inv .1
@@ -39,13 +40,24 @@ slice-aggregate-list-piece : tie.Need-slice-aggregate-list-piece Inv-loop μ-loo
 slice-aggregate-list-piece c = c .before .before .count .ensures .0 .1
 
 list-piece-requires : tie.Need-list-piece-requires Inv-loop μ-loop
-list-piece-requires c κs = omega (arith, c .before .before .before .before .before .before .before .before .before .before .loop .inv .1, c .before .before .before .before .before .before .before .before .before .before .before .before .before .before .pre)
+list-piece-requires c κs =
+    omega (
+      arith,
+      c .before .before .before .before .before .before .before .before .before .before .loop .inv .1,
+      c .before .before .before .before .before .before .before .before .before .before .before .before .before .before
+          .pre,
+    )
 
 same-length-3 : tie.Need-same-length-3 Inv-loop μ-loop
-same-length-3 c = c .before .before .before .before .before .before .before .before .before .before .before .before .read .kept .1 .0 ∙ c .before .before .before .before .before .before .before .before .before .before .before .before .before .before .before .loop .inv .0
+same-length-3 c =
+    c .before .before .before .before .before .before .before .before .before .before .before .before .read .kept .1 .0
+    ∙ c .before .before .before .before .before .before .before .before .before .before .before .before .before .before
+    .before .loop .inv .0
 
 same-length-4 : tie.Need-same-length-4 Inv-loop μ-loop
-same-length-4 c = c .before .before .before .before .list-piece .kept .1 .1 .0 ∙ c .before .before .before .before .before .before .before .before .before .before .before .before .before .before .before .loop .inv .1
+same-length-4 c = c .before .before .before .before .list-piece .kept .1 .1 .0
+    ∙ c .before .before .before .before .before .before .before .before .before .before .before .before .before .before
+    .before .loop .inv .1
 
 returns-2 : tie.Need-returns-2 Inv-loop μ-loop
 returns-2 c = tt
@@ -57,7 +69,16 @@ loop-less : tie.Need-loop-less Inv-loop μ-loop
 loop-less c = omega arith
 
 loop-again : tie.Need-loop-again Inv-loop μ-loop
-loop-again c = (c .before .before .before .before .before .before .before .before .before .before .before .before .before .read .kept .1 .0 ∙ c .before .before .before .before .before .before .before .before .before .before .before .before .before .before .before .before .loop .inv .0, c .before .before .before .before .before .list-piece .kept .1 .1 .0 ∙ c .before .before .before .before .before .before .before .before .before .before .before .before .before .before .before .before .loop .inv .1)
+loop-again c = (
+  c .before .before .before .before .before .before .before .before .before .before .before .before .before .read
+      .kept .1 .0 ∙
+      c .before .before .before .before .before .before .before .before .before .before .before .before .before .before
+      .before .before .loop .inv .0,
+  c .before .before .before .before .before .list-piece .kept .1 .1 .0
+      ∙ c .before .before .before .before .before .before .before .before .before .before .before .before .before
+      .before
+      .before .before .loop .inv .1,
+)
 
 same-length-5 : tie.Need-same-length-5 Inv-loop μ-loop
 same-length-5 c = c .before .loop .inv .0

@@ -30,32 +30,56 @@ run-requires : tie.Need-run-requires Inv-loop μ-loop
 run-requires c κs = tt
 
 slice-reshare-prefix-write-all : tie.Need-slice-reshare-prefix-write-all Inv-loop μ-loop
-slice-reshare-prefix-write-all c = omega (arith, c .before .before .before .run .ensures .fits, c .before .before .before .run .kept .1 .1 .0)
+slice-reshare-prefix-write-all c =
+    omega (arith, c .before .before .before .run .ensures .fits, c .before .before .before .run .kept .1 .1 .0)
 
 slice-aggregate-write-all : tie.Need-slice-aggregate-write-all Inv-loop μ-loop
 slice-aggregate-write-all c =
-    sym (length-take-le _ _ (omega (arith, c .before .before .before .before .run .ensures .fits, c .before .before .before .before .run .kept .1 .1 .0)))
+    sym (length-take-le _ _
+    (omega (
+      arith,
+      c .before .before .before .before .run .ensures .fits,
+      c .before .before .before .before .run .kept .1 .1 .0,
+    )))
 
 write-all-requires : tie.Need-write-all-requires Inv-loop μ-loop
 write-all-requires c κs = tt
 
 same-length : tie.Need-same-length Inv-loop μ-loop
-same-length c = c .before .before .before .before .before .before .run .kept .1 .1 .0 ∙ c .before .before .before .before .before .before .before .before .before .before .loop .inv .1
+same-length c = c .before .before .before .before .before .before .run .kept .1 .1 .0
+    ∙ c .before .before .before .before .before .before .before .before .before .before .loop .inv .1
 
 returns : tie.Need-returns Inv-loop μ-loop
 returns c = tt
 
 -- what was taken is within the piece, and it is something
-w : (c : tie.After-struct-known Inv-loop μ-loop) → c .before .before .before .before .before .before .before .run .result .taken ≤ length (c .before .before .before .before .before .before .before .before .before .before .before .before .before .before .args .piece .now) - c .before .before .before .before .before .before .before .before .before .before .before .loop .from
+w : (c : tie.After-struct-known Inv-loop μ-loop)
+    → c .before .before .before .before .before .before .before .run .result .taken
+    ≤ length (c .before .before .before .before .before .before .before .before .before .before .before .before .before
+    .before .args .piece .now)
+    - c .before .before .before .before .before .before .before .before .before .before .before .loop .from
 w c =
     let t = c .before .before .before .before .before .before .before .before .before .before .before in
-    omega (arith, c .before .before .before .before .before .before .before .run .ensures .within, length-take (length (t .before .before .before .args .piece .now) - t .loop .from) (drop (t .loop .from) (t .before .before .before .args .piece .now)))
+    omega (
+      arith,
+      c .before .before .before .before .before .before .before .run .ensures .within,
+      length-take (length (t .before .before .before .args .piece .now) - t .loop .from)
+          (drop (t .loop .from) (t .before .before .before .args .piece .now)),
+    )
 
-some : (c : tie.After-struct-known Inv-loop μ-loop) → 0 < c .before .before .before .before .before .before .before .run .result .taken
+some : (c : tie.After-struct-known Inv-loop μ-loop)
+    → 0 < c .before .before .before .before .before .before .before .run .result .taken
 some c =
     let t = c .before .before .before .before .before .before .before .before .before .before .before in
     let l = t .before .before .before .args .piece .now in
-    takes (c .before .before .before .before .before .before .before .run .ensures) (omega (arith, t .loop .inv .1, t .before .before .before .pre)) (omega (arith, length-take (length l - t .loop .from) (drop (t .loop .from) l), length-drop (t .loop .from) l, c .before .before .before .before .before .before .before .before .before .before .loop-test .taken))
+    takes (c .before .before .before .before .before .before .before .run .ensures)
+    (omega (arith, t .loop .inv .1, t .before .before .before .pre))
+    (omega (
+      arith,
+      length-take (length l - t .loop .from) (drop (t .loop .from) l),
+      length-drop (t .loop .from) l,
+      c .before .before .before .before .before .before .before .before .before .before .loop-test .taken,
+    ))
 
 add-from : tie.Need-add-from Inv-loop μ-loop
 add-from c = omega (arith, w c)
@@ -64,7 +88,11 @@ loop-less : tie.Need-loop-less Inv-loop μ-loop
 loop-less c = omega (arith, w c, some c)
 
 loop-again : tie.Need-loop-again Inv-loop μ-loop
-loop-again c = (omega (arith, w c), c .before .before .before .before .before .before .before .run .kept .1 .1 .0 ∙ c .before .before .before .before .before .before .before .before .before .before .before .loop .inv .1)
+loop-again c = (
+  omega (arith, w c),
+  c .before .before .before .before .before .before .before .run .kept .1 .1 .0
+      ∙ c .before .before .before .before .before .before .before .before .before .before .before .loop .inv .1,
+)
 
 same-length-2 : tie.Need-same-length-2 Inv-loop μ-loop
 same-length-2 c = c .before .loop .inv .1

@@ -22,7 +22,9 @@ array-share-prefix-out : tie.Need-array-share-prefix-out
 array-share-prefix-out c = search needs
 
 slice-aggregate-write-all : tie.Need-slice-aggregate-write-all
-slice-aggregate-write-all c = sym (length-take-le _ _ (omega (arith, c .before .before .heading .ensures .1, c .before .before .heading .kept .0)))
+slice-aggregate-write-all c =
+    sym (length-take-le _ _
+    (omega (arith, c .before .before .heading .ensures .1, c .before .before .heading .kept .0)))
 
 write-all-requires : tie.Need-write-all-requires
 write-all-requires c κs = search needs

@@ -48,7 +48,8 @@ returns-3 c =
     let p = q .before in
     let k = sym (q .known .ensures) ∙ not-false _ (t .before .before .before .if1 .left) in
     let g = sym (t .before .before .good2 .ensures) ∙ not-false _ (t .before .if2 .left) in
-    let s = at-index (p .args .kind) (p .args .n) (p .args .j) (p .args .buf .now) (stop-one _ _ _ _ k g (sym (apart-r _ g _ (t .take-apart .ensures)) ∙ c .before .if3 .taken)) in
+    let s = at-index (p .args .kind) (p .args .n) (p .args .j) (p .args .buf .now)
+    (stop-one _ _ _ _ k g (sym (apart-r _ g _ (t .take-apart .ensures)) ∙ c .before .if3 .taken)) in
     (c .refused3 .ensures ∙ s .0, s .1)
 
 stop-at-requires : tie.Need-stop-at-requires

@@ -32,7 +32,8 @@ refused-requires-2 c κs = search needs
 returns-2 : tie.Need-returns-2
 returns-2 c =
     let p = c .before .before .before .before .before in
-    let k = sym (c .before .before .before .before .known .ensures) ∙ not-false _ (c .before .before .before .if1 .left) in
+    let k = sym (c .before .before .before .before .known .ensures)
+    ∙ not-false _ (c .before .before .before .if1 .left) in
     let g = sym (c .before .before .good2 .ensures) ∙ not-true _ (c .before .if2 .taken) in
     let s = at-index (p .args .kind) (p .args .n) (p .args .h) (p .args .buf .now) (ask-index _ _ _ _ k g) in
     (c .refused2 .ensures ∙ s .0, s .1)
@@ -43,9 +44,11 @@ refused-requires-3 c κs = search needs
 returns-3 : tie.Need-returns-3
 returns-3 c =
     let p = c .before .before .before .before .before .before in
-    let k = sym (c .before .before .before .before .before .known .ensures) ∙ not-false _ (c .before .before .before .before .if1 .left) in
+    let k = sym (c .before .before .before .before .before .known .ensures)
+    ∙ not-false _ (c .before .before .before .before .if1 .left) in
     let g = sym (c .before .before .before .good2 .ensures) ∙ not-false _ (c .before .before .if2 .left) in
-    let s = at-limit (p .args .kind) (p .args .n) (p .args .h) (p .args .buf .now) (ask-limit _ _ _ _ k g (rw (read-back (p .args .h) (p .fits .h .sfits)) at (c .before .if3 .taken))) in
+    let s = at-limit (p .args .kind) (p .args .n) (p .args .h) (p .args .buf .now)
+    (ask-limit _ _ _ _ k g (rw (read-back (p .args .h) (p .fits .h .sfits)) at (c .before .if3 .taken))) in
     (c .refused3 .ensures ∙ s .0, s .1)
 
 take-apart-requires : tie.Need-take-apart-requires
@@ -54,8 +57,10 @@ take-apart-requires c κs = index-good _ (sym (c .before .before .good2 .ensures
 answer-in-requires : tie.Need-answer-in-requires
 answer-in-requires c κs =
     let p = c .before .before .before .before .before .before .before in
-    let k = sym (c .before .before .before .before .before .before .known .ensures) ∙ not-false _ (c .before .before .before .before .before .if1 .left) in
-    let g = sym (c .before .before .before .before .good2 .ensures) ∙ not-false _ (c .before .before .before .if2 .left) in
+    let k = sym (c .before .before .before .before .before .before .known .ensures)
+    ∙ not-false _ (c .before .before .before .before .before .if1 .left) in
+    let g = sym (c .before .before .before .before .good2 .ensures)
+    ∙ not-false _ (c .before .before .before .if2 .left) in
     (c .before .take-apart .ensures, k, g, c .before .before .if3 .left)
 
 same-length : tie.Need-same-length

@@ -17,7 +17,8 @@ refused-requires c κs = search needs
 returns : tie.Need-returns
 returns c =
     let a = c .before .before .before .before .args in
-    let p = header-wrong (degreeIn (a .bytes .now)) (a .bytes .now) (a .coeffs .now) _ (c .before .before .header-code .ensures)
+    let p = header-wrong (degreeIn (a .bytes .now)) (a .bytes .now) (a .coeffs .now) _
+    (c .before .before .header-code .ensures)
     (c .before .if1 .taken) in
     (c .refused .ensures ∙ p .0, p .1)
 
@@ -33,7 +34,8 @@ degree-of-requires c κs = search needs
 read-with-requires : tie.Need-read-with-requires
 read-with-requires c κs = (
   sym (c .before .before .before .before .before .header-code .ensures) ∙ c .before .before .before .before .if1 .left,
-  told-small (c .before .before .before .field .result) (c .before .before .index-in .result) _ (c .before .degree-of .ensures),
+  told-small (c .before .before .before .field .result) (c .before .before .index-in .result) _
+      (c .before .degree-of .ensures),
 )
 
 same-length : tie.Need-same-length

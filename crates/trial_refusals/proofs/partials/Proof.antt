@@ -7,7 +7,8 @@ use Rattle.trial_refusals.proofs.partials.Statement.{statement}
 use Rattle.trial_refusals.proofs.partials.Tie as tie
 
 abbrev Inv-loop : tie.InvT-loop
-Inv-loop buf₀ kinds indices after rooms i₀ buf i = (i ≤ 23) × (length kinds ≡ 23) × (length indices ≡ 23) × (length after ≡ 23) × (length rooms ≡ 23) × (length buf ≡ length buf₀)
+Inv-loop buf₀ kinds indices after rooms i₀ buf i = (i ≤ 23) × (length kinds ≡ 23) × (length indices ≡ 23)
+    × (length after ≡ 23) × (length rooms ≡ 23) × (length buf ≡ length buf₀)
 
 abbrev μ-loop : tie.MeasureT-loop
 μ-loop buf₀ kinds indices after rooms i₀ buf i = 23 - i

@@ -7,7 +7,8 @@ use Rattle.trial_refusals.proofs.polynomials.Statement.{statement}
 use Rattle.trial_refusals.proofs.polynomials.Tie as tie
 
 abbrev Inv-loop : tie.InvT-loop
-Inv-loop buf₀ kinds indices limits rooms i₀ buf i = (i ≤ 41) × (length kinds ≡ 41) × (length indices ≡ 41) × (length limits ≡ 41) × (length rooms ≡ 41) × (length buf ≡ length buf₀)
+Inv-loop buf₀ kinds indices limits rooms i₀ buf i = (i ≤ 41) × (length kinds ≡ 41) × (length indices ≡ 41)
+    × (length limits ≡ 41) × (length rooms ≡ 41) × (length buf ≡ length buf₀)
 
 abbrev μ-loop : tie.MeasureT-loop
 μ-loop buf₀ kinds indices limits rooms i₀ buf i = 41 - i

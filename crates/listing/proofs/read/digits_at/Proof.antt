@@ -1,4 +1,5 @@
--- `listing::read::digits_at` meets its contract. The loop's invariant: the digits at `place` are those passed and those at i.
+-- `listing::read::digits_at` meets its contract. The loop's invariant: the digits at `place` are those passed and those
+-- at i.
 use mathlib.Core.Path.{_≡_, sym, _∙_}
 use borrow.Author.Tests.{not-true, not-false}
 use Prim.Native.Nat.{_+_, _-_, _≤_}
@@ -34,7 +35,12 @@ sub-result c = omega arith
 returns-2 : tie.Need-returns-2 Inv-loop μ-loop
 returns-2 c =
     let t = c .before .before .before .before in
-    omega (arith, none-here (t .before .before .before .args .line .now) (t .loop .i) (c .before .before .before .loop-test .taken) (sym (c .before .is-digit .ensures) ∙ not-true _ (c .if2 .taken)))
+    omega (
+      arith,
+      none-here (t .before .before .before .args .line .now) (t .loop .i)
+          (c .before .before .before .loop-test .taken) (sym (c .before .is-digit .ensures)
+          ∙ not-true _ (c .if2 .taken)),
+    )
 
 add-i : tie.Need-add-i Inv-loop μ-loop
 add-i c = omega arith
@@ -45,14 +51,17 @@ loop-less c = omega arith
 loop-again : tie.Need-loop-again Inv-loop μ-loop
 loop-again c =
     let t = c .before .before .before .before in
-    let e = one-here (t .before .before .before .args .line .now) (t .loop .i) (c .before .before .before .loop-test .taken) (sym (c .before .is-digit .ensures) ∙ not-false _ (c .if2 .left)) in
+    let e = one-here (t .before .before .before .args .line .now) (t .loop .i)
+    (c .before .before .before .loop-test .taken) (sym (c .before .is-digit .ensures)
+    ∙ not-false _ (c .if2 .left)) in
     (omega arith, omega arith, omega arith)
 
 sub-result-2 : tie.Need-sub-result-2 Inv-loop μ-loop
 sub-result-2 c = omega arith
 
 returns-3 : tie.Need-returns-3 Inv-loop μ-loop
-returns-3 c = omega (arith, none-past (c .before .before .before .before .args .line .now) (c .before .loop .i) (omega arith))
+returns-3 c =
+    omega (arith, none-past (c .before .before .before .before .args .line .now) (c .before .loop .i) (omega arith))
 
 pub digits-at-spec : {M : Type 1} → statement M
 digits-at-spec =

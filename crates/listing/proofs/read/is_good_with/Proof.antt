@@ -40,7 +40,12 @@ unfolding isGoodWith
 returns-4 c = simp (← c .before .byte-at .ensures, ne-eqb _ _ (c .if4 .taken), and-false)
 
 add-byte-at : tie.Need-add-byte-at
-add-byte-at c = omega (arith, nine-range _ (sym (c .before .before .before .before .before .between .ensures) ∙ not-false _ (c .before .before .before .before .if2 .left)))
+add-byte-at c =
+    omega (
+      arith,
+      nine-range _ (sym (c .before .before .before .before .before .between .ensures)
+          ∙ not-false _ (c .before .before .before .before .if2 .left)),
+    )
 
 byte-at-requires-2 : tie.Need-byte-at-requires-2
 byte-at-requires-2 c κs = search needs
@@ -50,20 +55,36 @@ unfolding isGoodWith
 returns-5 c = simp (← c .before .byte-at2 .ensures, ne-eqb _ _ (c .if5 .taken), and-false)
 
 add-result : tie.Need-add-result
-add-result c = omega (arith, nine-range _ (sym (c .before .before .before .before .before .before .before .between .ensures) ∙ not-false _ (c .before .before .before .before .before .before .if2 .left)))
+add-result c =
+    omega (
+      arith,
+      nine-range _ (sym (c .before .before .before .before .before .before .before .between .ensures)
+          ∙ not-false _ (c .before .before .before .before .before .before .if2 .left)),
+    )
 
 add-result-2 : tie.Need-add-result-2
-add-result-2 c = omega (arith, nine-range _ (sym (c .before .before .before .before .before .before .before .between .ensures) ∙ not-false _ (c .before .before .before .before .before .before .if2 .left)), nine-range _ (sym (c .before .before .before .before .before .between2 .ensures) ∙ not-false _ (c .before .before .before .before .if3 .left)))
+add-result-2 c =
+    omega (
+      arith,
+      nine-range _ (sym (c .before .before .before .before .before .before .before .between .ensures)
+          ∙ not-false _ (c .before .before .before .before .before .before .if2 .left)),
+      nine-range _ (sym (c .before .before .before .before .before .between2 .ensures)
+          ∙ not-false _ (c .before .before .before .before .if3 .left)),
+    )
 
 returns-6 : tie.Need-returns-6
 unfolding isGoodWith
 returns-6 c =
     let s = c .before .before .before .before .before .before .before .before .before .before in
     simp (
-      known (getD (s .args .line .now) 0 0) (λ e. c .before .before .before .before .before .before .before .before .if1 .left (s .pre ∙ e)),
-      sym (c .before .before .before .before .before .before .before .between .ensures) ∙ not-false _ (c .before .before .before .before .before .before .if2 .left),
-      sym (c .before .before .before .before .before .between2 .ensures) ∙ not-false _ (c .before .before .before .before .if3 .left),
-      ap (λ x. eqb x 32) (sym (c .before .before .before .byte-at .ensures)) ∙ eq-eqb _ _ (c .before .before .if4 .left),
+      known (getD (s .args .line .now) 0 0)
+          (λ e. c .before .before .before .before .before .before .before .before .if1 .left (s .pre ∙ e)),
+      sym (c .before .before .before .before .before .before .before .between .ensures)
+          ∙ not-false _ (c .before .before .before .before .before .before .if2 .left),
+      sym (c .before .before .before .before .before .between2 .ensures)
+          ∙ not-false _ (c .before .before .before .before .if3 .left),
+      ap (λ x. eqb x 32) (sym (c .before .before .before .byte-at .ensures))
+          ∙ eq-eqb _ _ (c .before .before .if4 .left),
       ap (λ x. eqb x 32) (sym (c .before .byte-at2 .ensures)) ∙ eq-eqb _ _ (c .if5 .left),
     )
 

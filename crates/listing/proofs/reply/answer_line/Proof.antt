@@ -18,7 +18,8 @@ same-length : tie.Need-same-length
 same-length c = search needs
 
 returns-2 : tie.Need-returns-2
-returns-2 c = rw (le-ltb _ _ (c .before .before .before .before .before .before .if1 .left)) (c .before .before .before .put-reply .ensures .0)
+returns-2 c = rw (le-ltb _ _ (c .before .before .before .before .before .before .if1 .left))
+    (c .before .before .before .put-reply .ensures .0)
 
 pub answer-line-spec : {M : Type 1} → statement M
 answer-line-spec =

@@ -28,10 +28,27 @@ same-length c = search needs
 
 returns : tie.Need-returns
 returns c =
-    let s = c .before .before .before .before .before .before .before .before .before .before .before .before .before .before .before .before .before .before .before .before .before .before in
-    let first = rw (c .before .before .before .before .before .before .before .before .before .before .before .before .before .before .before .before .before .before .before .letter-of .ensures) at (c .before .before .before .before .before .before .before .before .before .before .before .before .before .before .before .before .before .before .put .ensures) in (
-      put-headed (s .args .kind) (s .args .n) (s .args .a) first (c .before .before .before .before .before .before .before .before .before .before .before .before .before .before .put-three .ensures .0) (c .before .before .before .before .before .before .before .before .before .before .put-three2 .ensures .0) (c .before .before .before .before .before .before .put2 .ensures) (c .before .before .put3 .ensures),
-      omega (arith, first .place, c .before .before .before .before .before .before .before .before .before .before .before .before .before .before .put-three .ensures .1, c .before .before .before .before .before .before .before .before .before .before .put-three2 .ensures .1, c .before .before .before .before .before .before .put2 .ensures .place, c .before .before .put3 .ensures .place),
+    let s = c .before .before .before .before .before .before .before .before .before .before .before .before .before
+    .before .before .before .before .before .before .before .before .before in
+    let first = rw
+    (c .before .before .before .before .before .before .before .before .before .before .before .before .before
+    .before .before .before .before .before .before .letter-of .ensures) at
+    (c .before .before .before .before .before .before .before .before .before .before .before .before .before
+    .before .before .before .before .before .put .ensures) in (
+      put-headed (s .args .kind) (s .args .n) (s .args .a) first
+          (c .before .before .before .before .before .before .before .before .before .before .before .before .before
+          .before .put-three .ensures .0)
+          (c .before .before .before .before .before .before .before .before .before .before .put-three2 .ensures .0)
+          (c .before .before .before .before .before .before .put2 .ensures) (c .before .before .put3 .ensures),
+      omega (
+        arith,
+        first .place,
+        c .before .before .before .before .before .before .before .before .before .before .before .before .before
+            .before .put-three .ensures .1,
+        c .before .before .before .before .before .before .before .before .before .before .put-three2 .ensures .1,
+        c .before .before .before .before .before .before .put2 .ensures .place,
+        c .before .before .put3 .ensures .place,
+      ),
     )
 
 pub put-head-spec : {M : Type 1} → statement M

@@ -18,7 +18,8 @@ put-coefficients-requires c κs =
 
 put-requires : tie.Need-put-requires
 put-requires c κs =
-    let h = c .before .before .before .before .before .before .before .pre .1 (c .before .before .before .before .before .if1 .taken) in
+    let h = c .before .before .before .before .before .before .before .pre .1
+    (c .before .before .before .before .before .if1 .taken) in
     omega (arith, c .before .before .before .put-coefficients .ensures .1)
 
 same-length : tie.Need-same-length
@@ -27,7 +28,8 @@ same-length c = search needs
 returns : tie.Need-returns
 unfolding tailOf
 returns c =
-    let h = c .before .before .before .before .before .before .before .before .before .before .pre .1 (c .before .before .before .before .before .before .before .before .if1 .taken) in
+    let h = c .before .before .before .before .before .before .before .before .before .before .pre .1
+    (c .before .before .before .before .before .before .before .before .if1 .taken) in
     let last = c .before .before .put .ensures in
     rw (eq-eqb _ _ (c .before .before .before .before .before .before .before .before .if1 .taken)) (
       then (c .before .before .before .before .before .before .put-coefficients .ensures .0) last,

@@ -24,9 +24,20 @@ returns : tie.Need-returns
 unfolding spaced
 returns c =
     let s = c .before .before .before .before .before .before .before .before .before .before .before .before .before in
-    let two = then (c .before .before .before .before .before .before .put-item2 .ensures .0) (c .before .before .put-item3 .ensures .0) in (
-      rw (spaced-append (pos (s .args .x) ∷ []) (pos (s .args .y) ∷ pos (s .args .z) ∷ []), spaced-append (pos (s .args .y) ∷ []) (pos (s .args .z) ∷ [])) (then (c .before .before .before .before .before .before .before .before .before .before .put-item .ensures .0) two),
-      omega (arith, c .before .before .before .before .before .before .before .before .before .before .put-item .ensures .1, c .before .before .before .before .before .before .put-item2 .ensures .1, c .before .before .put-item3 .ensures .1),
+    let two = then (c .before .before .before .before .before .before .put-item2 .ensures .0)
+    (c .before .before .put-item3 .ensures .0) in (
+      rw (
+        spaced-append (pos (s .args .x) ∷ []) (pos (s .args .y) ∷ pos (s .args .z) ∷ []),
+        spaced-append (pos (s .args .y) ∷ []) (pos (s .args .z) ∷ []),
+      )
+          (then (c .before .before .before .before .before .before .before .before .before .before .put-item .ensures
+          .0) two),
+      omega (
+        arith,
+        c .before .before .before .before .before .before .before .before .before .before .put-item .ensures .1,
+        c .before .before .before .before .before .before .put-item2 .ensures .1,
+        c .before .before .put-item3 .ensures .1,
+      ),
     )
 
 pub put-three-spec : {M : Type 1} → statement M

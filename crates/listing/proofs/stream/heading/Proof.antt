@@ -41,7 +41,8 @@ unfolding heading
 loop-again c =
     let t = c .before .loop in (
       omega arith,
-      rw (add-one, take-suc heading (t .i) 0 (omega arith)) (then (t .inv .1) (record { leaves = refl; place = omega arith })),
+      rw (add-one, take-suc heading (t .i) 0 (omega arith))
+          (then (t .inv .1) (record { leaves = refl; place = omega arith })),
       length-set (t .out) (t .i) _ ∙ t .inv .2,
     )
 

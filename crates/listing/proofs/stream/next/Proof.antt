@@ -9,7 +9,12 @@ wrapping-add-u64-requires c κs = search needs
 
 returns : tie.Need-returns
 unfolding nextLine
-returns c = λ i. record { bytes = c .before .before .args .line .bytes; length = 0; number = c .wrapping-add-u64 .ensures i }
+returns c = λ i. record {
+  bytes = c .before .before .args .line .bytes;
+  length = 0;
+  number =
+      c .wrapping-add-u64 .ensures i;
+}
 
 pub next-spec : {M : Type 1} → statement M
 next-spec = tie.close (tie.spec wrapping-add-u64-requires returns)

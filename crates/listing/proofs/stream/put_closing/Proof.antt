@@ -17,7 +17,8 @@ same-length c = search needs
 
 returns : tie.Need-returns
 unfolding closing
-returns c = rw (lt-leb _ _ (c .before .before .before .before .if1 .taken)) (c .before .before .put-wrong .ensures .0, omega (arith, c .before .before .put-wrong .ensures .1))
+returns c = rw (lt-leb _ _ (c .before .before .before .before .if1 .taken))
+    (c .before .before .put-wrong .ensures .0, omega (arith, c .before .before .put-wrong .ensures .1))
 
 -- an array's length
 long : (c : tie.Start) → length (c .args .line .bytes) ≡ 40
@@ -40,7 +41,8 @@ same-length-3 c = search needs
 
 returns-2 : tie.Need-returns-2
 unfolding closing
-returns-2 c = rw (le-leb _ _ (c .before .before .before .before .before .before .before .before .if1 .left)) (c .before .before .before .put-reply .ensures)
+returns-2 c = rw (le-leb _ _ (c .before .before .before .before .before .before .before .before .if1 .left))
+    (c .before .before .before .put-reply .ensures)
 
 pub put-closing-spec : {M : Type 1} → statement M
 put-closing-spec =

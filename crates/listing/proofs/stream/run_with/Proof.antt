@@ -15,7 +15,11 @@ abbrev μ-loop : tie.MeasureT-loop
 μ-loop piece out₀ entries₀ s₀ i₀ made₀ out entries s i made = length piece - i
 
 loop-holds : tie.Need-loop-holds Inv-loop μ-loop
-loop-holds c = (going-start (c .before .before .args .line) (c .before .before .args .piece .now) (c .before .before .args .out .now), refl)
+loop-holds c = (
+  going-start (c .before .before .args .line) (c .before .before .args .piece .now)
+      (c .before .before .args .out .now),
+  refl,
+)
 
 shared-slice-read-b : tie.Need-shared-slice-read-b Inv-loop μ-loop
 shared-slice-read-b c = omega arith
@@ -32,12 +36,16 @@ same-length-2 : tie.Need-same-length-2 Inv-loop μ-loop
 same-length-2 c = c .before .before .before .before .loop .inv .1
 
 returns : tie.Need-returns Inv-loop μ-loop
-returns c = stops _ _ _ (c .before .before .before .before .loop .inv .0) (c .before .before .before .loop-test .taken) (c .before .if1 .taken) (c .if2 .taken)
+returns c = stops _ _ _ (c .before .before .before .before .loop .inv .0) (c .before .before .before .loop-test .taken)
+    (c .before .if1 .taken) (c .if2 .taken)
 
 put-closing-requires : tie.Need-put-closing-requires Inv-loop μ-loop
 put-closing-requires c κs =
-    let g = c .before .before .before .before .before .before .loop .inv .0 in
-    (c .before .before .before .before .before .before .loop .inv .1 ∙ c .before .before .before .before .before .before .before .before .before .pre, omega (arith, g .fits, g .same, c .before .before .if2 .left))
+    let g = c .before .before .before .before .before .before .loop .inv .0 in (
+      c .before .before .before .before .before .before .loop .inv .1
+          ∙ c .before .before .before .before .before .before .before .before .before .pre,
+      omega (arith, g .fits, g .same, c .before .before .if2 .left),
+    )
 
 next-requires : tie.Need-next-requires Inv-loop μ-loop
 next-requires c κs = tt
@@ -52,7 +60,11 @@ loop-again : tie.Need-loop-again Inv-loop μ-loop
 loop-again c =
     let t = c .before .before .before .before .before .before .before .before .before .before .before .loop in
     let p = c .before .before .before .before .put-closing in (
-      rw (c .next .ensures) (closes _ _ _ (t .inv .0) (c .before .before .before .before .before .before .before .before .before .before .loop-test .taken) (c .before .before .before .before .before .before .before .before .if1 .taken) (c .before .before .before .before .before .before .before .if2 .left) (p .ensures .0) (p .ensures .1)),
+      rw (c .next .ensures)
+          (closes _ _ _ (t .inv .0)
+          (c .before .before .before .before .before .before .before .before .before .before .loop-test .taken)
+          (c .before .before .before .before .before .before .before .before .if1 .taken)
+          (c .before .before .before .before .before .before .before .if2 .left) (p .ensures .0) (p .ensures .1)),
       p .kept .1 .1 .1 .0 ∙ t .inv .1,
     )
 
@@ -67,8 +79,11 @@ loop-less-2 c = omega arith
 
 loop-again-2 : tie.Need-loop-again-2 Inv-loop μ-loop
 loop-again-2 c =
-    let t = c .before .before .before .before .loop in
-    (rw (c .push .ensures) (pushes _ _ _ (t .inv .0) (c .before .before .before .loop-test .taken) (c .before .if1 .left)), t .inv .1)
+    let t = c .before .before .before .before .loop in (
+      rw (c .push .ensures)
+          (pushes _ _ _ (t .inv .0) (c .before .before .before .loop-test .taken) (c .before .if1 .left)),
+      t .inv .1,
+    )
 
 same-length-3 : tie.Need-same-length-3 Inv-loop μ-loop
 same-length-3 c = c .before .loop .inv .0 .same

@@ -37,15 +37,18 @@ put-digits-add-put : (t : ℕ) → put-digits-lts.Need-add-put (callees t) (put-
 put-digits-add-put t c = omega arith
 
 put-digits-put-requires : (t : ℕ) → put-digits-lts.Need-put-requires (callees t) (put-digits-at t) put-digits.Post
-put-digits-put-requires t c κs = omega (arith, ap length (decimal-small (c .before .before .before .args .n) (c .before .if1 .taken)))
+put-digits-put-requires t c κs =
+    omega (arith, ap length (decimal-small (c .before .before .before .args .n) (c .before .if1 .taken)))
 
 put-digits-same-length : (t : ℕ) → put-digits-lts.Need-same-length (callees t) (put-digits-at t) put-digits.Post
 put-digits-same-length t c = search needs
 
 put-digits-returns : (t : ℕ) → put-digits-lts.Need-returns (callees t) (put-digits-at t) put-digits.Post
-put-digits-returns t c = rw (decimal-small _ (c .before .before .before .before .if1 .taken)) (c .before .before .put .ensures)
+put-digits-returns t c = rw (decimal-small _ (c .before .before .before .before .if1 .taken))
+    (c .before .before .put .ensures)
 
-put-digits-put-digits-requires : (t : ℕ) → put-digits-lts.Need-put-digits-requires (callees t) (put-digits-at t) put-digits.Post
+put-digits-put-digits-requires : (t : ℕ)
+    → put-digits-lts.Need-put-digits-requires (callees t) (put-digits-at t) put-digits.Post
 put-digits-put-digits-requires t c κs =
     let s = c .before .before .before in
     (omega (arith, s .pre .0), omega (arith, s .pre .1, length-more (s .args .n) (c .before .if1 .left)))
@@ -59,13 +62,20 @@ put-digits-add-put-2 t c = omega arith
 put-digits-put-requires-2 : (t : ℕ) → put-digits-lts.Need-put-requires-2 (callees t) (put-digits-at t) put-digits.Post
 put-digits-put-requires-2 t c κs =
     let s = c .before .before .before .before .before .before .before in
-    omega (arith, s .pre .1, c .before .before .before .put-digits .ensures .place, length-more (s .args .n) (c .before .before .before .before .before .if1 .left))
+    omega (
+      arith,
+      s .pre .1,
+      c .before .before .before .put-digits .ensures .place,
+      length-more (s .args .n) (c .before .before .before .before .before .if1 .left),
+    )
 
 put-digits-same-length-2 : (t : ℕ) → put-digits-lts.Need-same-length-2 (callees t) (put-digits-at t) put-digits.Post
 put-digits-same-length-2 t c = search needs
 
 put-digits-returns-2 : (t : ℕ) → put-digits-lts.Need-returns-2 (callees t) (put-digits-at t) put-digits.Post
-put-digits-returns-2 t c = rw (decimal-more _ (c .before .before .before .before .before .before .before .before .if1 .left)) (then (c .before .before .before .before .before .before .put-digits .ensures) (c .before .before .put2 .ensures))
+put-digits-returns-2 t c =
+    rw (decimal-more _ (c .before .before .before .before .before .before .before .before .if1 .left))
+    (then (c .before .before .before .before .before .before .put-digits .ensures) (c .before .before .put2 .ensures))
 
 pub +put-digits-spec : {M : Type 1} → statement M
 +put-digits-spec = close μ-put-digits λ t. put-digits-lts.spec (callees t)

@@ -21,19 +21,23 @@ sub-result c = turned-fits (c .before .args .c) (c .before .fits .c) (below c)
 
 cast-result : tie.Need-cast-result
 cast-result c =
-    rw (turned-seen (c .before .args .c) (c .before .fits .c) (below c)) (tt, record { fits = omega (arith, c .before .fits .c .sfits) })
+    rw (turned-seen (c .before .args .c) (c .before .fits .c) (below c))
+    (tt, record { fits = omega (arith, c .before .fits .c .sfits) })
 
 add-result-2 : tie.Need-add-result-2
 add-result-2 c =
-    rw (turned-seen (c .before .args .c) (c .before .fits .c) (below c)) (record { fits = omega (arith, c .before .fits .c .sfits) })
+    rw (turned-seen (c .before .args .c) (c .before .fits .c) (below c))
+    (record { fits = omega (arith, c .before .fits .c .sfits) })
 
 returns : tie.Need-returns
 returns c =
-    rw (turned-seen (c .before .args .c) (c .before .fits .c) (below c)) (magnitude-is (c .before .args .c) (c .before .fits .c) (below c))
+    rw (turned-seen (c .before .args .c) (c .before .fits .c) (below c))
+    (magnitude-is (c .before .args .c) (c .before .fits .c) (below c))
 
 cast-result-2 : tie.Need-cast-result-2
 cast-result-2 c =
-    rw (toZ-ofZ (c .before .fits .c)) (not-below (c .before .args .c) (c .before .fits .c) (rw (toZ-ofZ (c .before .fits .c)) at (c .if1 .left)))
+    rw (toZ-ofZ (c .before .fits .c))
+    (not-below (c .before .args .c) (c .before .fits .c) (rw (toZ-ofZ (c .before .fits .c)) at (c .if1 .left)))
 
 returns-2 : tie.Need-returns-2
 returns-2 c = search needs

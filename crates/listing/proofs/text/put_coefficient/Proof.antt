@@ -18,18 +18,30 @@ magnitude-requires : tie.Need-magnitude-requires
 magnitude-requires c κs = search needs
 
 put-number-requires : tie.Need-put-number-requires
-put-number-requires c κs = omega (arith, c .before .before .before .before .put-sign .ensures .place, length-sign (seen (c .before .before .before .before .before .before .before .before .before .before .before .args .c)), c .before .before .before .before .before .before .before .before .put .ensures .place)
+put-number-requires c κs =
+    omega (
+      arith,
+      c .before .before .before .before .put-sign .ensures .place,
+      length-sign (seen
+          (c .before .before .before .before .before .before .before .before .before .before .before .args .c)),
+      c .before .before .before .before .before .before .before .before .put .ensures .place,
+    )
 
 same-length : tie.Need-same-length
 same-length c = search needs
 
 returns : tie.Need-returns
 returns c =
-    let x = c .before .before .before .before .before .before .before .before .before .before .before .before .before .before .args .c in
-    let f = c .before .before .before .before .before .before .before .before .before .before .before .before .before .before .fits .c in
-    let digits = rw (c .before .before .before .magnitude .ensures, toZ-ofZ f) at (c .before .before .put-number .ensures) in
+    let x = c .before .before .before .before .before .before .before .before .before .before .before .before .before
+    .before .args .c in
+    let f = c .before .before .before .before .before .before .before .before .before .before .before .before .before
+    .before .fits .c in
+    let digits =
+    rw (c .before .before .before .magnitude .ensures, toZ-ofZ f) at (c .before .before .put-number .ensures) in
     let sign = rw (toZ-ofZ f) at (c .before .before .before .before .before .before .before .put-sign .ensures) in
-    let whole = put-one x (c .before .before .before .before .before .before .before .before .before .before .before .put .ensures) (then sign digits) in
+    let whole = put-one x
+    (c .before .before .before .before .before .before .before .before .before .before .before .put .ensures)
+    (then sign digits) in
     (whole, omega (arith, whole .place, length-spaced x (omega (arith, abs-mag x, f .sfits)), length-sign x))
 
 pub put-coefficient-spec : {M : Type 1} → statement M

@@ -1,4 +1,5 @@
--- `listing::text::put_coefficients` meets its contract. The loop's invariant: the first i coefficients are written, in at most 22 bytes each.
+-- `listing::text::put_coefficients` meets its contract. The loop's invariant: the first i coefficients are written, in
+-- at most 22 bytes each.
 use Prim.Native.Nat.{_+_, _*_, _-_, _≤_, _<_}
 use mathlib.Core.Path.{_≡_, refl, _∙_}
 use native.Mathlib.Omega.{arith}
@@ -47,7 +48,14 @@ loop-again c =
     let l = c .before .before .before .before .before .before .before .before .args .entries .now in
     let h : t .i < length l = omega arith in (
       omega arith,
-      rw (add-one, take-suc l (t .i) (pos 0), spaced-append) (then (t .inv .1) (rw (toZ-ofZ (record { sfits = c .before .before .before .put-coefficient-arg2 .given })) at (c .before .before .put-coefficient .ensures .0))),
+      rw (add-one, take-suc l (t .i) (pos 0), spaced-append)
+          (then (t .inv .1)
+          (rw (toZ-ofZ
+          (record {
+            sfits =
+                c .before .before .before .put-coefficient-arg2 .given;
+          })) at
+          (c .before .before .put-coefficient .ensures .0))),
       omega (arith, c .before .before .put-coefficient .ensures .1),
       c .before .before .put-coefficient .kept .0 ∙ t .inv .3,
     )

@@ -20,8 +20,17 @@ returns : tie.Need-returns
 unfolding sign
 returns c =
     let n = c .before .before .before .before .before .before .before .before .before .args .n in
-    let whole = put-plain n (c .before .before .before .before .before .before .put .ensures) (c .before .before .put-number .ensures) in
-    (whole, omega (arith, whole .place, length-spaced (pos n) (c .before .before .before .before .before .before .before .before .before .fits .n .fits), length-sign (pos n)))
+    let whole = put-plain n (c .before .before .before .before .before .before .put .ensures)
+    (c .before .before .put-number .ensures) in (
+      whole,
+      omega (
+        arith,
+        whole .place,
+        length-spaced (pos n)
+            (c .before .before .before .before .before .before .before .before .before .fits .n .fits),
+        length-sign (pos n),
+      ),
+    )
 
 pub put-item-spec : {M : Type 1} → statement M
 put-item-spec = tie.close (tie.spec put-requires put-number-requires same-length returns)

@@ -21,7 +21,8 @@ returns : tie.Need-returns
 returns c = rw (decimal-small _ (c .before .before .before .before .if1 .taken)) (c .before .before .put .ensures)
 
 put-digits-requires : tie.Need-put-digits-requires
-put-digits-requires c κs = omega (arith, length-machine (c .before .before .before .args .n) (c .before .before .before .fits .n .fits))
+put-digits-requires c κs =
+    omega (arith, length-machine (c .before .before .before .args .n) (c .before .before .before .fits .n .fits))
 
 same-length-2 : tie.Need-same-length-2
 same-length-2 c = search needs

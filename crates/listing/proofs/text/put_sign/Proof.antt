@@ -15,12 +15,14 @@ same-length c = search needs
 returns : tie.Need-returns
 returns c =
     let s = c .before .before .before .before .before .before in
-    rw (sign-below (s .args .c) (rw (toZ-ofZ (s .fits .c)) at (c .before .before .before .before .if1 .taken))) (c .before .before .put .ensures)
+    rw (sign-below (s .args .c) (rw (toZ-ofZ (s .fits .c)) at (c .before .before .before .before .if1 .taken)))
+    (c .before .before .put .ensures)
 
 returns-2 : tie.Need-returns-2
 returns-2 c =
     let s = c .before .before in
-    rw (sign-above (s .args .c) (rw (toZ-ofZ (s .fits .c)) at (c .if1 .left))) (nothing-put (s .args .at) (s .args .out .now))
+    rw (sign-above (s .args .c) (rw (toZ-ofZ (s .fits .c)) at (c .if1 .left)))
+    (nothing-put (s .args .at) (s .args .out .now))
 
 pub put-sign-spec : {M : Type 1} → statement M
 put-sign-spec = tie.close (tie.spec put-requires same-length returns returns-2)

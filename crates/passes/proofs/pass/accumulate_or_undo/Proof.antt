@@ -19,7 +19,8 @@ returns c =
     accumulate-done t (omega (arith, t .split .len, c .if1 .taken))
 
 -- the pass stopped below the end
-short : (c : tie.Else1) → c .before .before .accumulate-up .result < length (c .before .before .before .before .args .a .now)
+short : (c : tie.Else1) → c .before .before .accumulate-up .result
+    < length (c .before .before .before .before .args .a .now)
 short c =
     let t = c .before .before .accumulate-up .ensures .0 in
     omega (arith, t .to, t .split .len, c .if1 .left)
@@ -38,7 +39,9 @@ same-length-2 c = search needs
 returns-2 : tie.Need-returns-2
 returns-2 c =
     let e = c .before .before .before .before .before .accumulate-up .ensures in
-    accumulate-undone (e .0) (c .before .before .before .before .before .before .before .pre .0) (short (c .before .before .before)) (e .1 (short (c .before .before .before))) (c .before .subtract-below .ensures)
+    accumulate-undone (e .0) (c .before .before .before .before .before .before .before .pre .0)
+    (short (c .before .before .before)) (e .1 (short (c .before .before .before)))
+    (c .before .subtract-below .ensures)
 
 pub accumulate-or-undo-spec : {M : Type 1} → statement M
 accumulate-or-undo-spec =

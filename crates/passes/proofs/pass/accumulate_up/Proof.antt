@@ -1,4 +1,5 @@
--- `passes::pass::accumulate_up` meets its contract. The loop's invariant is its contract's first clause: after t turns the pass has come up to d + t.
+-- `passes::pass::accumulate_up` meets its contract. The loop's invariant is its contract's first clause: after t turns
+-- the pass has come up to d + t.
 use mathlib.Core.Path.{_≡_, sym, _∙_, ap, subst}
 use mathlib.Core.Bool.{true}
 use Prim.Native.Nat.{_+_, _-_, _≤_}
@@ -49,7 +50,10 @@ returns c =
     )
 
 -- the test passed: the value is in range
-passed : (c : tie.Else1 Inv-loop μ-loop) → inRange largest (turnAt accumulate (c .before .before .before .before .before .before .args .d) (c .before .before .before .before .before .loop .a) (c .before .before .before .from-bottom .result)) ≡ true
+passed : (c : tie.Else1 Inv-loop μ-loop)
+    → inRange largest
+    (turnAt accumulate (c .before .before .before .before .before .before .args .d)
+    (c .before .before .before .before .before .loop .a) (c .before .before .before .from-bottom .result)) ≡ true
 passed c = sym (c .before .fits-at .ensures .0) ∙ not-false _ (c .if1 .left)
 
 turn-requires : tie.Need-turn-requires Inv-loop μ-loop
@@ -68,7 +72,8 @@ loop-again c =
     let k = g .before .before .before .from-bottom .result in (
       omega arith,
       rw (c .before .turn .ensures)
-          (up-turn k (t .before .pre .0) (omega arith) (omega arith) (t .loop .inv .1) _ (omega arith) (omega arith) (passed g) (g .before .fits-at .ensures .1)),
+          (up-turn k (t .before .pre .0) (omega arith) (omega arith) (t .loop .inv .1) _ (omega arith) (omega arith)
+          (passed g) (g .before .fits-at .ensures .1)),
     )
 
 same-length-2 : tie.Need-same-length-2 Inv-loop μ-loop

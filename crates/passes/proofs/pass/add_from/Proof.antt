@@ -30,11 +30,15 @@ loop-holds c = (
 )
 
 -- what a turn computes
-value : (c : tie.In-loop Inv-loop μ-loop) → turnAt accumulate (c .before .before .args .d) (c .before .loop .a) (c .before .loop .i) ≡ summed (c .before .before .args .d) (c .before .before .args .from) (entries (c .before .before .args .a .now)) (c .before .loop .i)
+value : (c : tie.In-loop Inv-loop μ-loop)
+    → turnAt accumulate (c .before .before .args .d) (c .before .loop .a) (c .before .loop .i)
+    ≡ summed (c .before .before .args .d) (c .before .before .args .from) (entries (c .before .before .args .a .now))
+    (c .before .loop .i)
 value c =
     let p = c .before .before in
     let i = c .before .loop .i in
-    plus-turn (c .before .loop .inv .2) (p .args .d) i (p .pre .0 .0) (omega arith) (omega arith) (omega arith) (omega arith)
+    plus-turn (c .before .loop .inv .2) (p .args .d) i (p .pre .0 .0) (omega arith) (omega arith) (omega arith)
+    (omega arith)
     (summed-from (p .args .d) (p .args .from) (entries (p .args .a .now)) (p .pre .0 .0) (p .pre .0 .1) i (omega arith))
 
 turn-requires : tie.Need-turn-requires Inv-loop μ-loop
@@ -56,7 +60,8 @@ loop-again c =
       omega arith,
       omega arith,
       rw (c .before .turn .ensures)
-          (moved-up (t .before .loop .inv .2) (t .before .loop .i) (t .before .loop .i + 1) (omega arith) refl refl _ (value t)),
+          (moved-up (t .before .loop .inv .2) (t .before .loop .i) (t .before .loop .i + 1) (omega arith) refl refl _
+          (value t)),
     )
 
 same-length : tie.Need-same-length Inv-loop μ-loop

@@ -1,4 +1,5 @@
--- `passes::pass::comb_down` meets its contract. The loop's invariant is its contract's first clause: after t turns the pass has come down to n - t.
+-- `passes::pass::comb_down` meets its contract. The loop's invariant is its contract's first clause: after t turns the
+-- pass has come down to n - t.
 use mathlib.Core.Path.{_≡_, sym, _∙_, ap, subst}
 use mathlib.Core.Bool.{true}
 use Prim.Native.Nat.{_+_, _-_, _≤_}
@@ -48,13 +49,17 @@ returns c =
       subst (CombedTo d l (q .loop .a)) here (q .loop .inv .1),
       λ above.
           ap (λ x. inRange largest (combed d (entries l) x)) same
-          ∙ ap (inRange largest) (sym (down-value k (q .before .pre .0) (omega arith) (omega arith) (q .loop .inv .1) here))
+          ∙ ap (inRange largest)
+          (sym (down-value k (q .before .pre .0) (omega arith) (omega arith) (q .loop .inv .1) here))
           ∙ sym (c .before .fits-at .ensures .0)
           ∙ not-true _ (c .if1 .taken),
     )
 
 -- the test passed: the value is in range
-passed : (c : tie.Else1 Inv-loop μ-loop) → inRange largest (turnAt comb (c .before .before .before .before .before .before .args .d) (c .before .before .before .before .before .loop .a) (c .before .before .before .from-top .result)) ≡ true
+passed : (c : tie.Else1 Inv-loop μ-loop)
+    → inRange largest
+    (turnAt comb (c .before .before .before .before .before .before .args .d)
+    (c .before .before .before .before .before .loop .a) (c .before .before .before .from-top .result)) ≡ true
 passed c = sym (c .before .fits-at .ensures .0) ∙ not-false _ (c .if1 .left)
 
 turn-requires : tie.Need-turn-requires Inv-loop μ-loop
@@ -73,7 +78,8 @@ loop-again c =
     let k = g .before .before .before .from-top .result in (
       omega arith,
       rw (c .before .turn .ensures)
-          (down-turn k (t .before .pre .0) (omega arith) (omega arith) (t .loop .inv .1) _ (omega arith) (omega arith) (passed g) (g .before .fits-at .ensures .1)),
+          (down-turn k (t .before .pre .0) (omega arith) (omega arith) (t .loop .inv .1) _ (omega arith) (omega arith)
+          (passed g) (g .before .fits-at .ensures .1)),
     )
 
 same-length-2 : tie.Need-same-length-2 Inv-loop μ-loop
@@ -82,8 +88,10 @@ same-length-2 c = c .before .loop .inv .1 .split .len
 returns-2 : tie.Need-returns-2 Inv-loop μ-loop
 returns-2 c =
     let p = c .before .before .args in
-    let end : length (p .a .now) - c .before .loop .t ≡ p .d = omega arith in
-    (subst (CombedTo (p .d) (p .a .now) (c .before .loop .a)) end (c .before .loop .inv .1), λ above. absurd (lt-irrefl (p .d) above))
+    let end : length (p .a .now) - c .before .loop .t ≡ p .d = omega arith in (
+      subst (CombedTo (p .d) (p .a .now) (c .before .loop .a)) end (c .before .loop .inv .1),
+      λ above. absurd (lt-irrefl (p .d) above),
+    )
 
 pub comb-down-spec : {M : Type 1} → statement M
 comb-down-spec =

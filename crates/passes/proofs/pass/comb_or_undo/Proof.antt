@@ -26,7 +26,8 @@ add-from-requires c κs =
     let one = c .before .before .before .before .before .pre .0 in (
       (one, t .from, omega (arith, t .to, t .split .len)),
       λ k h b.
-          let b′ : k < length (c .before .before .before .before .before .args .a .now) = omega (arith, t .split .len) in
+          let b′ : k < length (c .before .before .before .before .before .args .a .now) =
+          omega (arith, t .split .len) in
           rw (comb-back t one (suc k) k (omega arith) b′) (t .fit k h b′),
     )
 
@@ -36,7 +37,8 @@ same-length-2 c = search needs
 returns-2 : tie.Need-returns-2
 returns-2 c =
     let e = c .before .before .before .before .before .comb-down .ensures in
-    comb-undone (e .0) (c .before .before .before .before .before .before .before .pre .0) (above (c .before .before .before)) (e .1 (above (c .before .before .before))) (c .before .add-from .ensures)
+    comb-undone (e .0) (c .before .before .before .before .before .before .before .pre .0)
+    (above (c .before .before .before)) (e .1 (above (c .before .before .before))) (c .before .add-from .ensures)
 
 pub comb-or-undo-spec : {M : Type 1} → statement M
 comb-or-undo-spec =

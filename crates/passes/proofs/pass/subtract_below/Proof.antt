@@ -23,14 +23,22 @@ unfolding entries
 loop-holds c = (
   c .pre .0 .1,
   omega arith,
-  record { len = refl; below = λ k b m. refl; above = λ k b m. sym (past-end (c .args .d) (c .args .end) (entries (c .args .a .now)) k b) },
+  record {
+    len = refl;
+    below = λ k b m. refl;
+    above =
+        λ k b m. sym (past-end (c .args .d) (c .args .end) (entries (c .args .a .now)) k b);
+  },
 )
 
 sub-i : tie.Need-sub-i Inv-loop μ-loop
 sub-i c = omega arith
 
 -- what a turn computes
-value : (c : tie.In-loop Inv-loop μ-loop) → turnAt comb (c .before .before .args .d) (c .before .loop .a) (c .before .loop .i - 1) ≡ combedBelow (c .before .before .args .d) (c .before .before .args .end) (entries (c .before .before .args .a .now)) (c .before .loop .i - 1)
+value : (c : tie.In-loop Inv-loop μ-loop)
+    → turnAt comb (c .before .before .args .d) (c .before .loop .a) (c .before .loop .i - 1)
+    ≡ combedBelow (c .before .before .args .d) (c .before .before .args .end)
+    (entries (c .before .before .args .a .now)) (c .before .loop .i - 1)
 value c =
     let p = c .before .before in
     let k = c .before .loop .i - 1 in

@@ -1,4 +1,5 @@
--- `passes::range::sum_fits` meets its contract: a + b is the difference of a and -b, so the tests are those of `difference_fits`.
+-- `passes::range::sum_fits` meets its contract: a + b is the difference of a and -b, so the tests are those of
+-- `difference_fits`.
 use mathlib.Core.Path.{sym, _∙_, ap}
 use native.Mathlib.Omega.{arith}
 use borrow.Author.Needs.{needs}
@@ -19,7 +20,8 @@ small-requires-2 c κs = search needs
 returns : tie.Need-returns
 returns c =
     let s = c .before .before .before .before in
-    let ha = within 4611686018427387903 (s .args .a) (s .fits .a) (c .before .before .before .small .ensures) (c .before .before .if1 .taken) in
+    let ha = within 4611686018427387903 (s .args .a) (s .fits .a) (c .before .before .before .small .ensures)
+    (c .before .before .if1 .taken) in
     let hb = within 4611686018427387903 (s .args .b) (s .fits .b) (c .before .small2 .ensures) (c .if2 .taken) in
     sym (in-range largest _ (omega (arith, abs-⊕ (s .args .a) (s .args .b))))
 
@@ -33,7 +35,9 @@ returns-2 : tie.Need-returns-2
 returns-2 c =
     let x = c .before .before .before .args in
     let f = c .before .before .before .fits .b in
-    rw (toZ-ofZ f) (upper-is (negℤ (x .b)) (machine-neg (x .b) f) (x .a) (c .before .before .before .fits .a) (neg-test (x .b) ∙ (rw (toZ-ofZ f) at (c .if3 .taken))) ∙ ap (inRange largest) (sum-as (x .a) (x .b)))
+    rw (toZ-ofZ f)
+    (upper-is (negℤ (x .b)) (machine-neg (x .b) f) (x .a) (c .before .before .before .fits .a)
+    (neg-test (x .b) ∙ (rw (toZ-ofZ f) at (c .if3 .taken))) ∙ ap (inRange largest) (sum-as (x .a) (x .b)))
 
 sub-result-2 : tie.Need-sub-result-2
 sub-result-2 c =
@@ -45,7 +49,9 @@ returns-3 : tie.Need-returns-3
 returns-3 c =
     let x = c .before .before .before .args in
     let f = c .before .before .before .fits .b in
-    rw (toZ-ofZ f) (lower-is (negℤ (x .b)) (machine-neg (x .b) f) (x .a) (c .before .before .before .fits .a) (neg-test (x .b) ∙ (rw (toZ-ofZ f) at (c .if3 .left))) ∙ ap (inRange largest) (sum-as (x .a) (x .b)))
+    rw (toZ-ofZ f)
+    (lower-is (negℤ (x .b)) (machine-neg (x .b) f) (x .a) (c .before .before .before .fits .a)
+    (neg-test (x .b) ∙ (rw (toZ-ofZ f) at (c .if3 .left))) ∙ ap (inRange largest) (sum-as (x .a) (x .b)))
 
 pub sum-fits-spec : {M : Type 1} → statement M
 sum-fits-spec = tie.close (tie.spec small-requires small-requires-2 returns sub-result returns-2 sub-result-2 returns-3)

@@ -20,10 +20,15 @@ sum-fits-requires : tie.Need-sum-fits-requires
 sum-fits-requires c κs = search needs
 
 returns : tie.Need-returns
-returns c = rw (c .before .enum-told .given .1) (c .difference-fits .ensures ∙ ap (inRange largest) (seen-both (c .before .before .before .fits .x) (c .before .before .before .fits .y) _⊝_))
+returns c = rw (c .before .enum-told .given .1)
+    (c .difference-fits .ensures
+    ∙ ap (inRange largest) (seen-both (c .before .before .before .fits .x) (c .before .before .before .fits .y) _⊝_))
 
 returns-2 : tie.Need-returns-2
-returns-2 c = rw (c .before .enum-told2 .given .1) (c .sum-fits .ensures ∙ ap (inRange largest) (seen-both (c .before .before .before .fits .x) (c .before .before .before .fits .y) _⊕_))
+returns-2 c =
+    rw (c .before .enum-told2 .given .1)
+    (c .sum-fits .ensures
+    ∙ ap (inRange largest) (seen-both (c .before .before .before .fits .x) (c .before .before .before .fits .y) _⊕_))
 
 pub turn-fits-spec : {M : Type 1} → statement M
 turn-fits-spec =

@@ -11,7 +11,8 @@ enum-told c = search needs
 sub-result : tie.Need-sub-result
 unfolding _⊕_ ⊖
 sub-result c =
-    rw (seen-both (c .before .before .fits .x) (c .before .before .fits .y) _⊝_) (rw (c .enum-told .given .1) at (c .before .before .pre))
+    rw (seen-both (c .before .before .fits .x) (c .before .before .fits .y) _⊝_)
+    (rw (c .enum-told .given .1) at (c .before .before .pre))
 
 enum-told-2 : tie.Need-enum-told-2
 enum-told-2 c = search needs
@@ -19,19 +20,22 @@ enum-told-2 c = search needs
 add-result : tie.Need-add-result
 unfolding _⊕_ ⊖
 add-result c =
-    rw (seen-both (c .before .before .fits .x) (c .before .before .fits .y) _⊕_) (rw (c .enum-told2 .given .1) at (c .before .before .pre))
+    rw (seen-both (c .before .before .fits .x) (c .before .before .fits .y) _⊕_)
+    (rw (c .enum-told2 .given .1) at (c .before .before .pre))
 
 returns : tie.Need-returns
 unfolding _⊕_ ⊖
 returns c =
     rw (c .enum-told .given .1)
-    (answered (c .before .before .fits .x) (c .before .before .fits .y) _⊝_ (rw (c .enum-told .given .1) at (c .before .before .pre)))
+    (answered (c .before .before .fits .x) (c .before .before .fits .y) _⊝_
+    (rw (c .enum-told .given .1) at (c .before .before .pre)))
 
 returns-2 : tie.Need-returns-2
 unfolding _⊕_ ⊖
 returns-2 c =
     rw (c .enum-told2 .given .1)
-    (answered (c .before .before .fits .x) (c .before .before .fits .y) _⊕_ (rw (c .enum-told2 .given .1) at (c .before .before .pre)))
+    (answered (c .before .before .fits .x) (c .before .before .fits .y) _⊕_
+    (rw (c .enum-told2 .given .1) at (c .before .before .pre)))
 
 pub turn-value-spec : {M : Type 1} → statement M
 turn-value-spec =

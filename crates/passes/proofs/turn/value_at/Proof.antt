@@ -1,4 +1,5 @@
--- `passes::turn::value_at` meets its contract: both entries fit, so they are as they were read, and so does what is answered.
+-- `passes::turn::value_at` meets its contract: both entries fit, so they are as they were read, and so does what is
+-- answered.
 use mathlib.Core.Path.{_∙_}
 use Prim.Native.Nat.{_-_}
 use lib.ListN.{getD}

@@ -28,11 +28,14 @@ sub-loop : tie.Need-sub-loop Inv-loop μ-loop
 sub-loop c = omega (arith, c .loop .inv .2 .len)
 
 -- what four turns compute
-values : (c : tie.In-loop Inv-loop μ-loop) (k : ℕ) → c .before .loop .i ≤ k → k < c .before .loop .i + 4 → turnAt accumulate (c .before .before .before .args .d) (c .before .loop .a) k ≡ accumulated (c .before .before .before .args .d) (entries (c .before .before .before .args .a .now)) k
+values : (c : tie.In-loop Inv-loop μ-loop) (k : ℕ) → c .before .loop .i ≤ k → k < c .before .loop .i + 4
+    → turnAt accumulate (c .before .before .before .args .d) (c .before .loop .a) k
+    ≡ accumulated (c .before .before .before .args .d) (entries (c .before .before .before .args .a .now)) k
 values c k low high =
     let p = c .before .before .before in
     let len = c .before .loop .inv .2 .len in
-    plus-turn (c .before .loop .inv .2) (p .args .d) k (omega arith) (omega arith) (omega (arith, len)) (omega arith) (omega arith)
+    plus-turn (c .before .loop .inv .2) (p .args .d) k (omega arith) (omega arith) (omega (arith, len)) (omega arith)
+    (omega arith)
     (accumulated-from (p .args .d) (entries (p .args .a .now)) k (omega arith) (omega arith))
 
 four-requires : tie.Need-four-requires Inv-loop μ-loop
@@ -41,7 +44,8 @@ four-requires c κs =
       c .before .before .loop .inv .0,
       omega (arith, len),
       λ k low high.
-          rw (values (c .before) k low high) (c .before .before .before .before .pre .2 k (omega arith) (omega (arith, len))),
+          rw (values (c .before) k low high)
+          (c .before .before .before .before .pre .2 k (omega arith) (omega (arith, len))),
     )
 
 add-i : tie.Need-add-i Inv-loop μ-loop
@@ -57,7 +61,8 @@ loop-again c =
       omega arith,
       omega (arith, len),
       rw (c .before .four .ensures)
-          (fours-up (t .before .loop .inv .2) (t .before .loop .i) (omega (arith, len)) (turnAt accumulate (t .before .before .before .args .d) (t .before .loop .a)) refl (values t)),
+          (fours-up (t .before .loop .inv .2) (t .before .loop .i) (omega (arith, len))
+          (turnAt accumulate (t .before .before .before .args .d) (t .before .loop .a)) refl (values t)),
     )
 
 same-length : tie.Need-same-length Inv-loop μ-loop
@@ -69,4 +74,5 @@ returns-2 c = ((c .before .loop .inv .0, c .before .loop .inv .1), c .before .lo
 pub accumulate-fours-spec : {M : Type 1} → statement M
 accumulate-fours-spec =
     tie.close
-    (tie.spec Inv-loop μ-loop returns loop-holds sub-loop four-requires add-i loop-less loop-again same-length returns-2)
+    (tie.spec Inv-loop μ-loop returns loop-holds sub-loop four-requires add-i loop-less loop-again same-length
+    returns-2)

@@ -1,4 +1,5 @@
--- `passes::under::accumulate_under` meets its contract: as a running sum, or by fours and then what they leave (`Rest`).
+-- `passes::under::accumulate_under` meets its contract: as a running sum, or by fours and then what they leave
+-- (`Rest`).
 use mathlib.Core.Path.{refl, sym, ap, subst}
 use Prim.Native.Nat.{_<_}
 use native.Mathlib.Omega.{arith}
@@ -20,7 +21,8 @@ running-requires c κs =
     let q = c .before .before .before in
     let l = q .args .a .now in (
       omega arith,
-      subst (λ x. Fit x (length l) (accumulated x (entries l))) (c .before .if2 .taken) (over-fit accumulate (q .args .d) l (q .pre .1)),
+      subst (λ x. Fit x (length l) (accumulated x (entries l))) (c .before .if2 .taken)
+          (over-fit accumulate (q .args .d) l (q .pre .1)),
     )
 
 same-length : tie.Need-same-length

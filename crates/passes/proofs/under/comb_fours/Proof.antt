@@ -28,7 +28,9 @@ sub-i : tie.Need-sub-i Inv-loop μ-loop
 sub-i c = omega arith
 
 -- what four turns compute
-values : (c : tie.In-loop Inv-loop μ-loop) (k : ℕ) → c .before .loop .i - 4 ≤ k → k < c .before .loop .i - 4 + 4 → turnAt comb (c .before .before .args .d) (c .before .loop .a) k ≡ combed (c .before .before .args .d) (entries (c .before .before .args .a .now)) k
+values : (c : tie.In-loop Inv-loop μ-loop) (k : ℕ) → c .before .loop .i - 4 ≤ k → k < c .before .loop .i - 4 + 4
+    → turnAt comb (c .before .before .args .d) (c .before .loop .a) k
+    ≡ combed (c .before .before .args .d) (entries (c .before .before .args .a .now)) k
 values c k low high =
     let p = c .before .before in
     minus-turn (c .before .loop .inv .2) (p .args .d) k (p .pre .0) (omega arith) (omega arith) (omega arith)
@@ -50,7 +52,8 @@ loop-again c =
       omega arith,
       omega arith,
       rw (c .before .four .ensures)
-          (fours-down (t .before .loop .inv .2) (t .before .loop .i - 4) (omega arith) (turnAt comb (t .before .before .args .d) (t .before .loop .a)) (omega arith) (values t)),
+          (fours-down (t .before .loop .inv .2) (t .before .loop .i - 4) (omega arith)
+          (turnAt comb (t .before .before .args .d) (t .before .loop .a)) (omega arith) (values t)),
     )
 
 same-length : tie.Need-same-length Inv-loop μ-loop

@@ -22,13 +22,28 @@ value-at-requires : tie.Need-value-at-requires
 value-at-requires c κs = (omega arith, omega arith, c .before .pre .2 (c .before .args .k) (omega arith) (omega arith))
 
 value-at-requires-2 : tie.Need-value-at-requires-2
-value-at-requires-2 c κs = (omega arith, omega arith, c .before .before .before .pre .2 (c .before .before .before .args .k + 1) (omega arith) (omega arith))
+value-at-requires-2 c κs = (
+  omega arith,
+  omega arith,
+  c .before .before .before .pre .2 (c .before .before .before .args .k + 1) (omega arith)
+      (omega arith),
+)
 
 value-at-requires-3 : tie.Need-value-at-requires-3
-value-at-requires-3 c κs = (omega arith, omega arith, c .before .before .before .before .before .pre .2 (c .before .before .before .before .before .args .k + 2) (omega arith) (omega arith))
+value-at-requires-3 c κs = (
+  omega arith,
+  omega arith,
+  c .before .before .before .before .before .pre .2 (c .before .before .before .before .before .args .k + 2)
+      (omega arith) (omega arith),
+)
 
 value-at-requires-4 : tie.Need-value-at-requires-4
-value-at-requires-4 c κs = (omega arith, omega arith, c .before .before .before .before .before .before .before .pre .2 (c .before .before .before .before .before .before .before .args .k + 3) (omega arith) (omega arith))
+value-at-requires-4 c κs = (
+  omega arith,
+  omega arith,
+  c .before .before .before .before .before .before .before .pre .2
+      (c .before .before .before .before .before .before .before .args .k + 3) (omega arith) (omega arith),
+)
 
 put-requires : tie.Need-put-requires
 put-requires c κs = search needs

@@ -41,16 +41,21 @@ entry-requires-2 : tie.Need-entry-requires-2 Inv-loop μ-loop
 entry-requires-2 c κs = omega arith
 
 -- the sum is the new entry, which fits
-sum : (c : tie.After-entry2 Inv-loop μ-loop) → seen (c .entry2 .result) ⊕ toZ w64 (c .before .before .before .loop .s) ≡ accumulated 1 (entries (c .before .before .before .before .before .before .args .a .now)) (c .before .before .before .loop .i)
+sum : (c : tie.After-entry2 Inv-loop μ-loop) → seen (c .entry2 .result) ⊕ toZ w64 (c .before .before .before .loop .s)
+    ≡ accumulated 1 (entries (c .before .before .before .before .before .before .args .a .now))
+    (c .before .before .before .loop .i)
 unfolding entries
 sum c =
     let g = c .before .before .before in
     ap₂ _⊕_
-    (handed (c .entry2 .ensures .1) (c .entry2 .ensures .0) ∙ g .loop .inv .3 .above (g .loop .i) (omega arith) (omega arith))
+    (handed (c .entry2 .ensures .1) (c .entry2 .ensures .0)
+    ∙ g .loop .inv .3 .above (g .loop .i) (omega arith) (omega arith))
     (g .loop .inv .2)
-    ∙ sym (accumulated-from 1 (entries (g .before .before .before .args .a .now)) (g .loop .i) (omega arith) (g .loop .inv .0))
+    ∙ sym (accumulated-from 1 (entries (g .before .before .before .args .a .now)) (g .loop .i) (omega arith)
+    (g .loop .inv .0))
 
-fit : (c : tie.In-loop Inv-loop μ-loop) → SFits w64 (accumulated 1 (entries (c .before .before .before .before .args .a .now)) (c .before .loop .i))
+fit : (c : tie.In-loop Inv-loop μ-loop)
+    → SFits w64 (accumulated 1 (entries (c .before .before .before .before .args .a .now)) (c .before .loop .i))
 fit c = c .before .before .before .before .pre .1 (c .before .loop .i) (c .before .loop .inv .0) (omega arith)
 
 turn-value-requires : tie.Need-turn-value-requires Inv-loop μ-loop

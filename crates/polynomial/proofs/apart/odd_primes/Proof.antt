@@ -1,5 +1,5 @@
--- `odd_primes` meets its contract. The invariant: the odd primes of n below p are found, and those above are the primes of what is left.
--- Where p p is more than that, it is 1 or the last prime (`Last`).
+-- `odd_primes` meets its contract. The invariant: the odd primes of n below p are found, and those above are the primes
+-- of what is left. Where p p is more than that, it is 1 or the last prime (`Last`).
 use Prim.Native.Nat.{ℕ, suc, _+_, _%_, _-_, _≤_, _<_}
 use mathlib.Core.Path.{_≡_, refl, _∙_}
 use native.Mathlib.Nat.{le-of-dvd, le-trans, le-mul-of-pos-right, mul-le-mul}
@@ -30,11 +30,17 @@ mul-if1 c = omega (arith, mul-le-mul (c .loop .inv .1) (c .loop .inv .1))
 small : (c : tie.Then1 Inv-loop μ-loop) → c .before .before .loop .p ≤ 65535
 small c =
     le-trans (le-mul-of-pos-right (c .before .before .loop .p) (omega (arith, c .before .before .loop .inv .0)))
-    (le-trans (c .if1 .taken) (le-trans (le-of-dvd (c .before .before .before .before .pre .0) (c .before .before .loop .inv .2 .part)) (c .before .before .before .before .pre .1)))
+    (le-trans (c .if1 .taken)
+    (le-trans (le-of-dvd (c .before .before .before .before .pre .0) (c .before .before .loop .inv .2 .part))
+    (c .before .before .before .before .pre .1)))
 
 sift-requires : tie.Need-sift-requires Inv-loop μ-loop
-sift-requires c κs =
-    (c .before .before .before .before .pre .0, c .before .before .before .before .pre .1, c .before .before .loop .inv .0, c .before .before .loop .inv .2)
+sift-requires c κs = (
+  c .before .before .before .before .pre .0,
+  c .before .before .before .before .pre .1,
+  c .before .before .loop .inv .0,
+  c .before .before .loop .inv .2,
+)
 
 add-p : tie.Need-add-p Inv-loop μ-loop
 add-p c = omega (arith, small (c .before))
@@ -49,15 +55,20 @@ loop-again c =
       omega (arith, c .before .before .before .loop .inv .0),
       omega (arith, small (c .before)),
       rw next at
-          (passed-even _ (c .before .before .before .before .before .pre .0) (c .before .before .before .before .before .pre .1) p _ (c .before .before .before .loop .inv .0) (c .before .before .before .loop .inv .3) (c .sift .ensures)),
+          (passed-even _ (c .before .before .before .before .before .pre .0)
+          (c .before .before .before .before .before .pre .1) p _ (c .before .before .before .loop .inv .0)
+          (c .before .before .before .loop .inv .3) (c .sift .ensures)),
       omega (arith, c .before .before .before .loop .inv .3),
     )
 
 -- after the loop
-last : (c : tie.After-odd Inv-loop μ-loop) → Last (c .before .before .before .before .before .args .n) (c .before .before .before .loop .s)
+last : (c : tie.After-odd Inv-loop μ-loop)
+    → Last (c .before .before .before .before .before .args .n) (c .before .before .before .loop .s)
 last c =
-    last-of _ (c .before .before .before .before .before .pre .0) (c .before .before .before .before .before .pre .1) _ _
-    (omega (arith, c .before .before .before .loop .inv .0)) (c .before .before .before .loop .inv .2) (c .before .if1 .left)
+    last-of _ (c .before .before .before .before .before .pre .0) (c .before .before .before .before .before .pre .1) _
+    _
+    (omega (arith, c .before .before .before .loop .inv .0)) (c .before .before .before .loop .inv .2)
+    (c .before .if1 .left)
 
 with-requires : tie.Need-with-requires Inv-loop μ-loop
 with-requires c κs = last (c .before) .room (c .if2 .taken)

@@ -31,7 +31,10 @@ returns-2 c =
 returns-3 : tie.Need-returns-3
 returns-3 c =
     let n = c .before .before .before .args .n in
-    rw (above-one _ n (c .before .before .if1 .taken) (omega arith), ne-eqb (phi n) (n - 1) (λ e. c .if3 .left (omega arith)))
+    rw (
+      above-one _ n (c .before .before .if1 .taken) (omega arith),
+      ne-eqb (phi n) (n - 1) (λ e. c .if3 .left (omega arith)),
+    )
 
 returns-4 : tie.Need-returns-4
 unfolding gain

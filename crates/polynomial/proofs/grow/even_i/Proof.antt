@@ -19,13 +19,16 @@ slice-aggregate-turned c = let p = c .before in sym (length-take-le (p .args .to
 
 turned-requires : tie.Need-turned-requires
 turned-requires c κs =
-    let p = c .before in
-    (lower-front 2 (p .args .r) (p .args .top) (p .args .a .now) (omega arith) (p .pre .0), length-take-le (p .args .top) (p .args .a .now) (omega arith) ∙ p .pre .1)
+    let p = c .before in (
+      lower-front 2 (p .args .r) (p .args .top) (p .args .a .now) (omega arith) (p .pre .0),
+      length-take-le (p .args .top) (p .args .a .now) (omega arith) ∙ p .pre .1,
+    )
 
 second-requires : tie.Need-second-requires
 second-requires c κs =
     let p = c .before .before .before .before in
-    copy-front (p .args .r) (p .args .top) (p .args .a .now) _ (p .pre .0) (p .pre .1) (p .pre .2) (c .before .before .turned .ensures)
+    copy-front (p .args .r) (p .args .top) (p .args .a .now) _ (p .pre .0) (p .pre .1) (p .pre .2)
+    (c .before .before .turned .ensures)
 
 same-length : tie.Need-same-length
 same-length c = search needs
@@ -35,7 +38,9 @@ returns c =
     let q = c .before .before .before .before in
     let p = q .before .before in
     c .before .second .ensures
-    ∙ ap (λ k. firsts k (I (2 * p .args .r))) (copy-front (p .args .r) (p .args .top) (p .args .a .now) _ (p .pre .0) (p .pre .1) (p .pre .2) (q .turned .ensures) .len ∙ sym (p .pre .2))
+    ∙ ap (λ k. firsts k (I (2 * p .args .r)))
+    (copy-front (p .args .r) (p .args .top) (p .args .a .now) _ (p .pre .0) (p .pre .1) (p .pre .2)
+    (q .turned .ensures) .len ∙ sym (p .pre .2))
 
 pub even-i-spec : {M : Type 1} → statement M
 even-i-spec =

@@ -11,8 +11,11 @@ use Rattle.polynomial.proofs.grow.grow.Tie as tie
 
 odd-requires : tie.Need-odd-requires
 odd-requires c κs =
-    let p = c .before .before in
-    (p .pre .0, odd-length (p .args .kind) (p .args .r) (p .args .even) (p .args .a .now) (p .pre .4) (not-true (p .args .even) (c .before .if1 .taken)))
+    let p = c .before .before in (
+      p .pre .0,
+      odd-length (p .args .kind) (p .args .r) (p .args .even) (p .args .a .now) (p .pre .4)
+          (not-true (p .args .even) (c .before .if1 .taken)),
+    )
 
 same-length : tie.Need-same-length
 same-length c = search needs
@@ -20,12 +23,17 @@ same-length c = search needs
 returns : tie.Need-returns
 returns c =
     let p = c .before .before .before .before in
-    odd-grown (p .args .kind) (p .args .r) (p .args .even) (p .args .a .now) (p .pre .4) (not-true (p .args .even) (c .before .before .before .if1 .taken)) _ (c .before .odd .ensures)
+    odd-grown (p .args .kind) (p .args .r) (p .args .even) (p .args .a .now) (p .pre .4)
+    (not-true (p .args .even) (c .before .before .before .if1 .taken)) _ (c .before .odd .ensures)
 
 turned-requires : tie.Need-turned-requires
 turned-requires c κs =
-    let p = c .before .before .before in
-    (p .pre .0, F-length (p .args .kind) (p .args .r) (p .args .even) (p .args .a .now) (p .pre .4) (not-false (p .args .even) (c .before .before .if1 .left)) (p .pre .0 .squarefree) (p .pre .0 .above) (c .before .if2 .taken))
+    let p = c .before .before .before in (
+      p .pre .0,
+      F-length (p .args .kind) (p .args .r) (p .args .even) (p .args .a .now) (p .pre .4)
+          (not-false (p .args .even) (c .before .before .if1 .left)) (p .pre .0 .squarefree) (p .pre .0 .above)
+          (c .before .if2 .taken),
+    )
 
 same-length-2 : tie.Need-same-length-2
 same-length-2 c = search needs
@@ -33,7 +41,9 @@ same-length-2 c = search needs
 returns-2 : tie.Need-returns-2
 returns-2 c =
     let p = c .before .before .before .before .before in
-    F-grown (p .args .kind) (p .args .r) (p .args .even) (p .args .a .now) (p .pre .4) (not-false (p .args .even) (c .before .before .before .before .if1 .left)) (p .pre .0 .squarefree) (p .pre .0 .above) (c .before .before .before .if2 .taken) _ (c .before .turned .ensures)
+    F-grown (p .args .kind) (p .args .r) (p .args .even) (p .args .a .now) (p .pre .4)
+    (not-false (p .args .even) (c .before .before .before .before .if1 .left)) (p .pre .0 .squarefree)
+    (p .pre .0 .above) (c .before .before .before .if2 .taken) _ (c .before .turned .ensures)
 
 sub-top : tie.Need-sub-top
 sub-top c = let p = c .before .before in omega (arith, phi-le (p .args .r))
@@ -43,8 +53,14 @@ add-top c = search needs
 
 even-i-requires : tie.Need-even-i-requires
 even-i-requires c κs =
-    let p = c .before .before .before in
-    (rw (kind-two (p .args .kind) (p .pre .1) (c .before .if2 .left)) at (p .pre .0), top-I (p .args .r) (p .args .free) (p .pre .2), I-length (p .args .kind) (p .args .r) (p .args .even) (p .args .a .now) (p .pre .4) (not-false (p .args .even) (c .before .before .if1 .left)) (p .pre .0 .squarefree) (p .pre .0 .above) (c .before .if2 .left) (p .args .free) (p .pre .2))
+    let p = c .before .before .before in (
+      rw (kind-two (p .args .kind) (p .pre .1) (c .before .if2 .left)) at (p .pre .0),
+      top-I (p .args .r) (p .args .free) (p .pre .2),
+      I-length (p .args .kind) (p .args .r) (p .args .even)
+          (p .args .a .now) (p .pre .4) (not-false (p .args .even) (c .before .before .if1 .left))
+          (p .pre .0 .squarefree)
+          (p .pre .0 .above) (c .before .if2 .left) (p .args .free) (p .pre .2),
+    )
 
 same-length-3 : tie.Need-same-length-3
 same-length-3 c = search needs
@@ -52,7 +68,9 @@ same-length-3 c = search needs
 returns-3 : tie.Need-returns-3
 returns-3 c =
     let p = c .before .before .before .before .before in
-    I-grown (p .args .kind) (p .args .r) (p .args .even) (p .args .a .now) (p .pre .4) (not-false (p .args .even) (c .before .before .before .before .if1 .left)) (p .pre .0 .squarefree) (p .pre .0 .above) (c .before .before .before .if2 .left) _ (c .before .even-i .ensures)
+    I-grown (p .args .kind) (p .args .r) (p .args .even) (p .args .a .now) (p .pre .4)
+    (not-false (p .args .even) (c .before .before .before .before .if1 .left)) (p .pre .0 .squarefree)
+    (p .pre .0 .above) (c .before .before .before .if2 .left) _ (c .before .even-i .ensures)
 
 pub grow-spec : {M : Type 1} → statement M
 grow-spec =

@@ -19,7 +19,8 @@ use Rattle.polynomial.proofs.grow.odd.Tie as tie
 mirror-requires : tie.Need-mirror-requires
 mirror-requires c κs =
     let p = c .before in
-    λ i h. let b = half-number (p .args .kind) (p .args .r) in let m = rw (p .pre .1) at h in rw (p .pre .0 .half i (omega arith)) (p .pre .0 .inside i (omega arith))
+    λ i h. let b = half-number (p .args .kind) (p .args .r) in let m = rw (p .pre .1) at h in
+    rw (p .pre .0 .half i (omega arith)) (p .pre .0 .inside i (omega arith))
 
 same-length : tie.Need-same-length
 same-length c = search needs
@@ -27,8 +28,10 @@ same-length c = search needs
 returns : tie.Need-returns
 returns c =
     let p = c .before .before .before in
-    c .before .mirror .ensures ∙ ap (λ k. firsts k (mirroredUp (not (eqb (p .args .kind) 1)) k (entries (p .args .a .now)))) (p .pre .1)
-    ∙ firsts-same (degree (p .args .kind) (p .args .r) + 1) _ (polynomial (p .args .kind) (p .args .r)) (mirror-grows (p .args .kind) (p .args .r) (p .args .a .now) (p .pre .0) _ refl)
+    c .before .mirror .ensures
+    ∙ ap (λ k. firsts k (mirroredUp (not (eqb (p .args .kind) 1)) k (entries (p .args .a .now)))) (p .pre .1)
+    ∙ firsts-same (degree (p .args .kind) (p .args .r) + 1) _ (polynomial (p .args .kind) (p .args .r))
+    (mirror-grows (p .args .kind) (p .args .r) (p .args .a .now) (p .pre .0) _ refl)
 
 pub odd-spec : {M : Type 1} → statement M
 odd-spec = tie.close (tie.spec mirror-requires same-length returns)

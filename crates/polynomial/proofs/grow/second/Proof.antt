@@ -31,9 +31,15 @@ copy-from-requires : tie.Need-copy-from-requires
 copy-from-requires c κs =
     let p = c .before .before .before .before in
     let b = top-below (p .args .r) (p .args .top) (p .args .a .now) (p .pre) in
-    let z = c .before .before .clear .ensures ∙ ap zeros (mid-len (p .args .top) (p .args .r) (p .args .a .now) (omega (arith, p .pre .len))) in
-    let n = cleared-length (p .args .r) (p .args .top) (p .args .a .now) (p .pre) (c .before .before .clear .last .0) z in
-    (cleared-inside (p .args .r) (p .args .top) (p .args .a .now) (p .pre) (c .before .before .clear .last .0) z, p .pre .squarefree .pos, omega (arith, n, p .pre .len), omega (arith, n, p .pre .len))
+    let z = c .before .before .clear .ensures
+    ∙ ap zeros (mid-len (p .args .top) (p .args .r) (p .args .a .now) (omega (arith, p .pre .len))) in
+    let n = cleared-length (p .args .r) (p .args .top) (p .args .a .now) (p .pre)
+    (c .before .before .clear .last .0) z in (
+      cleared-inside (p .args .r) (p .args .top) (p .args .a .now) (p .pre) (c .before .before .clear .last .0) z,
+      p .pre .squarefree .pos,
+      omega (arith, n, p .pre .len),
+      omega (arith, n, p .pre .len),
+    )
 
 same-length : tie.Need-same-length
 same-length c = search needs
@@ -42,8 +48,10 @@ returns : tie.Need-returns
 returns c =
     let q = c .before .before .before .before in
     let p = q .before .before in
-    let z = q .clear .ensures ∙ ap zeros (mid-len (p .args .top) (p .args .r) (p .args .a .now) (omega (arith, p .pre .len))) in
-    second-done (p .args .r) (p .args .top) (p .args .a .now) (p .pre) (q .clear .last .0) z _ (c .before .copy-from .ensures)
+    let z = q .clear .ensures
+    ∙ ap zeros (mid-len (p .args .top) (p .args .r) (p .args .a .now) (omega (arith, p .pre .len))) in
+    second-done (p .args .r) (p .args .top) (p .args .a .now) (p .pre) (q .clear .last .0) z _
+    (c .before .copy-from .ensures)
 
 pub second-spec : {M : Type 1} → statement M
 second-spec =

@@ -21,7 +21,8 @@ mul-a : tie.Need-mul-a
 mul-a c = search needs
 
 slice-set-of-a : tie.Need-slice-set-of-a
-slice-set-of-a c = omega (arith, length-set (c .before .args .a .now) 0 (Rattle.step_laws.specs.Machine.seen (c .first-of .result)))
+slice-set-of-a c =
+    omega (arith, length-set (c .before .args .a .now) 0 (Rattle.step_laws.specs.Machine.seen (c .first-of .result)))
 
 same-length : tie.Need-same-length
 same-length c = search needs
@@ -29,7 +30,9 @@ same-length c = search needs
 returns : tie.Need-returns
 returns c =
     let p = c .before in
-    tiny-whole (p .args .kind) (p .args .even) (p .args .a .now) _ (p .pre .1) (ap Rattle.step_laws.specs.Machine.seen (c .first-of .ensures) ∙ first-seen (p .args .kind) (p .args .even) (p .pre .0))
+    tiny-whole (p .args .kind) (p .args .even) (p .args .a .now) _ (p .pre .1)
+    (ap Rattle.step_laws.specs.Machine.seen (c .first-of .ensures)
+    ∙ first-seen (p .args .kind) (p .args .even) (p .pre .0))
 
 pub tiny-spec : {M : Type 1} → statement M
 tiny-spec =

@@ -16,7 +16,8 @@ alternate-requires c κs =
     let e = c .before .before .odd .ensures in
     λ i h.
     let b = front-length _ _ _ e in
-    rw (front-entry (degree (p .args .kind) (p .args .r) + 1) (polynomial (p .args .kind) (p .args .r)) _ e i (omega arith)) (all-inside (p .args .kind) (p .args .r) (p .args .a .now) (p .pre .0) i (omega arith))
+    rw (front-entry (degree (p .args .kind) (p .args .r) + 1) (polynomial (p .args .kind) (p .args .r)) _ e i
+    (omega arith)) (all-inside (p .args .kind) (p .args .r) (p .args .a .now) (p .pre .0) i (omega arith))
 
 same-length : tie.Need-same-length
 same-length c = search needs
@@ -24,7 +25,8 @@ same-length c = search needs
 returns : tie.Need-returns
 returns c =
     let p = c .before .before .before .before .before .before in
-    alternated (degree (p .args .kind) (p .args .r) + 1) (polynomial (p .args .kind) (p .args .r)) _ _ (c .before .before .before .before .odd .ensures) (c .before .alternate .ensures)
+    alternated (degree (p .args .kind) (p .args .r) + 1) (polynomial (p .args .kind) (p .args .r)) _ _
+    (c .before .before .before .before .odd .ensures) (c .before .alternate .ensures)
 
 pub turned-spec : {M : Type 1} → statement M
 turned-spec = tie.close (tie.spec odd-requires alternate-requires same-length returns)

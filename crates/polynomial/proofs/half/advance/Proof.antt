@@ -1,4 +1,5 @@
--- `advance` meets its contract: a step that is too long changes nothing, and one whose growth stays within the range needs no test (Untested).
+-- `advance` meets its contract: a step that is too long changes nothing, and one whose growth stays within the range
+-- needs no test (Untested).
 use borrow.Author.Needs.{needs}
 use Prim.Native.Nat.{_+_, _*_, _≤_}
 use native.Mathlib.Nat.{le-trans}
@@ -40,7 +41,8 @@ add-untested c = omega (arith, small (c .before))
 untested-requires : tie.Need-untested-requires
 untested-requires c κs =
     let p = start (c .before) in
-    let f = grown (sortMeans (p .args .sort)) (p .args .d) (p .args .bound) (p .pre .0) (p .args .a .now) (p .pre .2) (c .before .before .more .ensures .1 (p .args .bound)) (small (c .before)) in
+    let f = grown (sortMeans (p .args .sort)) (p .args .d) (p .args .bound) (p .pre .0) (p .args .a .now) (p .pre .2)
+    (c .before .before .more .ensures .1 (p .args .bound)) (small (c .before)) in
     ((p .pre .0, f .0), (f .1, small (c .before)))
 
 same-length : tie.Need-same-length

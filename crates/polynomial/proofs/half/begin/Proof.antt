@@ -21,7 +21,8 @@ same-length c = search needs
 returns : tie.Need-returns
 returns c =
     let p = c .before .before .before .before in
-    rw (c .before .before .clear .ensures, c .first-of .ensures, start-seen (p .args .kind)) (started (p .args .kind) (length (p .args .a .now)) (p .pre))
+    rw (c .before .before .clear .ensures, c .first-of .ensures, start-seen (p .args .kind))
+    (started (p .args .kind) (length (p .args .a .now)) (p .pre))
 
 pub begin-spec : {M : Type 1} → statement M
 begin-spec =

@@ -12,8 +12,11 @@ begin-requires c κs = search needs
 
 run-requires : tie.Need-run-requires
 run-requires c κs =
-    let p = c .before .before .before .before in
-    (fresh-stands (p .args .kind) (p .args .walk) _ _ (p .pre .0) (p .pre .1) (c .before .before .begin .ensures), p .pre .0 .here, p .pre .2)
+    let p = c .before .before .before .before in (
+      fresh-stands (p .args .kind) (p .args .walk) _ _ (p .pre .0) (p .pre .1) (c .before .before .begin .ensures),
+      p .pre .0 .here,
+      p .pre .2,
+    )
 
 clear-requires : tie.Need-clear-requires
 clear-requires c κs = search needs
@@ -22,7 +25,8 @@ same-length : tie.Need-same-length
 same-length c = search needs
 
 returns : tie.Need-returns
-returns c = made-zeros _ _ _ _ _ _ (c .before .before .before .before .before .run .ensures) (c .before .before .before .if1 .taken) (c .before .clear .ensures)
+returns c = made-zeros _ _ _ _ _ _ (c .before .before .before .before .before .run .ensures)
+    (c .before .before .before .if1 .taken) (c .before .clear .ensures)
 
 same-length-2 : tie.Need-same-length-2
 same-length-2 c = search needs

@@ -15,7 +15,8 @@ returns : tie.Need-returns
 returns c =
     let p = c .before .before .before .before in
     let f = c .before .before .apply .ensures in
-    advanced (sortMeans (p .args .sort)) (p .args .d) (p .args .a .now) _ (c .before .before .apply .result .code) (p .pre .0) (p .pre .1) (p .pre .2) (f .0) (f .1 .1)
+    advanced (sortMeans (p .args .sort)) (p .args .d) (p .args .a .now) _ (c .before .before .apply .result .code)
+    (p .pre .0) (p .pre .1) (p .pre .2) (f .0) (f .1 .1)
 
 pub tested-spec : {M : Type 1} → statement M
 tested-spec = tie.close (tie.spec apply-requires same-length returns)

@@ -1,4 +1,5 @@
--- `turn` meets its contract: the walk hands out the divisor at its place, and the step on the kept half there is the next kept half (Turning).
+-- `turn` meets its contract: the walk hands out the divisor at its place, and the step on the kept half there is the
+-- next kept half (Turning).
 use mathlib.Core.Path.{_≡_, _∙_, sym, ap}
 use Rattle.passes.specs.Sorts.{sortMeans}
 use Rattle.polynomial.proofs.Turning.{size-good, turned, not-nothing}
@@ -19,7 +20,9 @@ advance-requires : tie.Need-advance-requires
 advance-requires c κs =
     let q = c .before .before .before in
     let p = q .before .before .before .before in
-    let g = size-good (p .args .kind) (p .args .walk) (p .args .bound) (p .args .a .now) (p .pre .0) (p .pre .1) _ (q .before .before .before .next .ensures) (q .next2 .given .0 .0) (q .next2 .given .0 .1 .0) (q .next2 .given .1) in
+    let g = size-good (p .args .kind) (p .args .walk) (p .args .bound) (p .args .a .now) (p .pre .0) (p .pre .1) _
+    (q .before .before .before .next .ensures) (q .next2 .given .0 .0) (q .next2 .given .0 .1 .0)
+    (q .next2 .given .1) in
     (g .0, g .1, p .pre .0 .bounded, p .pre .0 .inside)
 
 count-of-requires : tie.Need-count-of-requires
@@ -35,14 +38,18 @@ returns : tie.Need-returns
 returns c =
     let q = c .before .before .before .before .before .before in
     let p = q .before .before .before .before in
-    turned (p .args .kind) (p .args .walk) (p .args .bound) (p .args .a .now) (p .pre .0) (p .pre .1) (q .before .before .before .next .result) (q .before .before .before .next .ensures) (q .next2 .given .0 .0)
-    (q .next2 .given .0 .1 .0) (q .next2 .given .1) (sortMeans (c .before .before .before .before .sort-for .result)) (c .before .before .before .before .sort-for .ensures) (c .before .before .advance .last .0) (c .before .before .advance .result)
+    turned (p .args .kind) (p .args .walk) (p .args .bound) (p .args .a .now) (p .pre .0) (p .pre .1)
+    (q .before .before .before .next .result) (q .before .before .before .next .ensures) (q .next2 .given .0 .0)
+    (q .next2 .given .0 .1 .0) (q .next2 .given .1) (sortMeans (c .before .before .before .before .sort-for .result))
+    (c .before .before .before .before .sort-for .ensures) (c .before .before .advance .last .0)
+    (c .before .before .advance .result)
     (c .count-of .result) (c .before .before .advance .ensures) (c .count-of .ensures)
 
 returns-2 : tie.Need-returns-2
 returns-2 c =
     let p = c .before .before .before .before in
-    absurd (not-nothing (p .args .kind) (p .args .walk) (p .args .bound) (p .args .a .now) (p .pre .0) (p .pre .1) _ (c .before .before .before .next .ensures) (c .enum-told .given .1))
+    absurd (not-nothing (p .args .kind) (p .args .walk) (p .args .bound) (p .args .a .now) (p .pre .0) (p .pre .1) _
+    (c .before .before .before .next .ensures) (c .enum-told .given .1))
 
 pub turn-spec : {M : Type 1} → statement M
 turn-spec =

@@ -14,7 +14,8 @@ same-length c = search needs
 returns : tie.Need-returns
 returns c =
     let p = c .before .before .before in
-    under (sortMeans (p .args .sort)) (p .args .d) (p .args .a .now) (p .pre .0 .1) (c .before .step-under .ensures) (p .pre .1 .0) (p .pre .1 .1)
+    under (sortMeans (p .args .sort)) (p .args .d) (p .args .a .now) (p .pre .0 .1) (c .before .step-under .ensures)
+    (p .pre .1 .0) (p .pre .1 .1)
 
 pub untested-spec : {M : Type 1} → statement M
 untested-spec = tie.close (tie.spec step-under-requires same-length returns)

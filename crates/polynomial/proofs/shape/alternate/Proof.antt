@@ -1,4 +1,5 @@
--- `alternate` meets its contract. The loop's invariant: i is odd, the entries below it are the alternated ones, the rest the old.
+-- `alternate` meets its contract. The loop's invariant: i is odd, the entries below it are the alternated ones, the
+-- rest the old.
 use Prim.Native.Nat.{_+_, _-_, _%_, _≤_}
 use mathlib.Core.Path.{_≡_}
 use native.Mathlib.Omega.{arith}
@@ -19,12 +20,21 @@ abbrev μ-loop : tie.MeasureT-loop
 μ-loop a₀ n i₀ a i = n - i
 
 loop-holds : tie.Need-loop-holds Inv-loop μ-loop
-loop-holds c = (omega arith, omega arith, starts (c .args .a .now) 1 (λ k h. let e : k ≡ 0 = omega arith in alternate-even k (entries (c .args .a .now)) (omega arith)))
+loop-holds c = (
+  omega arith,
+  omega arith,
+  starts (c .args .a .now) 1 (λ k h. let e : k ≡ 0 = omega arith in
+      alternate-even k (entries (c .args .a .now)) (omega arith)),
+)
 
 negate-to-requires : tie.Need-negate-to-requires Inv-loop μ-loop
 negate-to-requires c κs =
-    let q = c .before .before in
-    (omega arith, omega arith, rw (alternate-read (entries (q .before .args .a .now)) (q .loop .inv .2) (q .loop .inv .1) (omega arith)) (q .before .pre _ (omega arith)))
+    let q = c .before .before in (
+      omega arith,
+      omega arith,
+      rw (alternate-read (entries (q .before .args .a .now)) (q .loop .inv .2) (q .loop .inv .1) (omega arith))
+          (q .before .pre _ (omega arith)),
+    )
 
 add-i : tie.Need-add-i Inv-loop μ-loop
 add-i c = omega arith
@@ -34,8 +44,12 @@ loop-less c = omega arith
 
 loop-again : tie.Need-loop-again Inv-loop μ-loop
 loop-again c =
-    let q = c .before .before .before .before in
-    (omega arith, omega arith, alternate-turn (entries (q .before .args .a .now)) (q .loop .inv .2) (q .loop .inv .1) (omega arith) (c .before .negate-to .ensures))
+    let q = c .before .before .before .before in (
+      omega arith,
+      omega arith,
+      alternate-turn (entries (q .before .args .a .now)) (q .loop .inv .2) (q .loop .inv .1)
+          (omega arith) (c .before .negate-to .ensures),
+    )
 
 same-length : tie.Need-same-length Inv-loop μ-loop
 same-length c = c .before .loop .inv .2 .len

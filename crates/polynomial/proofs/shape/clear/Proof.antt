@@ -43,4 +43,5 @@ returns : tie.Need-returns Inv-loop μ-loop
 returns c = all-zeros (all-below (c .before .loop .inv .1) (omega arith))
 
 pub clear-spec : {M : Type 1} → statement M
-clear-spec = tie.close (tie.spec Inv-loop μ-loop loop-holds mul-a slice-set-of-a add-i loop-less loop-again same-length returns)
+clear-spec =
+    tie.close (tie.spec Inv-loop μ-loop loop-holds mul-a slice-set-of-a add-i loop-less loop-again same-length returns)

@@ -1,4 +1,5 @@
--- `copy_from` meets its contract. The loop's invariant: the entries from r on and below i are the copies, the rest the old.
+-- `copy_from` meets its contract. The loop's invariant: the entries from r on and below i are the copies, the rest the
+-- old.
 use Prim.Native.Nat.{_+_, _-_, _≤_}
 use mathlib.Core.Path.{_≡_}
 use native.Mathlib.Omega.{arith}
@@ -12,7 +13,8 @@ use Rattle.polynomial.proofs.shape.copy_from.Statement.{statement}
 use Rattle.polynomial.proofs.shape.copy_from.Tie as tie
 
 abbrev Inv-loop : tie.InvT-loop
-Inv-loop a₀ r n i₀ a i = (n ≡ length a₀) × (r ≤ i) × (i ≤ n) × Split a (length a₀) i (copiedFrom r (entries a₀)) (entries a₀)
+Inv-loop a₀ r n i₀ a i = (n ≡ length a₀) × (r ≤ i) × (i ≤ n) × Split a (length a₀) i (copiedFrom r (entries a₀))
+    (entries a₀)
 
 abbrev μ-loop : tie.MeasureT-loop
 μ-loop a₀ r n i₀ a i = n - i
@@ -27,8 +29,12 @@ sub-negate-to c = omega arith
 
 negate-to-requires : tie.Need-negate-to-requires Inv-loop μ-loop
 negate-to-requires c κs =
-    let q = c .before .before in
-    (omega arith, omega arith, rw (copy-read (q .before .args .r) (entries (q .before .args .a .now)) (q .loop .inv .3) (q .loop .inv .1) (omega arith) (q .before .pre .3)) (q .before .pre .0 _ (omega arith)))
+    let q = c .before .before in (
+      omega arith,
+      omega arith,
+      rw (copy-read (q .before .args .r) (entries (q .before .args .a .now)) (q .loop .inv .3) (q .loop .inv .1)
+          (omega arith) (q .before .pre .3)) (q .before .pre .0 _ (omega arith)),
+    )
 
 add-i : tie.Need-add-i Inv-loop μ-loop
 add-i c = omega arith
@@ -38,8 +44,13 @@ loop-less c = omega arith
 
 loop-again : tie.Need-loop-again Inv-loop μ-loop
 loop-again c =
-    let q = c .before .before .before .before in
-    (omega arith, omega arith, omega arith, copy-turn (q .before .args .r) (entries (q .before .args .a .now)) (q .loop .inv .3) (q .loop .inv .1) (omega arith) (q .before .pre .3) (c .before .negate-to .ensures))
+    let q = c .before .before .before .before in (
+      omega arith,
+      omega arith,
+      omega arith,
+      copy-turn (q .before .args .r) (entries (q .before .args .a .now))
+          (q .loop .inv .3) (q .loop .inv .1) (omega arith) (q .before .pre .3) (c .before .negate-to .ensures),
+    )
 
 same-length : tie.Need-same-length Inv-loop μ-loop
 same-length c = c .before .loop .inv .3 .len

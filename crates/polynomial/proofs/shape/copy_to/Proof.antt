@@ -25,7 +25,8 @@ same-length c = search needs
 
 returns : tie.Need-returns
 unfolding entries
-returns c = ap (set (c .before .args .a .now) (c .before .args .i)) (read-back (getD (c .before .args .a .now) (c .before .args .k) 0ℤ) (c .a .given))
+returns c = ap (set (c .before .args .a .now) (c .before .args .i))
+    (read-back (getD (c .before .args .a .now) (c .before .args .k) 0ℤ) (c .a .given))
 
 pub copy-to-spec : {M : Type 1} → statement M
 copy-to-spec = tie.close (tie.spec mul-a slice-copy-out-a mul-t7 slice-set-from-a same-length returns)

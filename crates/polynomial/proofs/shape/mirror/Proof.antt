@@ -12,7 +12,8 @@ use Rattle.polynomial.proofs.shape.mirror.Statement.{statement}
 use Rattle.polynomial.proofs.shape.mirror.Tie as tie
 
 abbrev Inv-loop : tie.InvT-loop
-Inv-loop a₀ negate n i₀ a i = (n ≡ length a₀) × ((n + 1) / 2 ≤ i) × (i ≤ n) × Split a (length a₀) i (mirroredUp negate (length a₀) (entries a₀)) (entries a₀)
+Inv-loop a₀ negate n i₀ a i = (n ≡ length a₀) × ((n + 1) / 2 ≤ i) × (i ≤ n)
+    × Split a (length a₀) i (mirroredUp negate (length a₀) (entries a₀)) (entries a₀)
 
 abbrev μ-loop : tie.MeasureT-loop
 μ-loop a₀ negate n i₀ a i = n - i
@@ -22,8 +23,12 @@ add-i c = omega arith
 
 loop-holds : tie.Need-loop-holds Inv-loop μ-loop
 loop-holds c =
-    let l = c .args .a .now in
-    (omega arith, omega arith, omega arith, starts l ((length l + 1) / 2) (λ k h. mirrored-low (c .args .negate) (length l) (entries l) k h))
+    let l = c .args .a .now in (
+      omega arith,
+      omega arith,
+      omega arith,
+      starts l ((length l + 1) / 2) (λ k h. mirrored-low (c .args .negate) (length l) (entries l) k h),
+    )
 
 sub-k : tie.Need-sub-k Inv-loop μ-loop
 sub-k c = omega arith
@@ -33,8 +38,12 @@ sub-k-2 c = omega arith
 
 turn-to-requires : tie.Need-turn-to-requires Inv-loop μ-loop
 turn-to-requires c κs =
-    let q = c .before .before in
-    (omega arith, omega arith, rw (mirror-read (q .before .args .negate) (entries (q .before .args .a .now)) (q .loop .inv .3) (q .loop .inv .1) (omega arith)) (q .before .pre _ (omega arith)))
+    let q = c .before .before in (
+      omega arith,
+      omega arith,
+      rw (mirror-read (q .before .args .negate) (entries (q .before .args .a .now)) (q .loop .inv .3)
+          (q .loop .inv .1) (omega arith)) (q .before .pre _ (omega arith)),
+    )
 
 add-i-2 : tie.Need-add-i-2 Inv-loop μ-loop
 add-i-2 c = omega arith
@@ -44,8 +53,13 @@ loop-less c = omega arith
 
 loop-again : tie.Need-loop-again Inv-loop μ-loop
 loop-again c =
-    let q = c .before .before .before .before in
-    (omega arith, omega arith, omega arith, mirror-turn (q .before .args .negate) (entries (q .before .args .a .now)) (q .loop .inv .3) (q .loop .inv .1) (omega arith) (c .before .turn-to .ensures))
+    let q = c .before .before .before .before in (
+      omega arith,
+      omega arith,
+      omega arith,
+      mirror-turn (q .before .args .negate) (entries (q .before .args .a .now))
+          (q .loop .inv .3) (q .loop .inv .1) (omega arith) (c .before .turn-to .ensures),
+    )
 
 same-length : tie.Need-same-length Inv-loop μ-loop
 same-length c = c .before .loop .inv .3 .len

@@ -34,9 +34,13 @@ returns : tie.Need-returns
 returns c =
     let q = c .before .before .before .before in
     let p = q .before .before in
-    let n : length (q .copy-to .last .0) ≡ length (p .args .a .now) = ap length (q .copy-to .ensures) ∙ length-set (p .args .a .now) (p .args .at) _ in
-    moved (p .args .i) (p .args .at) (p .args .next) (p .args .a .now) (q .copy-to .last .0) (c .before .clear .last .0) (p .pre .1) (p .pre .2)
-    (q .copy-to .ensures) (c .before .clear .ensures ∙ ap zeros (mid-len (p .args .next) (p .args .at) (q .copy-to .last .0) (omega arith)))
+    let n : length (q .copy-to .last .0) ≡ length (p .args .a .now) = ap length (q .copy-to .ensures)
+    ∙ length-set (p .args .a .now) (p .args .at) _ in
+    moved (p .args .i) (p .args .at) (p .args .next) (p .args .a .now) (q .copy-to .last .0) (c .before .clear .last .0)
+    (p .pre .1) (p .pre .2)
+    (q .copy-to .ensures)
+    (c .before .clear .ensures
+    ∙ ap zeros (mid-len (p .args .next) (p .args .at) (q .copy-to .last .0) (omega arith)))
 
 pub move-up-spec : {M : Type 1} → statement M
 move-up-spec =

@@ -16,7 +16,8 @@ slice-copy-out-a c = search needs
 
 sub-a : tie.Need-sub-a
 unfolding entries
-sub-a c = rw (minus-seen (getD (c .before .args .a .now) (c .before .args .k) 0ℤ) (c .a .given)) (neg-fits _ (c .before .pre .2))
+sub-a c = rw (minus-seen (getD (c .before .args .a .now) (c .before .args .k) 0ℤ) (c .a .given))
+    (neg-fits _ (c .before .pre .2))
 
 mul-t8 : tie.Need-mul-t8
 mul-t8 c = search needs
@@ -29,7 +30,8 @@ same-length c = search needs
 
 returns : tie.Need-returns
 unfolding entries
-returns c = ap (set (c .before .args .a .now) (c .before .args .i)) (stored-minus (getD (c .before .args .a .now) (c .before .args .k) 0ℤ) (c .a .given) (c .before .pre .2))
+returns c = ap (set (c .before .args .a .now) (c .before .args .i))
+    (stored-minus (getD (c .before .args .a .now) (c .before .args .k) 0ℤ) (c .a .given) (c .before .pre .2))
 
 pub negate-to-spec : {M : Type 1} → statement M
 negate-to-spec =

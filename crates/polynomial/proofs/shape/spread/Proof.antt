@@ -1,11 +1,13 @@
--- `spread` meets its contract. The loop's invariant: what lies above i t is spread, what lies up to i is old (Spreading).
+-- `spread` meets its contract. The loop's invariant: what lies above i t is spread, what lies up to i is old
+-- (Spreading).
 use Prim.Native.Nat.{_+_, _*_, _-_, _≤_}
 use mathlib.Core.Path.{_≡_}
 use native.Mathlib.Omega.{arith}
 use native.Mathlib.Nat as NatL
 use lib.ListN.{length}
 use Rattle.definitions.specs.Steps.{entries}
-use Rattle.polynomial.proofs.Spreading.{Spreading, spreading-start, spreading-turn, spreading-end, far-enough, room}
+use Rattle.polynomial.proofs.Spreading.{Spreading, spreading-start, spreading-turn, spreading-end, far-enough}
+use Rattle.polynomial.proofs.Spreading.{room}
 use Rattle.polynomial.proofs.shape.spread.Statement.{statement}
 use Rattle.polynomial.proofs.shape.spread.Tie as tie
 
@@ -24,7 +26,8 @@ loop-holds c = (omega arith, spreading-start (c .args .t) (c .args .top) (c .arg
 sub-move-up : tie.Need-sub-move-up Inv-loop μ-loop
 sub-move-up c =
     let q = c .before .before in
-    room (q .before .args .t) (entries (q .before .args .a .now)) (q .loop .inv .1) (q .before .pre .0) (c .before .loop-test .taken)
+    room (q .before .args .t) (entries (q .before .args .a .now)) (q .loop .inv .1) (q .before .pre .0)
+    (c .before .loop-test .taken)
 
 add-move-up : tie.Need-add-move-up Inv-loop μ-loop
 add-move-up c = omega arith
@@ -32,8 +35,10 @@ add-move-up c = omega arith
 move-up-requires : tie.Need-move-up-requires Inv-loop μ-loop
 move-up-requires c κs =
     let q = c .before .before in
-    let far = far-enough (q .before .args .t) (entries (q .before .args .a .now)) (q .loop .inv .1) (q .before .pre .0) (c .before .loop-test .taken) in
-    let wide = room (q .before .args .t) (entries (q .before .args .a .now)) (q .loop .inv .1) (q .before .pre .0) (c .before .loop-test .taken) in
+    let far = far-enough (q .before .args .t) (entries (q .before .args .a .now)) (q .loop .inv .1) (q .before .pre .0)
+    (c .before .loop-test .taken) in
+    let wide = room (q .before .args .t) (entries (q .before .args .a .now)) (q .loop .inv .1) (q .before .pre .0)
+    (c .before .loop-test .taken) in
     (omega arith, omega arith, omega arith)
 
 sub-at-2 : tie.Need-sub-at-2 Inv-loop μ-loop
@@ -50,9 +55,14 @@ loop-less c = omega arith
 loop-again : tie.Need-loop-again Inv-loop μ-loop
 loop-again c =
     let q = c .before .before .before .before in
-    let far = far-enough (q .before .args .t) (entries (q .before .args .a .now)) (q .loop .inv .1) (q .before .pre .0) (omega arith) in
-    let wide = room (q .before .args .t) (entries (q .before .args .a .now)) (q .loop .inv .1) (q .before .pre .0) (omega arith) in
-    (omega arith, spreading-turn (q .before .args .t) (entries (q .before .args .a .now)) (q .loop .inv .1) (q .before .pre .0) (omega arith) (omega arith) (omega arith) (c .before .move-up .ensures))
+    let far = far-enough (q .before .args .t) (entries (q .before .args .a .now)) (q .loop .inv .1) (q .before .pre .0)
+    (omega arith) in
+    let wide = room (q .before .args .t) (entries (q .before .args .a .now)) (q .loop .inv .1) (q .before .pre .0)
+    (omega arith) in (
+      omega arith,
+      spreading-turn (q .before .args .t) (entries (q .before .args .a .now)) (q .loop .inv .1)
+          (q .before .pre .0) (omega arith) (omega arith) (omega arith) (c .before .move-up .ensures),
+    )
 
 same-length : tie.Need-same-length Inv-loop μ-loop
 same-length c = c .before .loop .inv .1 .len
@@ -60,7 +70,8 @@ same-length c = c .before .loop .inv .1 .len
 returns : tie.Need-returns Inv-loop μ-loop
 returns c =
     let q = c .before in
-    spreading-end (q .before .args .t) (entries (q .before .args .a .now)) (q .loop .i) (q .before .pre .0) (q .loop .inv .1) (omega arith)
+    spreading-end (q .before .args .t) (entries (q .before .args .a .now)) (q .loop .i) (q .before .pre .0)
+    (q .loop .inv .1) (omega arith)
 
 pub spread-spec : {M : Type 1} → statement M
 spread-spec =

@@ -15,7 +15,8 @@ degree-requires c κs = omega (arith, phi-le (c .args .r))
 
 returns : tie.Need-returns
 unfolding halfDegree degree
-returns c = ap (λ x. x / 2) (c .degree .ensures ∙ ap (λ f. cond (eqb (c .before .args .kind) 1) f (c .before .args .r - f)) (c .before .pre))
+returns c = ap (λ x. x / 2)
+    (c .degree .ensures ∙ ap (λ f. cond (eqb (c .before .args .kind) 1) f (c .before .args .r - f)) (c .before .pre))
 
 pub half-of-spec : {M : Type 1} → statement M
 half-of-spec = tie.close (tie.spec degree-requires returns)

@@ -7,7 +7,8 @@ use lib.Seq.{length-take-le}
 use Rattle.definitions.specs.Codes.{SHORT}
 use Rattle.definitions.specs.KeptHalf.{halfDegree}
 use Rattle.definitions.specs.Requests.{divisorsDue}
-use Rattle.polynomial.proofs.Stopping.{apart-r, apart-free, apart-count, walk-r, walk-due, walk-fresh, stop-step, stop-short, at-step, at-short, made-over, made-done}
+use Rattle.polynomial.proofs.Stopping.{apart-r, apart-free, apart-count, walk-r, walk-due, walk-fresh, stop-step}
+use Rattle.polynomial.proofs.Stopping.{stop-short, at-step, at-short, made-over, made-done}
 use borrow.Author.Needs.{needs}
 use Rattle.polynomial.proofs.stop.stop_at.Statement.{statement}
 use Rattle.polynomial.proofs.stop.stop_at.Tie as tie
@@ -26,7 +27,8 @@ returns c =
     let q = c .before .before .before in
     let p = q .before .before in
     let due = walk-due (p .args .n) (p .pre .2) (p .args .a) (p .pre .0) (q .over .result) (q .over .ensures) in
-    let s = at-step (p .args .kind) (p .args .n) (p .args .j) (p .args .buf .now) (stop-step _ _ _ _ (p .pre .1) (p .pre .2) (p .pre .3) (omega arith)) in
+    let s = at-step (p .args .kind) (p .args .n) (p .args .j) (p .args .buf .now)
+    (stop-step _ _ _ _ (p .pre .1) (p .pre .2) (p .pre .3) (omega arith)) in
     (c .refused .ensures ∙ s .0, s .1)
 
 refused-requires-2 : tie.Need-refused-requires-2
@@ -37,8 +39,10 @@ returns-2 c =
     let q = c .before .before .before .before in
     let p = q .before .before in
     let due = walk-due (p .args .n) (p .pre .2) (p .args .a) (p .pre .0) (q .over .result) (q .over .ensures) in
-    let d = q .before .half-of .ensures ∙ ap (halfDegree (p .args .kind)) (apart-r (p .args .n) (p .pre .2) (p .args .a) (p .pre .0)) in
-    let s = at-short (p .args .kind) (p .args .n) (p .args .j) (p .args .buf .now) (stop-short _ _ _ _ (p .pre .1) (p .pre .2) (p .pre .3) (omega arith) (omega arith)) in
+    let d = q .before .half-of .ensures
+    ∙ ap (halfDegree (p .args .kind)) (apart-r (p .args .n) (p .pre .2) (p .args .a) (p .pre .0)) in
+    let s = at-short (p .args .kind) (p .args .n) (p .args .j) (p .args .buf .now)
+    (stop-short _ _ _ _ (p .pre .1) (p .pre .2) (p .pre .3) (omega arith) (omega arith)) in
     (c .refused2 .ensures ∙ ap (λ k. record { code = SHORT; degree = k; additions = 0; due = 0 }) d ∙ s .0, s .1)
 
 add-h : tie.Need-add-h
@@ -57,10 +61,12 @@ make-requires c κs =
     let q = c .before .before .before .before in
     let p = q .before .before in
     let due = walk-due (p .args .n) (p .pre .2) (p .args .a) (p .pre .0) (q .over .result) (q .over .ensures) in
-    let d = q .before .half-of .ensures ∙ ap (halfDegree (p .args .kind)) (apart-r (p .args .n) (p .pre .2) (p .args .a) (p .pre .0)) in
+    let d = q .before .half-of .ensures
+    ∙ ap (halfDegree (p .args .kind)) (apart-r (p .args .n) (p .pre .2) (p .args .a) (p .pre .0)) in
     let r = walk-r (p .args .n) (p .pre .2) (p .args .a) (p .pre .0) (q .over .result) (q .over .ensures) in (
       walk-fresh (p .args .n) (p .pre .2) (p .args .a) (p .pre .0) (q .over .result) (q .over .ensures) (p .pre .3),
-      length-take-le _ (p .args .buf .now) (omega arith) ∙ ap (λ k. k + 1) (d ∙ ap (halfDegree (p .args .kind)) (sym r)),
+      length-take-le _ (p .args .buf .now) (omega arith)
+          ∙ ap (λ k. k + 1) (d ∙ ap (halfDegree (p .args .kind)) (sym r)),
       rw r (omega arith),
     )
 
@@ -75,8 +81,12 @@ returns-3 c =
     let q = c .before .before .before .before .before .before .before .before in
     let p = q .before .before in
     let due = walk-due (p .args .n) (p .pre .2) (p .args .a) (p .pre .0) (q .over .result) (q .over .ensures) in
-    let d = q .before .half-of .ensures ∙ ap (halfDegree (p .args .kind)) (apart-r (p .args .n) (p .pre .2) (p .args .a) (p .pre .0)) in
-    let s = made-over (p .args .kind) (p .args .n) (p .args .j) (p .args .buf .now) (p .pre .1) (p .pre .2) (p .pre .3) (omega arith) _ _ (rw (walk-r (p .args .n) (p .pre .2) (p .args .a) (p .pre .0) (q .over .result) (q .over .ensures)) at (c .before .before .before .make .ensures)) _ d (omega arith) (c .before .if3 .taken) in
+    let d = q .before .half-of .ensures
+    ∙ ap (halfDegree (p .args .kind)) (apart-r (p .args .n) (p .pre .2) (p .args .a) (p .pre .0)) in
+    let s = made-over (p .args .kind) (p .args .n) (p .args .j) (p .args .buf .now) (p .pre .1) (p .pre .2) (p .pre .3)
+    (omega arith) _ _
+    (rw (walk-r (p .args .n) (p .pre .2) (p .args .a) (p .pre .0) (q .over .result)
+    (q .over .ensures)) at (c .before .before .before .make .ensures)) _ d (omega arith) (c .before .if3 .taken) in
     (c .refused3 .ensures ∙ s .0, s .1)
 
 same-length-2 : tie.Need-same-length-2
@@ -87,8 +97,12 @@ returns-4 c =
     let q = c .before .before .before .before .before .before .before .before in
     let p = q .before .before in
     let due = walk-due (p .args .n) (p .pre .2) (p .args .a) (p .pre .0) (q .over .result) (q .over .ensures) in
-    let d = q .before .half-of .ensures ∙ ap (halfDegree (p .args .kind)) (apart-r (p .args .n) (p .pre .2) (p .args .a) (p .pre .0)) in
-    made-done (p .args .kind) (p .args .n) (p .args .j) (p .args .buf .now) (p .pre .1) (p .pre .2) (p .pre .3) (omega arith) _ _ (rw (walk-r (p .args .n) (p .pre .2) (p .args .a) (p .pre .0) (q .over .result) (q .over .ensures)) at (c .before .before .before .make .ensures)) _ d (omega arith) (c .before .if3 .left)
+    let d = q .before .half-of .ensures
+    ∙ ap (halfDegree (p .args .kind)) (apart-r (p .args .n) (p .pre .2) (p .args .a) (p .pre .0)) in
+    made-done (p .args .kind) (p .args .n) (p .args .j) (p .args .buf .now) (p .pre .1) (p .pre .2) (p .pre .3)
+    (omega arith) _ _
+    (rw (walk-r (p .args .n) (p .pre .2) (p .args .a) (p .pre .0) (q .over .result)
+    (q .over .ensures)) at (c .before .before .before .make .ensures)) _ d (omega arith) (c .before .if3 .left)
 
 pub stop-at-spec : {M : Type 1} → statement M
 stop-at-spec =

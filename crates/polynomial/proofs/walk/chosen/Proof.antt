@@ -19,13 +19,15 @@ returns : tie.Need-returns
 returns c =
     sym
     (ap (λ b. cond b (c .before .args .p) 1)
-    (eq-eqb (bit (c .before .args .mask) (c .before .args .i)) 1 (sym (and-mask (c .before .args .mask / 2 ^ c .before .args .i) 1) ∙ c .if1 .taken)))
+    (eq-eqb (bit (c .before .args .mask) (c .before .args .i)) 1
+    (sym (and-mask (c .before .args .mask / 2 ^ c .before .args .i) 1) ∙ c .if1 .taken)))
 
 returns-2 : tie.Need-returns-2
 returns-2 c =
     sym
     (ap (λ b. cond b (c .before .args .p) 1)
-    (ne-eqb (bit (c .before .args .mask) (c .before .args .i)) 1 (λ e. c .if1 .left (and-mask (c .before .args .mask / 2 ^ c .before .args .i) 1 ∙ e))))
+    (ne-eqb (bit (c .before .args .mask) (c .before .args .i)) 1
+    (λ e. c .if1 .left (and-mask (c .before .args .mask / 2 ^ c .before .args .i) 1 ∙ e))))
 
 pub chosen-spec : {M : Type 1} → statement M
 chosen-spec = tie.close (tie.spec cast-if1 shr-if1 returns returns-2)

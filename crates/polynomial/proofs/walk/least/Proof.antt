@@ -19,8 +19,12 @@ full-requires : tie.Need-full-requires Inv-loop μ-loop
 full-requires c κs = c .pre .0 .few
 
 loop-holds : tie.Need-loop-holds Inv-loop μ-loop
-loop-holds c =
-    (c .full .ensures, omega arith, least-start _ _ (c .before .pre .0) _ _ _ (c .full .ensures) (c .before .pre .1) (c .before .pre .2))
+loop-holds c = (
+  c .full .ensures,
+  omega arith,
+  least-start _ _ (c .before .pre .0) _ _ _ (c .full .ensures) (c .before .pre .1)
+      (c .before .pre .2),
+)
 
 product-requires : tie.Need-product-requires Inv-loop μ-loop
 product-requires c κs = c .before .before .before .pre .0
@@ -29,7 +33,8 @@ or-requires : tie.Need-or-requires Inv-loop μ-loop
 or-requires c κs = tt
 
 -- in a turn the mask is one of the first
-below : (c : tie.In-loop Inv-loop μ-loop) → (c .before .loop .mask < 2 ^ c .before .before .before .args .count) × (c .before .loop .mask ≤ 31)
+below : (c : tie.In-loop Inv-loop μ-loop) → (c .before .loop .mask < 2 ^ c .before .before .before .args .count)
+    × (c .before .loop .mask ≤ 31)
 below c =
     let few : 2 ^ c .before .before .before .args .count ≤ 32 = pow-mono (c .before .before .before .pre .0 .few) in
     omega (arith, c .loop-test .taken, c .before .loop .inv .0)
@@ -45,12 +50,14 @@ loop-again c = (
   c .before .before .before .loop .inv .0,
   omega (arith, c .before .before .loop-test .taken),
   rw (c .or .ensures)
-      (least-step _ _ (c .before .before .before .before .before .pre .0) _ _ _ _ (below (c .before .before) .0) (c .before .product .ensures) (c .before .before .before .loop .inv .2)),
+      (least-step _ _ (c .before .before .before .before .before .pre .0) _ _ _ _ (below (c .before .before) .0)
+      (c .before .product .ensures) (c .before .before .before .loop .inv .2)),
 )
 
 returns : tie.Need-returns Inv-loop μ-loop
 returns c =
-    let end : c .before .loop .mask ≡ 2 ^ c .before .before .before .args .count - 1 = omega (arith, c .loop-test .left, c .before .loop .inv .0, c .before .loop .inv .1) in
+    let end : c .before .loop .mask ≡ 2 ^ c .before .before .before .args .count - 1 =
+    omega (arith, c .loop-test .left, c .before .loop .inv .0, c .before .loop .inv .1) in
     least-end _ _ (c .before .before .before .pre .0) _ _ (rw end at (c .before .loop .inv .2))
 
 pub least-spec : {M : Type 1} → statement M

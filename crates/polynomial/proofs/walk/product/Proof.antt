@@ -30,10 +30,12 @@ chosen-requires c κs = omega (arith, c .loop-test .taken, c .before .before .pr
 turn :
     (c : tie.After-chosen Inv-loop μ-loop)
     → (c .before .before .loop .size * c .chosen .result
-    ≡ maskTo (c .before .before .before .args .t1) (c .before .before .before .args .mask) (c .before .before .loop .i + 1))
+    ≡ maskTo (c .before .before .before .args .t1) (c .before .before .before .args .mask)
+    (c .before .before .loop .i + 1))
     × (c .before .before .loop .size * c .chosen .result ≤ 65535)
 turn c =
-    mask-more _ _ (c .before .before .before .pre) _ _ _ _ (c .before .loop-test .taken) (c .before .before .loop .inv .1) (c .chosen .ensures)
+    mask-more _ _ (c .before .before .before .pre) _ _ _ _ (c .before .loop-test .taken)
+    (c .before .before .loop .inv .1) (c .chosen .ensures)
 
 mul-size : tie.Need-mul-size Inv-loop μ-loop
 mul-size c = omega (arith, turn c .1)
@@ -49,7 +51,8 @@ loop-again c = (omega (arith, c .before .loop-test .taken), turn c .0)
 
 returns : tie.Need-returns Inv-loop μ-loop
 returns c =
-    let end : c .before .loop .i ≡ c .before .before .args .count = omega (arith, c .loop-test .left, c .before .loop .inv .0) in
+    let end : c .before .loop .i ≡ c .before .before .args .count =
+    omega (arith, c .loop-test .left, c .before .loop .inv .0) in
     c .before .loop .inv .1 ∙ ap (maskTo (c .before .before .args .t1) (c .before .before .args .mask)) end
 
 pub product-spec : {M : Type 1} → statement M

@@ -8,7 +8,8 @@ use Rattle.definitions.specs.Codes.{SHORT}
 use Rattle.polynomial.specs.Wholes.{Ready}
 use Rattle.polynomial.proofs.Stopping.{index-good}
 use Rattle.polynomial.proofs.Negation.{read-back}
-use Rattle.polynomial.proofs.Answering.{told-only, ask-short, at-short, refuses, delivers, phi-is, phi-within, degree-is}
+use Rattle.polynomial.proofs.Answering.{told-only, ask-short, at-short, refuses, delivers, phi-is, phi-within}
+use Rattle.polynomial.proofs.Answering.{degree-is}
 use borrow.Author.Needs.{needs}
 use Rattle.polynomial.proofs.whole.answer_in.Statement.{statement}
 use Rattle.polynomial.proofs.whole.answer_in.Tie as tie
@@ -24,7 +25,8 @@ returns c =
     let g = c .before .before in
     let p = g .before in
     let d = degree-is (p .args .kind) (p .args .n) (p .args .a) (p .pre .0) _ (g .degree .ensures) in
-    let s = at-short (p .args .kind) (p .args .n) (p .args .h) (p .args .buf .now) (ask-short _ _ _ _ (p .pre .1) (p .pre .2) (p .pre .3) (omega arith)) in
+    let s = at-short (p .args .kind) (p .args .n) (p .args .h) (p .args .buf .now)
+    (ask-short _ _ _ _ (p .pre .1) (p .pre .2) (p .pre .3) (omega arith)) in
     (c .refused .ensures ∙ ap (told-only SHORT) d ∙ s .0, s .1)
 
 add-size : tie.Need-add-size
@@ -41,7 +43,13 @@ lay-requires c κs =
     let g = c .before .before in
     let p = g .before in
     let d = degree-is (p .args .kind) (p .args .n) (p .args .a) (p .pre .0) _ (g .degree .ensures) in (
-      record { apart = p .pre .0; known = p .pre .1; good = p .pre .2; room = length-take-le _ (p .args .buf .now) (omega arith) ∙ ap (λ k. k + 1) d },
+      record {
+        apart = p .pre .0;
+        known = p .pre .1;
+        good = p .pre .2;
+        room =
+            length-take-le _ (p .args .buf .now) (omega arith) ∙ ap (λ k. k + 1) d;
+      },
       rw (read-back (p .args .h) (p .fits .h .sfits)) (p .pre .3),
     )
 
@@ -56,7 +64,10 @@ returns-2 c =
     let g = c .before .before .before .before .before .before .before in
     let p = g .before in
     let d = degree-is (p .args .kind) (p .args .n) (p .args .a) (p .pre .0) _ (g .degree .ensures) in
-    let s = refuses (p .args .kind) (p .args .n) (p .args .h) (p .args .buf .now) (p .pre .1) (p .pre .2) (p .pre .3) _ d (omega arith) _ _ (rw (read-back (p .args .h) (p .fits .h .sfits)) at (c .before .before .before .before .lay .ensures)) (c .before .if2 .taken) in
+    let s = refuses (p .args .kind) (p .args .n) (p .args .h) (p .args .buf .now) (p .pre .1) (p .pre .2)
+    (p .pre .3) _ d (omega arith) _ _
+    (rw (read-back (p .args .h) (p .fits .h .sfits)) at (c .before .before .before .before .lay .ensures))
+    (c .before .if2 .taken) in
     (c .refused2 .ensures ∙ s .0, s .1)
 
 gain-of-requires : tie.Need-gain-of-requires
@@ -73,7 +84,10 @@ returns-3 c =
     let g = c .before .before .before .before .before .before .before in
     let p = g .before in
     let d = degree-is (p .args .kind) (p .args .n) (p .args .a) (p .pre .0) _ (g .degree .ensures) in
-    delivers (p .args .kind) (p .args .n) (p .args .h) (p .args .buf .now) (p .pre .1) (p .pre .2) (p .pre .3) _ d (omega arith) _ _ (rw (read-back (p .args .h) (p .fits .h .sfits)) at (c .before .before .before .before .lay .ensures)) (c .before .if2 .left) _ (c .gain-of .ensures)
+    delivers (p .args .kind) (p .args .n) (p .args .h) (p .args .buf .now) (p .pre .1) (p .pre .2) (p .pre .3) _ d
+    (omega arith) _ _
+    (rw (read-back (p .args .h) (p .fits .h .sfits)) at (c .before .before .before .before .lay .ensures))
+    (c .before .if2 .left) _ (c .gain-of .ensures)
 
 pub answer-in-spec : {M : Type 1} → statement M
 answer-in-spec =

@@ -12,8 +12,11 @@ use Rattle.polynomial.proofs.whole.lay.Tie as tie
 
 finish-one-requires : tie.Need-finish-one-requires
 finish-one-requires c κs =
-    let p = c .before .before .before in
-    (p .pre .0, sym (r-is (p .args .kind) (p .args .n) (p .args .a) (p .args .b .now) (p .pre .0)) ∙ c .before .if1 .taken)
+    let p = c .before .before .before in (
+      p .pre .0,
+      sym (r-is (p .args .kind) (p .args .n) (p .args .a) (p .args .b .now) (p .pre .0))
+          ∙ c .before .if1 .taken,
+    )
 
 same-length : tie.Need-same-length
 same-length c = search needs
@@ -21,13 +24,19 @@ same-length c = search needs
 returns : tie.Need-returns
 returns c =
     let p = c .before .before .before .before .before in
-    laid-one (p .args .kind) (p .args .n) (p .args .h) _ (above-zero (p .args .kind) (p .args .n) (p .args .a) (p .args .b .now) (p .pre .0))
-    (sym (r-is (p .args .kind) (p .args .n) (p .args .a) (p .args .b .now) (p .pre .0)) ∙ c .before .before .before .if1 .taken) (p .pre .1) (c .before .finish-one .ensures)
+    laid-one (p .args .kind) (p .args .n) (p .args .h) _
+    (above-zero (p .args .kind) (p .args .n) (p .args .a) (p .args .b .now) (p .pre .0))
+    (sym (r-is (p .args .kind) (p .args .n) (p .args .a) (p .args .b .now) (p .pre .0))
+    ∙ c .before .before .before .if1 .taken) (p .pre .1) (c .before .finish-one .ensures)
 
 lay-more-requires : tie.Need-lay-more-requires
 lay-more-requires c κs =
-    let p = c .before .before .before in
-    (p .pre .0, λ e. c .before .if1 .left (r-is (p .args .kind) (p .args .n) (p .args .a) (p .args .b .now) (p .pre .0) ∙ e), rw (read-back (p .args .h) (p .fits .h .sfits)) (p .pre .1))
+    let p = c .before .before .before in (
+      p .pre .0,
+      λ e. c .before .if1 .left (r-is (p .args .kind) (p .args .n) (p .args .a) (p .args .b .now) (p .pre .0)
+          ∙ e),
+      rw (read-back (p .args .h) (p .fits .h .sfits)) (p .pre .1),
+    )
 
 same-length-2 : tie.Need-same-length-2
 same-length-2 c = search needs

@@ -12,7 +12,8 @@ use Rattle.polynomial.proofs.whole.space.Tie as tie
 returns : tie.Need-returns
 returns c =
     let l = c .before .args .b .now in
-    sym (ap (λ t. firsts (length l) (spread t (entries l))) (c .if1 .taken) ∙ ap (firsts (length l)) (spread-one (entries l)) ∙ firsts-entries l)
+    sym (ap (λ t. firsts (length l) (spread t (entries l))) (c .if1 .taken)
+    ∙ ap (firsts (length l)) (spread-one (entries l)) ∙ firsts-entries l)
 
 spread-requires : tie.Need-spread-requires
 spread-requires c κs = search needs

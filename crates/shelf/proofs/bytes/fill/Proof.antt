@@ -23,8 +23,11 @@ loop-holds c = (refl, c .before .pre .2, omega arith, refl)
 
 coefficient-requires : tie.Need-coefficient-requires Inv-loop μ-loop
 coefficient-requires c κs =
-    let start = c .before .before .before in
-    (omega (arith, one-less (c .before .loop .left) (start .args .w) (c .loop-test .taken)), start .pre .0, start .pre .1)
+    let start = c .before .before .before in (
+      omega (arith, one-less (c .before .loop .left) (start .args .w) (c .loop-test .taken)),
+      start .pre .0,
+      start .pre .1,
+    )
 
 mul-c : tie.Need-mul-c Inv-loop μ-loop
 mul-c c = omega (arith, c .before .before .before .before .good)
@@ -53,7 +56,8 @@ loop-again c =
     let w = a .w in
     let taken = c .before .loop-test .taken in (
       rw (passed (c .coefficient .result) (c .coefficient .ok), c .coefficient .ensures)
-          (fill-turn w (loop .loop .left) (loop .loop .at) (loop .loop .i) (a .bytes .now) (loop .loop .coeffs) taken ∙ loop .loop .inv .0),
+          (fill-turn w (loop .loop .left) (loop .loop .at) (loop .loop .i) (a .bytes .now) (loop .loop .coeffs) taken
+          ∙ loop .loop .inv .0),
       omega (arith, one-less (loop .loop .left) w taken),
       simp length-set (omega arith),
       simp length-set (loop .loop .inv .3),
@@ -66,7 +70,8 @@ returns : tie.Need-returns Inv-loop μ-loop
 returns c =
     let loop = c .before in
     let a = loop .before .before .args in
-    sym (fill-none (a .w) (loop .loop .left) (loop .loop .at) (loop .loop .i) (a .bytes .now) (loop .loop .coeffs) (c .loop-test .left))
+    sym (fill-none (a .w) (loop .loop .left) (loop .loop .at) (loop .loop .i) (a .bytes .now) (loop .loop .coeffs)
+    (c .loop-test .left))
     ∙ loop .loop .inv .0
 
 pub fill-spec : {M : Type 1} → statement M

@@ -56,8 +56,13 @@ loop-less c = omega arith
 loop-again : tie.Need-loop-again Inv-loop μ-loop
 loop-again c =
     let loop = c .before .before .before in (
-      get-turn _ _ _ _ _ _ (c .before .before .loop-test .taken) (loop .loop .inv .1) (loop .before .before .pre .0) (c .wide .ensures)
-          (omega (arith, c .before .shared-slice-known2 .given (loop .before .before .args .at + (loop .loop .left - 1)))) (loop .loop .inv .0),
+      get-turn _ _ _ _ _ _ (c .before .before .loop-test .taken) (loop .loop .inv .1) (loop .before .before .pre .0)
+          (c .wide .ensures)
+          (omega (
+            arith,
+            c .before .shared-slice-known2 .given (loop .before .before .args .at + (loop .loop .left - 1)),
+          ))
+          (loop .loop .inv .0),
       omega arith,
     )
 

@@ -13,7 +13,8 @@ use Rattle.shelf.proofs.bytes.height_in.Statement.{statement}
 use Rattle.shelf.proofs.bytes.height_in.Tie as tie
 
 abbrev Inv-loop : tie.InvT-loop
-Inv-loop bytes w k h₀ left₀ at₀ h left at = (max h (heightOf (coefficientsAt w left (drop at bytes))) ≡ heightOf (coefficientsAt w k (drop 10 bytes)))
+Inv-loop bytes w k h₀ left₀ at₀ h left at =
+    (max h (heightOf (coefficientsAt w left (drop at bytes))) ≡ heightOf (coefficientsAt w k (drop 10 bytes)))
     × (at + left * w ≤ length bytes)
 
 abbrev μ-loop : tie.MeasureT-loop
@@ -24,8 +25,11 @@ loop-holds c = (zero-max _, c .before .pre .2)
 
 coefficient-requires : tie.Need-coefficient-requires Inv-loop μ-loop
 coefficient-requires c κs =
-    let start = c .before .before .before in
-    (omega (arith, one-less (c .before .loop .left) (start .args .w) (c .loop-test .taken)), start .pre .0, start .pre .1)
+    let start = c .before .before .before in (
+      omega (arith, one-less (c .before .loop .left) (start .args .w) (c .loop-test .taken)),
+      start .pre .0,
+      start .pre .1,
+    )
 
 magnitude-requires : tie.Need-magnitude-requires Inv-loop μ-loop
 magnitude-requires c κs = search needs
@@ -36,7 +40,11 @@ larger-requires c κs = search needs
 add-at : tie.Need-add-at Inv-loop μ-loop
 add-at c =
     let loop = c .before .before .before .before in
-    omega (arith, one-less (loop .loop .left) (loop .before .before .args .w) (c .before .before .before .loop-test .taken))
+    omega (
+      arith,
+      one-less (loop .loop .left) (loop .before .before .args .w)
+          (c .before .before .before .loop-test .taken),
+    )
 
 sub-left : tie.Need-sub-left Inv-loop μ-loop
 sub-left c = omega arith
@@ -55,7 +63,8 @@ loop-again c =
         passed (c .before .before .coefficient .result) (c .before .before .coefficient .ok),
         c .before .before .coefficient .ensures,
       )
-          (look-turn (a .w) (loop .loop .left) (loop .loop .at) (loop .loop .h) (a .bytes .now) taken ∙ loop .loop .inv .0),
+          (look-turn (a .w) (loop .loop .left) (loop .loop .at) (loop .loop .h) (a .bytes .now) taken
+          ∙ loop .loop .inv .0),
       omega (arith, one-less (loop .loop .left) (a .w) taken),
     )
 
@@ -63,7 +72,8 @@ returns : tie.Need-returns Inv-loop μ-loop
 returns c =
     let loop = c .before in
     let a = loop .before .before .args in
-    sym (look-none (a .w) (loop .loop .left) (loop .loop .at) (loop .loop .h) (a .bytes .now) (c .loop-test .left)) ∙ loop .loop .inv .0
+    sym (look-none (a .w) (loop .loop .left) (loop .loop .at) (loop .loop .h) (a .bytes .now) (c .loop-test .left))
+    ∙ loop .loop .inv .0
 
 pub height-in-spec : {M : Type 1} → statement M
 height-in-spec =

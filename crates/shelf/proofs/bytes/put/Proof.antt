@@ -10,7 +10,8 @@ use Rattle.shelf.proofs.bytes.put.Statement.{statement}
 use Rattle.shelf.proofs.bytes.put.Tie as tie
 
 abbrev Inv-loop : tie.InvT-loop
-Inv-loop bytes₀ at w v i₀ left₀ rest₀ bytes i left rest = (sets bytes i (bytesOf left rest) ≡ sets bytes₀ at (bytesOf w v)) × (i + left ≡ at + w)
+Inv-loop bytes₀ at w v i₀ left₀ rest₀ bytes i left rest =
+    (sets bytes i (bytesOf left rest) ≡ sets bytes₀ at (bytesOf w v)) × (i + left ≡ at + w)
     × (length bytes ≡ length bytes₀)
 
 abbrev μ-loop : tie.MeasureT-loop
@@ -42,7 +43,11 @@ loop-less c = omega arith
 
 -- src/bytes.rt:31:5
 loop-again : tie.Need-loop-again Inv-loop μ-loop
-loop-again c = (put-turn _ _ _ _ (c .loop-test .taken) ∙ c .before .loop .inv .0, omega arith, simp length-set (c .before .loop .inv .2))
+loop-again c = (
+  put-turn _ _ _ _ (c .loop-test .taken) ∙ c .before .loop .inv .0,
+  omega arith,
+  simp length-set (c .before .loop .inv .2),
+)
 
 -- src/bytes.rt:24:1
 same-length : tie.Need-same-length Inv-loop μ-loop

@@ -15,7 +15,8 @@ use Rattle.shelf.proofs.bytes.put_body.Tie as tie
 
 abbrev Inv-loop : tie.InvT-loop
 Inv-loop coeffs w bytes₀ i₀ at₀ bytes i at = (sets bytes at (body w (drop i coeffs)) ≡ sets bytes₀ 10 (body w coeffs))
-    × (at + length (body w (drop i coeffs)) ≤ length bytes) × (heightOf (drop i coeffs) ≤ top w) × (length bytes ≡ length bytes₀)
+    × (at + length (body w (drop i coeffs)) ≤ length bytes) × (heightOf (drop i coeffs) ≤ top w)
+    × (length bytes ≡ length bytes₀)
     × (i ≤ length coeffs)
 
 abbrev μ-loop : tie.MeasureT-loop
@@ -54,7 +55,11 @@ add-at : tie.Need-add-at Inv-loop μ-loop
 add-at c =
     let loop = c .before .before .before .before .before .before .before in
     let a = loop .before .before .args in
-    omega (arith, body-left (a .w) (a .coeffs .now) (loop .loop .i) (c .before .before .before .before .before .before .loop-test .taken))
+    omega (
+      arith,
+      body-left (a .w) (a .coeffs .now) (loop .loop .i)
+          (c .before .before .before .before .before .before .loop-test .taken),
+    )
 
 add-i : tie.Need-add-i Inv-loop μ-loop
 add-i c = omega arith
@@ -73,7 +78,8 @@ loop-again c =
         c .before .before .before .twos-of .ensures,
         passed x (c .before .before .before .before .twos-of-arg .given),
       )
-          (body-turn (a .w) (a .coeffs .now) (loop .loop .bytes) (loop .loop .at) (loop .loop .i) taken ∙ loop .loop .inv .0),
+          (body-turn (a .w) (a .coeffs .now) (loop .loop .bytes) (loop .loop .at) (loop .loop .i) taken
+          ∙ loop .loop .inv .0),
       omega (arith, body-left (a .w) (a .coeffs .now) (loop .loop .i) taken, c .before .before .put .kept .0),
       omega (arith, height-left (a .coeffs .now) (loop .loop .i) taken),
       c .before .before .put .kept .0 ∙ loop .loop .inv .3,
@@ -87,7 +93,8 @@ returns : tie.Need-returns Inv-loop μ-loop
 returns c =
     let loop = c .before in
     let a = loop .before .before .args in
-    sym (body-none (a .w) (a .coeffs .now) (loop .loop .bytes) (loop .loop .at) (loop .loop .i) (c .loop-test .left)) ∙ loop .loop .inv .0
+    sym (body-none (a .w) (a .coeffs .now) (loop .loop .bytes) (loop .loop .at) (loop .loop .i) (c .loop-test .left))
+    ∙ loop .loop .inv .0
 
 pub put-body-spec : {M : Type 1} → statement M
 put-body-spec =

@@ -19,7 +19,9 @@ returns-3 c = simp (c .if3 .taken)
 
 returns-4 : tie.Need-returns-4
 unfolding oneOf
-returns-4 c = simp (ne-eqb _ _ (c .before .before .if1 .left), ne-eqb _ _ (c .before .if2 .left), ne-eqb _ _ (c .if3 .left)) (or-false _)
+returns-4 c =
+    simp (ne-eqb _ _ (c .before .before .if1 .left), ne-eqb _ _ (c .before .if2 .left), ne-eqb _ _ (c .if3 .left))
+    (or-false _)
 
 pub is-width-spec : {M : Type 1} → statement M
 is-width-spec = tie.close (tie.spec returns returns-2 returns-3 returns-4)

@@ -33,14 +33,16 @@ returns : tie.Need-returns
 returns c =
     let start = c .before .before .before in
     passed (c .whole-of .result) (c .whole-of .ok) ∙ c .whole-of .ensures
-    ∙ signed-low (start .args .w) (c .before .before .top-of .result) (start .args .v) (c .before .before .top-of .ensures)
+    ∙ signed-low (start .args .w) (c .before .before .top-of .result) (start .args .v)
+    (c .before .before .top-of .ensures)
     (c .before .if1 .taken)
 
 returns-2 : tie.Need-returns-2
 returns-2 c =
     let start = c .before .before .before in
     passed (c .whole-of2 .result) (c .whole-of2 .ok) ∙ c .whole-of2 .ensures
-    ∙ signed-high (start .args .w) (c .before .before .top-of .result) (start .args .v) (start .pre .0) (c .before .before .top-of .ensures)
+    ∙ signed-high (start .args .w) (c .before .before .top-of .result) (start .args .v) (start .pre .0)
+    (c .before .before .top-of .ensures)
     (c .before .if1 .left)
 
 pub signed-of-spec : {M : Type 1} → statement M

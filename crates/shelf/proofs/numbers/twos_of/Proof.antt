@@ -14,7 +14,8 @@ top-of-requires c κs = search needs
 
 cast-result : tie.Need-cast-result
 cast-result c =
-    casts (turned (c .before .before .args .x) (c .before .before .fits .x) (c .if1 .taken)) (c .before .before .fits .x .sfits)
+    casts (turned (c .before .before .args .x) (c .before .before .fits .x) (c .if1 .taken))
+    (c .before .before .fits .x .sfits)
 
 sub-result : tie.Need-sub-result
 sub-result c =
@@ -34,7 +35,8 @@ add-result-2 c =
 
 cast-result-2 : tie.Need-cast-result-2
 cast-result-2 c =
-    casts (plain (c .before .before .args .x) (c .before .before .fits .x) (c .if1 .left)) (c .before .before .fits .x .sfits)
+    casts (plain (c .before .before .args .x) (c .before .before .fits .x) (c .if1 .left))
+    (c .before .before .fits .x .sfits)
 
 returns : tie.Need-returns
 returns c =

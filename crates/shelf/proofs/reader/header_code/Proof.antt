@@ -8,7 +8,8 @@ use borrow.Author.Needs.{needs}
 use borrow.Author.Tests.{not-true, not-false}
 use Rattle.shelf.specs.Numbers.{widths, oneOf}
 use Rattle.shelf.specs.Format.{isKind, marked, kindIn, widthIn}
-use Rattle.shelf.proofs.Reading.{header-short, header-unmarked, header-kind, header-width, header-zero, header-right}
+use Rattle.shelf.proofs.Reading.{header-short, header-unmarked, header-kind, header-width, header-zero}
+use Rattle.shelf.proofs.Reading.{header-right}
 use Rattle.shelf.proofs.reader.header_code.Statement.{statement}
 use Rattle.shelf.proofs.reader.header_code.Tie as tie
 
@@ -31,11 +32,13 @@ mark-ok c = sym (c .before .is-marked .ensures) ∙ not-false _ (c .if2 .left)
 
 kind-ok : (c : tie.Else3) → isKind (kindIn (bytes3 c)) ≡ true
 unfolding kindIn
-kind-ok c = sym (c .before .is-kind .ensures ∙ ap isKind (c .before .before .field .ensures)) ∙ not-false _ (c .if3 .left)
+kind-ok c = sym (c .before .is-kind .ensures ∙ ap isKind (c .before .before .field .ensures))
+    ∙ not-false _ (c .if3 .left)
 
 width-ok : (c : tie.Else4) → oneOf widths (widthIn (bytes4 c)) ≡ true
 unfolding widthIn
-width-ok c = sym (c .before .is-width .ensures ∙ ap (oneOf widths) (c .before .before .field2 .ensures)) ∙ not-false _ (c .if4 .left)
+width-ok c = sym (c .before .is-width .ensures ∙ ap (oneOf widths) (c .before .before .field2 .ensures))
+    ∙ not-false _ (c .if4 .left)
 
 returns : tie.Need-returns
 returns c = sym (header-short _ (c .if1 .taken))
@@ -44,7 +47,9 @@ is-marked-requires : tie.Need-is-marked-requires
 is-marked-requires c κs = search needs
 
 returns-2 : tie.Need-returns-2
-returns-2 c = sym (header-unmarked _ (c .before .before .if1 .left) (sym (c .before .is-marked .ensures) ∙ not-true _ (c .if2 .taken)))
+returns-2 c =
+    sym (header-unmarked _ (c .before .before .if1 .left) (sym (c .before .is-marked .ensures)
+    ∙ not-true _ (c .if2 .taken)))
 
 field-requires : tie.Need-field-requires
 field-requires c κs = search needs
@@ -56,7 +61,8 @@ returns-3 : tie.Need-returns-3
 unfolding kindIn
 returns-3 c =
     let e = c .before .before .before in
-    sym (header-kind _ (long e) (mark-ok e) (sym (c .before .is-kind .ensures ∙ ap isKind (c .before .before .field .ensures))
+    sym (header-kind _ (long e) (mark-ok e)
+    (sym (c .before .is-kind .ensures ∙ ap isKind (c .before .before .field .ensures))
     ∙ not-true _ (c .if3 .taken)))
 
 field-requires-2 : tie.Need-field-requires-2
@@ -70,7 +76,8 @@ unfolding widthIn
 returns-4 c =
     let k = c .before .before .before in
     let e = k .before .before .before in
-    sym (header-width _ (long e) (mark-ok e) (kind-ok k) (sym (c .before .is-width .ensures ∙ ap (oneOf widths) (c .before .before .field2 .ensures))
+    sym (header-width _ (long e) (mark-ok e) (kind-ok k)
+    (sym (c .before .is-width .ensures ∙ ap (oneOf widths) (c .before .before .field2 .ensures))
     ∙ not-true _ (c .if4 .taken)))
 
 index-in-requires : tie.Need-index-in-requires
@@ -81,14 +88,16 @@ returns-5 c =
     let w = c .before .before in
     let k = w .before .before .before in
     let e = k .before .before .before in
-    sym (header-zero _ (long e) (mark-ok e) (kind-ok k) (width-ok w) (sym (c .before .index-in .ensures .0) ∙ c .if5 .taken))
+    sym (header-zero _ (long e) (mark-ok e) (kind-ok k) (width-ok w) (sym (c .before .index-in .ensures .0)
+    ∙ c .if5 .taken))
 
 returns-6 : tie.Need-returns-6
 returns-6 c =
     let w = c .before .before in
     let k = w .before .before .before in
     let e = k .before .before .before in
-    sym (header-right _ (long e) (mark-ok e) (kind-ok k) (width-ok w) (λ z. c .if5 .left (c .before .index-in .ensures .0 ∙ z)))
+    sym (header-right _ (long e) (mark-ok e) (kind-ok k) (width-ok w)
+    (λ z. c .if5 .left (c .before .index-in .ensures .0 ∙ z)))
 
 pub header-code-spec : {M : Type 1} → statement M
 header-code-spec =

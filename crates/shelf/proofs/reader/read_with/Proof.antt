@@ -8,11 +8,13 @@ use lib.Dec.{lit<}
 use Rattle.shelf.specs.Numbers.{width}
 use Rattle.shelf.specs.Format.{kindIn, widthIn, countIn, coefficientsIn, sizeIn, readTells}
 use Rattle.shelf.proofs.Writing.{few}
-use Rattle.shelf.proofs.Reading.{right, in-bounds, count-wrong, cut, no-room, width-wrong, filled, size-in, seen-in, filled-in}
+use Rattle.shelf.proofs.Reading.{right, in-bounds, count-wrong, cut, no-room, width-wrong, filled, size-in}
+use Rattle.shelf.proofs.Reading.{seen-in, filled-in}
 use Rattle.shelf.proofs.reader.read_with.Statement.{statement}
 use Rattle.shelf.proofs.reader.read_with.Tie as tie
 
--- the function's start, from the place past the test of the count; the bytes, and the width and the count that were read
+-- the function's start, from the place past the test of the count; the bytes, and the width and the count that were
+-- read
 abbrev from : tie.Else1 → tie.Start
 from c = c .before .before .before .before
 
@@ -43,10 +45,12 @@ small : (c : tie.Else1) → k c * w c ≤ 524288
 small c = few _ _ _ (c .if1 .left) (from c .pre .1) (bounds c .1)
 
 -- and the look's result
-seen : (c : tie.After-least-width) → c .least-width .result ≡ width (coefficientsIn (bytes (c .before .before .before .before)))
+seen : (c : tie.After-least-width) → c .least-width .result
+    ≡ width (coefficientsIn (bytes (c .before .before .before .before)))
 seen c =
     let e = c .before .before .before .before in
-    seen-in _ _ _ (width-is e) (e .before .count-in .ensures) _ _ (c .before .height-in .ensures) (c .least-width .ensures)
+    seen-in _ _ _ (width-is e) (e .before .count-in .ensures) _ _ (c .before .height-in .ensures)
+    (c .least-width .ensures)
 
 field-requires : tie.Need-field-requires
 field-requires c κs = (right _ (c .before .pre .0) .long, lit< tt)
@@ -82,7 +86,8 @@ unfolding readTells
 returns-2 c =
     let e = c .before .before in
     let start = from e in
-    let p = cut (start .args .degree) (bytes e) (start .args .coeffs .now) (start .pre .0) (count-ok e) (omega (arith, whole e)) in
+    let p = cut (start .args .degree) (bytes e) (start .args .coeffs .now) (start .pre .0) (count-ok e)
+    (omega (arith, whole e)) in
     (c .refused2 .ensures ∙ p .0, p .1)
 
 refused-requires-3 : tie.Need-refused-requires-3
@@ -93,7 +98,8 @@ unfolding readTells
 returns-3 c =
     let e = c .before .before .before in
     let start = from e in
-    let p = no-room (start .args .degree) (bytes e) (start .args .coeffs .now) (start .pre .0) (count-ok e) (omega (arith, whole e))
+    let p = no-room (start .args .degree) (bytes e) (start .args .coeffs .now) (start .pre .0) (count-ok e)
+    (omega (arith, whole e))
     (omega (arith, e .before .count-in .ensures)) in
     (c .refused3 .ensures ∙ p .0, p .1)
 
@@ -141,8 +147,10 @@ returns-5 c =
     let e = look .before .before .before .before in
     let start = from e in
     let right = filled (start .args .degree) (bytes e) (start .args .coeffs .now) (start .pre .0) (count-ok e) in
-    let p = right (omega (arith, whole e)) (omega (arith, e .before .count-in .ensures)) (sym (seen look) ∙ test .if4 .left ∙ width-is e) in
-    let left = filled-in (bytes e) _ _ (width-is e) (e .before .count-in .ensures) (start .args .coeffs .now) _ (omega arith)
+    let p = right (omega (arith, whole e)) (omega (arith, e .before .count-in .ensures))
+    (sym (seen look) ∙ test .if4 .left ∙ width-is e) in
+    let left = filled-in (bytes e) _ _ (width-is e) (e .before .count-in .ensures) (start .args .coeffs .now) _
+    (omega arith)
     (c .before .before .before .fill .ensures) in
     (rw (whole e, c .before .field2 .ensures, c .index-in .ensures .0) (p .0), left ∙ p .1)
 

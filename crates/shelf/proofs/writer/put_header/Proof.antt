@@ -30,12 +30,14 @@ put-requires-2 c κs =
 same-length : tie.Need-same-length
 same-length c =
     let a = c .before .before .before .before .before .before .before .before .before .args in
-    c .before .before .put2 .kept .0 ∙ c .before .before .before .before .before .before .put .kept .0 ∙ four-long (a .bytes .now) (a .kind) (a .w)
+    c .before .before .put2 .kept .0 ∙ c .before .before .before .before .before .before .put .kept .0
+    ∙ four-long (a .bytes .now) (a .kind) (a .w)
 
 returns : tie.Need-returns
 returns c =
     let a = c .before .before .before .before .before .before .before .before .before .args in
-    header-stored (a .bytes .now) _ _ (a .kind) (a .w) (a .n) (a .count) (c .before .before .before .before .before .before .put .ensures)
+    header-stored (a .bytes .now) _ _ (a .kind) (a .w) (a .n) (a .count)
+    (c .before .before .before .before .before .before .put .ensures)
     (c .before .before .put2 .ensures)
 
 pub put-header-spec : {M : Type 1} → statement M

@@ -24,8 +24,12 @@ put-body-requires c κs =
     let start = c .before .before .before .before .before .before in
     let cs = start .args .coeffs .now in
     let w = start .args .w in
-    let f = width-fits cs w (start .pre .1) (start .pre .2) in
-    (f .low, f .high, f .takes, omega (arith, length-body w cs, size-made cs w (start .pre .1), c .before .before .before .put-header .kept .0))
+    let f = width-fits cs w (start .pre .1) (start .pre .2) in (
+      f .low,
+      f .high,
+      f .takes,
+      omega (arith, length-body w cs, size-made cs w (start .pre .1), c .before .before .before .put-header .kept .0),
+    )
 
 same-length : tie.Need-same-length
 same-length c = search needs
@@ -33,8 +37,10 @@ same-length c = search needs
 returns : tie.Need-returns
 returns c =
     let start = c .before .before .before .before .before .before .before .before .before in
-    record-made (start .args .kind) (start .args .n) (start .args .w) (start .args .coeffs .now) (start .args .bytes .now) _ _ (start .pre .1)
-    (start .pre .3) (c .before .before .before .before .before .before .put-header .ensures) (c .before .before .put-body .ensures)
+    record-made (start .args .kind) (start .args .n) (start .args .w) (start .args .coeffs .now)
+    (start .args .bytes .now) _ _ (start .pre .1)
+    (start .pre .3) (c .before .before .before .before .before .before .put-header .ensures)
+    (c .before .before .put-body .ensures)
 
 pub store-spec : {M : Type 1} → statement M
 store-spec =

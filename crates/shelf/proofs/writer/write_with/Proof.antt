@@ -10,7 +10,8 @@ use borrow.Author.Tests.{not-true, not-false}
 use Rattle.shelf.specs.Numbers.{width}
 use Rattle.shelf.specs.Format.{size, isKind, writeTells}
 use Rattle.shelf.proofs.Least.{Fitting, width-none, width-made, width-fits}
-use Rattle.shelf.proofs.Writing.{kind-wrong, index-wrong, count-wrong, too-low, no-room, stored, size-made, index-zero, index-above, index-right, few, kind-small, nonzero}
+use Rattle.shelf.proofs.Writing.{kind-wrong, index-wrong, count-wrong, too-low, no-room, stored, size-made}
+use Rattle.shelf.proofs.Writing.{index-zero, index-above, index-right, few, kind-small, nonzero}
 use Rattle.shelf.proofs.writer.write_with.Statement.{statement}
 use Rattle.shelf.proofs.writer.write_with.Tie as tie
 
@@ -40,7 +41,8 @@ made c = width-made _ _ _ (c .before .before .height .ensures) (c .before .least
 fit : (c : tie.Else5) → Fitting (from5 c .args .coeffs .now) (c .before .least-width .result)
 fit c = width-fits _ _ (made c) (nonzero _ (c .if5 .left))
 
-whole : (c : tie.Else5) → 10 + length (from5 c .args .coeffs .now) * c .before .least-width .result ≡ size (from5 c .args .coeffs .now)
+whole : (c : tie.Else5) → 10 + length (from5 c .args .coeffs .now) * c .before .least-width .result
+    ≡ size (from5 c .args .coeffs .now)
 whole c = size-made _ _ (made c)
 
 small : (c : tie.Else5) → length (from5 c .args .coeffs .now) * c .before .least-width .result ≤ 524288
@@ -82,7 +84,8 @@ returns-5 c =
     let counted = c .before .before .before in
     let e = counted .before in
     let w = width-made _ _ _ (c .before .before .height .ensures) (c .before .least-width .ensures) in
-    too-low _ _ _ _ _ (kind-ok (e .before .before)) (index-ok e) (counted .if4 .left) (width-none _ (sym w ∙ c .if5 .taken))
+    too-low _ _ _ _ _ (kind-ok (e .before .before)) (index-ok e) (counted .if4 .left)
+    (width-none _ (sym w ∙ c .if5 .taken))
 
 mul-size : tie.Need-mul-size
 mul-size c = omega (arith, small c)
@@ -95,7 +98,8 @@ unfolding writeTells
 returns-6 c =
     let counted = c .before .before .before .before in
     let e = counted .before in
-    no-room _ _ _ _ _ (kind-ok (e .before .before)) (index-ok e) (counted .if4 .left) (fit (c .before) .within) (omega (arith, whole (c .before)))
+    no-room _ _ _ _ _ (kind-ok (e .before .before)) (index-ok e) (counted .if4 .left) (fit (c .before) .within)
+    (omega (arith, whole (c .before)))
 
 store-requires : tie.Need-store-requires
 store-requires c κs =
@@ -113,7 +117,8 @@ returns-7 c =
     let counted = over .before .before .before in
     let e = counted .before in
     let a = from5 over .args in
-    let p = stored (a .degree) (a .kind) (a .n) (a .coeffs .now) (a .bytes .now) (kind-ok (e .before .before)) (index-ok e) (counted .if4 .left)
+    let p = stored (a .degree) (a .kind) (a .n) (a .coeffs .now) (a .bytes .now) (kind-ok (e .before .before))
+    (index-ok e) (counted .if4 .left)
     (fit over .within) (omega (arith, whole over)) in
     (rw (whole over) (p .0), c .before .before .store .ensures ∙ p .1)
 

@@ -16,7 +16,8 @@ use Rattle.steps.proofs.Step.apply.Statement.{statement}
 use Rattle.steps.proofs.Step.apply.Tie as tie
 
 -- the contract's three clauses
-clauses : {s : Sort} {d : ℕ} {l : List ℤ} {code count : ℕ} {m : List ℤ} → Told largest s d l code count m → (code ≡ stepCode largest s d l) × ((count ≡ stepCount largest s d l) × (m ≡ stepLeaves largest s d l))
+clauses : {s : Sort} {d : ℕ} {l : List ℤ} {code count : ℕ} {m : List ℤ} → Told largest s d l code count m
+    → (code ≡ stepCode largest s d l) × ((count ≡ stepCount largest s d l) × (m ≡ stepLeaves largest s d l))
 clauses t = (t .code, (t .count, t .leaves))
 
 module _ {s : Sort} {d : ℕ} {l m : List ℤ} {r : Bool} (t : Taken s d l m r) (one : 1 ≤ d) (most : d ≤ 65535) where
@@ -35,10 +36,14 @@ returns : tie.Need-returns
 returns c = clauses (told-zero largest _ (c .before .args .self .size) (c .before .args .a .now) (c .if1 .taken))
 
 returns-2 : tie.Need-returns-2
-returns-2 c = clauses (told-large largest _ (c .before .before .args .self .size) (c .before .before .args .a .now) (c .if2 .taken))
+returns-2 c =
+    clauses (told-large largest _ (c .before .before .args .self .size) (c .before .before .args .a .now)
+    (c .if2 .taken))
 
 returns-3 : tie.Need-returns-3
-returns-3 c = clauses (told-long largest _ (c .before .before .before .args .self .size) (c .before .before .before .args .a .now) (omega arith) (c .before .if2 .left) (c .if3 .taken))
+returns-3 c =
+    clauses (told-long largest _ (c .before .before .before .args .self .size) (c .before .before .before .args .a .now)
+    (omega arith) (c .before .if2 .left) (c .if3 .taken))
 
 taken-requires : tie.Need-taken-requires
 taken-requires c κs = search needs
@@ -50,13 +55,17 @@ same-length : tie.Need-same-length
 same-length c = search needs
 
 returns-4 : tie.Need-returns-4
-returns-4 c = clauses (done (c .before .before .taken .ensures) (omega arith) (c .before .before .before .before .before .if2 .left) (c .if4 .taken))
+returns-4 c =
+    clauses (done (c .before .before .taken .ensures) (omega arith)
+    (c .before .before .before .before .before .if2 .left) (c .if4 .taken))
 
 same-length-2 : tie.Need-same-length-2
 same-length-2 c = search needs
 
 returns-5 : tie.Need-returns-5
-returns-5 c = clauses (refused (c .before .before .taken .ensures) (omega arith) (c .before .before .before .before .before .if2 .left) (c .if4 .left))
+returns-5 c =
+    clauses (refused (c .before .before .taken .ensures) (omega arith)
+    (c .before .before .before .before .before .if2 .left) (c .if4 .left))
 
 pub apply-spec : {M : Type 1} → statement M
 apply-spec =

@@ -21,7 +21,8 @@ without-requires c κs =
 
 returns : tie.Need-returns
 returns c =
-    looked (c .before .before .before .before) .hit _ _ (c .before .before .before .if1 .taken) (c .before .with .ensures) (c .without .ensures)
+    looked (c .before .before .before .before) .hit _ _ (c .before .before .before .if1 .taken)
+    (c .before .with .ensures) (c .without .ensures)
 
 returns-2 : tie.Need-returns-2
 returns-2 c = looked (c .before) .miss (c .if1 .left)

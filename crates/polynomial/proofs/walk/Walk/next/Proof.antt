@@ -21,7 +21,8 @@ sub-t13 c = search needs
 
 returns-2 : tie.Need-returns-2
 returns-2 c =
-    walk-next _ (c .before .before .before .before .before .pre) _ _ (c .before .before .before .before .if1 .left) (c .before .full .ensures) (c .before .before .least .ensures)
+    walk-next _ (c .before .before .before .before .before .pre) _ _ (c .before .before .before .before .if1 .left)
+    (c .before .full .ensures) (c .before .before .least .ensures)
 
 pub next-spec : {M : Type 1} → statement M
 next-spec = tie.close (tie.spec returns least-requires full-requires sub-others sub-t13 returns-2)
