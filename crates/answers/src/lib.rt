@@ -1,6 +1,8 @@
 // What the requests answer, one struct each, with document 01's codes. Every number is 64 bits; the order of the fields
 // is that of the C library.
 
+ghost use mathlib.Core.Path.{_≡_};
+
 pub const DONE: u64 = 0;
 
 pub const KIND: u64 = 1;
@@ -40,4 +42,33 @@ pub struct Stop {
     pub degree: u64,
     pub additions: u64,
     pub due: u64,
+}
+
+impl Answer {
+    // A refusal: its code and the degree that it tells; the rest is 0.
+    pub fn refused(code: u64, degree: u64) -> Answer
+        ensures { λ r. ⌜ r ≡ record { code = code; degree = degree; additions = 0; height = 0; gain = 0 } ⌝ }
+    {
+        Answer {
+            code,
+            degree,
+            additions: 0,
+            height: 0,
+            gain: 0,
+        }
+    }
+}
+
+impl Stop {
+    // A refusal: its code and the half degree that it tells; the rest is 0.
+    pub fn refused(code: u64, degree: u64) -> Stop
+        ensures { λ r. ⌜ r ≡ record { code = code; degree = degree; additions = 0; due = 0 } ⌝ }
+    {
+        Stop {
+            code,
+            degree,
+            additions: 0,
+            due: 0,
+        }
+    }
 }

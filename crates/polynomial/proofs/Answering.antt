@@ -5,31 +5,24 @@ use mathlib.Core.Bool.{Bool, true, false, cond}
 use mathlib.Core.Logic.{_≢_, _⊎_, inl, inr, ⊎-elim}
 use mathlib.Core.List.{List, _++_}
 use native.Mathlib.Omega.{arith}
-use native.Mathlib.Nat as NatL
 use native.Mathlib.Numerals.{add-one}
-use borrow.Author.Tests.{le-leb, lt-leb, eq-eqb, ne-eqb, lt-ltb, le-ltb}
+use borrow.Author.Tests.{le-leb, lt-leb, eq-eqb, ne-eqb}
 use lib.ListN.{length, drop, length-replicate}
-use lib.Dec.{eqb, ltb}
+use lib.Dec.{eqb}
 use lib.IntN.{ℤ, pos}
 use lib.Signed.{ltZ}
 use Rattle.definitions.specs.Integers.{0ℤ}
 use Rattle.definitions.specs.Codes.{DONE, KIND, INDEX, LIMIT, SHORT, OVER, TALL}
-use Rattle.definitions.specs.Numbers.{rOf, countTo, phi}
+use Rattle.definitions.specs.Numbers.{rOf}
 use Rattle.definitions.specs.Polynomials.{degree, polynomial}
 use Rattle.definitions.specs.Steps.{largest}
 use Rattle.definitions.specs.Requests.{knownKind, goodIndex, divisorsDue, overAmong, written, zeros}
 use Rattle.definitions.specs.Answer.{coefficients, height, gain, additionsFor}
-use Rattle.numbers.specs.Phi.{phi-le}
-use Rattle.numbers.specs.Tests.{not-both, test-and, test-lt, test-le}
-use Rattle.step_laws.specs.Tests.{by-order}
-use native.Mathlib.Decide.{ℕ-discrete}
 use Rattle.step_laws.specs.Firsts.{length-firsts}
 use Rattle.answers.specs.Polynomial.{code, answered, answer, left, leaves}
 use Rattle.answers.specs.declared.Answer.{Answer}
-use Rattle.polynomial.specs.Held.{apartOf}
-use Rattle.polynomial.specs.Wholes.{Laid, layCode}
-use Rattle.polynomial.specs.declared.apart.Apart.{Apart}
-use Rattle.polynomial.specs.declared.whole.Layout.{Layout}
+use Rattle.polynomial.specs.Making.{MakingOutcomeIs, makingCode}
+use Rattle.polynomial.specs.declared.making.MakingOutcome.{MakingOutcome}
 
 -- ---- codes
 module _ (kind n : ℕ) (h : ℤ) (room : ℕ) where
@@ -51,8 +44,8 @@ module _ (kind n : ℕ) (h : ℤ) (room : ℕ) where
       unfolding code
       ask-short b = rw (e, f, g, le-leb room (degree kind n) b)
 
-      pub ask-last : degree kind n < room → code kind n h room ≡ layCode kind n h
-      unfolding code layCode
+      pub ask-last : degree kind n < room → code kind n h room ≡ makingCode kind n h
+      unfolding code makingCode
       ask-last b = rw (e, f, g, lt-leb room (degree kind n) b)
 
 -- ---- outcomes
@@ -113,7 +106,7 @@ module _ (kind n : ℕ) (h : ℤ) (l : List ℤ) where
   module _
       (e : knownKind kind ≡ true) (f : goodIndex n ≡ true) (g : ltZ h (pos 1) ≡ false) (d : ℕ) (ed : d ≡ degree kind n)
       (room : d < length l)
-      (m : List ℤ) (r : Layout) (laid : Laid kind n h m r)
+      (m : List ℤ) (r : MakingOutcome) (laid : MakingOutcomeIs kind n h m r)
     where
       last-code : code kind n h (length l) ≡ r .code
       last-code = ask-last kind n h (length l) e f g (omega arith) ∙ sym (laid .code)
@@ -129,7 +122,7 @@ module _ (kind n : ℕ) (h : ℤ) (l : List ℤ) where
       two false false q = absurd (q refl)
 
       which : r .code ≢ DONE → (r .code ≡ OVER) ⊎ (r .code ≡ TALL)
-      unfolding layCode
+      unfolding makingCode
       which q =
           ⊎-elim (λ x. inl (laid .code ∙ x)) (λ x. inr (laid .code ∙ x))
           (two (overAmong largest kind (rOf n) (divisorsDue (rOf n))) (ltZ h (pos (height kind n)))
@@ -168,37 +161,3 @@ module _ (kind n : ℕ) (h : ℤ) (l : List ℤ) where
               → _≡_ {A = Answer} (record { code = DONE; degree = x; additions = y; height = z; gain = u })
               (record { code = DONE; degree = x′; additions = y′; height = z′; gain = u′ })
           same p q r s i = record { code = DONE; degree = p i; additions = q i; height = r i; gain = s i }
-
--- ---- the degree, as it is computed
-module _ (kind n : ℕ) (x : Apart) (e : x ≡ apartOf n) where
-  pub phi-is : x .phi ≡ phi n
-  unfolding apartOf
-  phi-is = ap (λ (y : Apart). y .phi) e
-
-  pub phi-within : x .phi ≤ n
-  phi-within = omega (arith, phi-is, phi-le n)
-
-  pub degree-is : (d : ℕ) → d ≡ cond (eqb kind 1) (x .phi) (n - x .phi) → d ≡ degree kind n
-  unfolding degree
-  degree-is d q = q ∙ ap (λ f. cond (eqb kind 1) f (n - f)) phi-is
-
--- the tests of `degree_of`: above 65,535 there is no degree, and at 0 it is 0
-none-at-zero : (kind : ℕ) → degree kind 0 ≡ 0
-unfolding degree phi countTo
-none-at-zero kind = go (eqb kind 1)
-  where
-    go : (b : Bool) → cond b (phi 0) (0 - phi 0) ≡ 0
-    go true = refl
-    go false = refl
-
-pub no-degree : (kind n : ℕ) → goodIndex n ≡ false → 0 ≡ cond (ltb 65535 n) 0 (degree kind n)
-unfolding goodIndex
-no-degree kind n e =
-    by-order 65535 n (λ h. rw (lt-ltb 65535 n h)) (λ h. rw (le-ltb 65535 n h) (inside h (ℕ-discrete n 0)))
-  where
-    inside : n ≤ 65535 → Dec (n ≡ 0) → 0 ≡ degree kind n
-    inside h (yes z) = sym (ap (degree kind) z ∙ none-at-zero kind)
-    inside h (no z) = absurd (not-both (test-and (test-lt 0 n) (test-le n 65535) .says (NatL.pos-of-ne-zero z, h)) e)
-
-pub its-degree : (kind n d : ℕ) → n ≤ 65535 → d ≡ degree kind n → d ≡ cond (ltb 65535 n) 0 (degree kind n)
-its-degree kind n d h e = e ∙ sym (ap (λ b. cond b 0 (degree kind n)) (le-ltb 65535 n h))

@@ -33,9 +33,9 @@ use Rattle.cyclotomic.specs.Kept.{kept-all, kept-start, step-kept}
 use Rattle.cyclotomic.specs.Heights.{height-half, height-one, at-most-height, height-least}
 use Rattle.answers.specs.Partial as Partial
 use Rattle.answers.specs.Polynomial as Polynomial
-use Rattle.polynomial.proofs.Advancing.{stays-inside}
-use Rattle.polynomial.proofs.Turning.{kept-length, divisor-in}
-use Rattle.polynomial.proofs.Running.{start-bounded}
+use Rattle.kept.proofs.Advancing.{stays-inside}
+use Rattle.kept.proofs.Turning.{kept-length, divisor-in}
+use Rattle.kept.proofs.Running.{start-bounded}
 use Rattle.polynomial.proofs.Growing.{half-within, front-entry}
 
 -- ---- what stands in front

@@ -28,11 +28,11 @@ use Rattle.numbers.specs.Phi.{phi-pos, phi-le}
 use Rattle.cyclotomic.specs.Mirrors.{turned, mirrored}
 use Rattle.cyclotomic.specs.Degrees.{monic-I}
 use Rattle.cyclotomic.specs.Apart.{first-copy, second-copy}
-use Rattle.polynomial.specs.Shapes.{mirroredUp, copiedFrom}
+use Rattle.shapes.specs.Shapes.{mirroredUp, negatedCopy}
 use Rattle.polynomial.specs.Growth.{Lower, FirstCopy}
 use Rattle.step_laws.specs.Signed.{abs-⊖}
-use Rattle.polynomial.proofs.Parts.{put-before, put-in, put-length}
-use Rattle.polynomial.proofs.Shaping.{mirrored-low, mirrored-high, copied-low, copied-high}
+use Rattle.shapes.proofs.Stretches.{put-before, put-in, put-length}
+use Rattle.shapes.proofs.Shaping.{mirrored-low, mirrored-high, copied-low, copied-high}
 
 -- the half of N + 1 entries, rounded up, is D + 1
 pub half-number : (kind r : ℕ) → (degree kind r + 1 + 1) / 2 ≡ halfDegree kind r + 1
@@ -108,7 +108,7 @@ module _ (r top : ℕ) (l : List ℤ) (w : FirstCopy r top l) where
 
   pub second-copies :
       (m : List ℤ) → ((i : ℕ) → i < top → entries m i ≡ entries l i) → ((i : ℕ) → top ≤ i → i < r → entries m i ≡ 0ℤ)
-      → (i : ℕ) → i < r + top → copiedFrom r (entries m) i ≡ I (2 * r) i
+      → (i : ℕ) → i < r + top → negatedCopy r (entries m) i ≡ I (2 * r) i
   unfolding polynomial
   second-copies m low gap i h =
       by-order i r
@@ -156,10 +156,10 @@ module _ (r top : ℕ) (l : List ℤ) (w : FirstCopy r top l) where
 
     pub second-done :
         (x : List ℤ)
-        → x ≡ firsts (length (putMid top (r - top) l ys)) (copiedFrom r (entries (putMid top (r - top) l ys)))
+        → x ≡ firsts (length (putMid top (r - top) l ys)) (negatedCopy r (entries (putMid top (r - top) l ys)))
         → x ≡ firsts (length l) (I (2 * r))
     second-done x e =
-        e ∙ ap (λ k. firsts k (copiedFrom r (entries (putMid top (r - top) l ys)))) cleared-length
+        e ∙ ap (λ k. firsts k (negatedCopy r (entries (putMid top (r - top) l ys)))) cleared-length
         ∙ firsts-same (length l) _ (I (2 * r))
         (λ i h. second-copies (putMid top (r - top) l ys) low gap i (omega (arith, w .len)))
 

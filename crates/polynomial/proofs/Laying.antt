@@ -26,40 +26,51 @@ use Rattle.series.specs.Maps.{spread-on, spread-off}
 use Rattle.step_laws.specs.Firsts.{firsts-same, length-firsts, getD-firsts}
 use Rattle.cyclotomic.specs.Apart.{taken-apart}
 use Rattle.cyclotomic.specs.Degrees.{degree-apart}
-use Rattle.polynomial.specs.Held.{apartOf}
-use Rattle.polynomial.specs.Wholes.{Ready}
-use Rattle.polynomial.specs.declared.apart.Apart.{Apart}
-use Rattle.polynomial.proofs.Stopping.{index-good, apart-r, apart-free}
+use Rattle.polynomial.specs.Making.{Ready}
+use Rattle.index.specs.declared.Parts.{Parts}
+use Rattle.index.proofs.Laws.{index-good, parts-r, parts-m, parts-t, parts-free}
 use Rattle.polynomial.proofs.Growing.{front-entry, front-length}
 
-module _ (kind n : ℕ) (a : Apart) (l : List ℤ) (R : Ready kind n a l) where
+-- what the making goes by: `top`, the degree for m, has room; and where the first entries are the polynomial of m, z^t
+-- for z makes that of n
+pub record LaidOut (kind n : ℕ) (a : Parts) (l : List ℤ) (top : ℕ) : Type 0 where
+  pub t-pos : 1 ≤ a .t
+  pub top-room : top + 1 ≤ length l
+  pub r-room : degree kind (rOf n) + 1 ≤ top + 1
+  pub part-length : length (take (top + 1) l) ≡ top + 1
+  pub part-of-m : {m : ℕ} → m ≡ mOf n → length (take (top + 1) l) ≡ degree kind m + 1
+  pub spaced-length : {m : ℕ} → m ≡ mOf n → (x : List ℤ)
+      → x ≡ firsts (length (take (top + 1) l)) (polynomial kind m)
+      → length (x ++ drop (top + 1) l) ≡ top * a .t + 1
+  pub spaced : {m : ℕ} → m ≡ mOf n → (x : List ℤ)
+      → x ≡ firsts (length (take (top + 1) l)) (polynomial kind m)
+      → (y : List ℤ)
+      → y ≡ firsts (length (x ++ drop (top + 1) l)) (spread (a .t) (entries (x ++ drop (top + 1) l)))
+      → y ≡ coefficients kind n
+
+module _ (kind n : ℕ) (a : Parts) (l : List ℤ) (R : Ready kind n a l) where
   pub above-zero : 0 < n
   above-zero = index-good n (R .good) .0
 
   pub r-is : a .r ≡ rOf n
-  r-is = apart-r n (R .good) a (R .apart)
+  r-is = parts-r n a (R .parts)
 
-  pub m-is : a .m ≡ mOf n
-  unfolding apartOf
-  m-is = ap (λ (y : Apart). y .m) (R .apart)
+  m-is : a .m ≡ mOf n
+  m-is = parts-m n a (R .parts)
 
-  pub t-is : a .t ≡ tOf n
-  unfolding apartOf
-  t-is = ap (λ (y : Apart). y .t) (R .apart)
+  t-is : a .t ≡ tOf n
+  t-is = parts-t n a (R .parts)
 
   pub free-is : a .free ≡ phi (rOf n)
-  free-is = apart-free n (R .good) a (R .apart) ∙ ap phi r-is
+  free-is = parts-free n a (R .parts)
 
   free-m : a .free ≡ phi (a .m)
   free-m = free-is ∙ sym (ap phi m-is ∙ phi-m n)
 
-  pub free-le : a .free ≤ a .m
-  free-le = omega (arith, free-m, phi-le (a .m))
-
   positive : (x y : ℕ) → x * y ≡ n → 0 < x
   positive x y e = NatL.pos-of-ne-zero (λ z. omega (arith, ap (λ s. s * y) z, NatL.zero-mul y, above-zero))
 
-  pub t-pos : 1 ≤ a .t
+  t-pos : 1 ≤ a .t
   t-pos = rw t-is (positive (tOf n) (mOf n) (NatL.mul-comm (tOf n) (mOf n) ∙ m-times-t n))
 
   pub m-by-parity : cond (eqb (n % 2) 0) (2 * a .r) (a .r) ≡ mOf n
@@ -92,36 +103,26 @@ module _ (kind n : ℕ) (a : Apart) (l : List ℤ) (R : Ready kind n a l) where
 
   -- the degree for m, as it is computed
   module _ (top : ℕ) (e : top ≡ cond (eqb kind 1) (a .free) (a .m - a .free)) where
-    pub top-is : top ≡ degree kind (mOf n)
+    top-is : top ≡ degree kind (mOf n)
     unfolding degree
     top-is = e ∙ ap₂ (λ f m. cond (eqb kind 1) f (m - f)) free-m refl
         ∙ ap (λ m. cond (eqb kind 1) (phi m) (m - phi m)) m-is
 
-    pub room-is : length l ≡ top * a .t + 1
+    room-is : length l ≡ top * a .t + 1
     room-is = R .room ∙ ap (λ d. d + 1) (degree-apart kind n above-zero ∙ ap₂ _*_ (sym top-is) (sym t-is))
 
-    pub top-room : top + 1 ≤ length l
+    top-room : top + 1 ≤ length l
     top-room = omega (arith, room-is, NatL.le-mul-of-pos-right top t-pos)
 
-    pub r-room : degree kind (rOf n) + 1 ≤ top + 1
+    r-room : degree kind (rOf n) + 1 ≤ top + 1
     r-room = omega (arith, r-degree, top-is)
 
-    pub part-length : length (take (top + 1) l) ≡ top + 1
+    part-length : length (take (top + 1) l) ≡ top + 1
     part-length = length-take-le (top + 1) l top-room
-
-    pub grown-is : (x : List ℤ)
-        → x ≡ firsts (length (take (top + 1) l)) (polynomial kind (cond (eqb (n % 2) 0) (2 * a .r) (a .r)))
-        → x ≡ firsts (top + 1) (polynomial kind (mOf n))
-    grown-is x e = e ∙ ap₂ (λ k m. firsts k (polynomial kind m)) part-length m-by-parity
-
-    pub tiny-is : rOf n ≡ 1 → (x : List ℤ)
-        → x ≡ firsts (length (take (top + 1) l)) (polynomial kind (cond (eqb (n % 2) 0) 2 1))
-        → x ≡ firsts (top + 1) (polynomial kind (mOf n))
-    tiny-is o x e = e ∙ ap₂ (λ k m. firsts k (polynomial kind m)) part-length (tiny-m o)
 
     -- the first entries are the polynomial of m
     module _ (x : List ℤ) (q : x ≡ firsts (top + 1) (polynomial kind (mOf n))) where
-      pub spaced-length : length (x ++ drop (top + 1) l) ≡ top * a .t + 1
+      spaced-length : length (x ++ drop (top + 1) l) ≡ top * a .t + 1
       spaced-length =
           length-append x (drop (top + 1) l)
           ∙ omega (
@@ -151,7 +152,7 @@ module _ (kind n : ℕ) (a : Apart) (l : List ℤ) (R : Ready kind n a l) where
       at-k k h (no z) = spread-off (a .t) k (entries (x ++ drop (top + 1) l)) z
           ∙ sym (spread-off (a .t) k (polynomial kind (mOf n)) z)
 
-      pub spaced :
+      spaced :
           (y : List ℤ) → y ≡ firsts (length (x ++ drop (top + 1) l)) (spread (a .t) (entries (x ++ drop (top + 1) l)))
           → y ≡ coefficients kind n
       unfolding coefficients
@@ -161,3 +162,21 @@ module _ (kind n : ℕ) (a : Apart) (l : List ℤ) (R : Ready kind n a l) where
           (λ k h. at-k k h (ℕ-discrete (k % a .t) 0))
           ∙ ap₂ firsts (sym room-is ∙ R .room ∙ add-one (degree kind n))
           (ap (λ t. spread t (polynomial kind (mOf n))) t-is ∙ sym (taken-apart kind n above-zero))
+
+    -- m, however it was computed
+    module _ {m : ℕ} (em : m ≡ mOf n) where
+      of-m : (x : List ℤ) → x ≡ firsts (length (take (top + 1) l)) (polynomial kind m)
+          → x ≡ firsts (top + 1) (polynomial kind (mOf n))
+      of-m x e = e ∙ ap₂ (λ k j. firsts k (polynomial kind j)) part-length em
+
+    pub laid-out : LaidOut kind n a l top
+    laid-out =
+        record {
+          t-pos = t-pos;
+          top-room = top-room;
+          r-room = r-room;
+          part-length = part-length;
+          part-of-m = λ em. part-length ∙ ap (λ d. d + 1) (top-is ∙ ap (degree kind) (sym em));
+          spaced-length = λ em x q. spaced-length x (of-m em x q);
+          spaced = λ em x q. spaced x (of-m em x q);
+        }

@@ -1,17 +1,8 @@
--- Laws that the functions' proofs share.
-pub mod Negation
-pub mod Shaping
-pub mod Parts
-pub mod Spreading
-pub mod Advancing
-pub mod Untested
-pub mod Turning
-pub mod Running
-pub mod Stopping
+-- Laws that the functions' proofs share; what is proved of the requests as a whole.
 pub mod Growing
 pub mod Even
 pub mod Laying
-pub mod Making
+pub mod Stepping
 pub mod Limits
 pub mod Answering
 pub mod OneOutcome

@@ -9,7 +9,7 @@ use lib.Signed.{mag, ltZ, nonNeg}
 use mir.Syntax.{w64}
 use mir.Val.{Fits}
 use Rattle.step_laws.specs.Machine.{seen}
-use Rattle.polynomial.proofs.Negation.{read-back}
+use Rattle.shapes.proofs.Negation.{read-back}
 
 pub limit-number : (h : ℤ) → ltZ h (pos 1) ≡ false → (k : ℕ) × (h ≡ pos k)
 limit-number (pos k) e = (k, refl)

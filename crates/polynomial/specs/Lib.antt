@@ -1,15 +1,3 @@
--- The passes that shape a polynomial, as definitions on entries.
-pub mod Shapes
-pub mod Held
-pub mod Odds
-pub mod Sifting
-pub mod Whole
-pub mod Masks
-pub mod Rows
-pub mod Least
-pub mod Searching
-pub mod Walks
-pub mod Walking
-pub mod Halves
+-- The making of a polynomial, as the inner functions' contracts tell it.
 pub mod Growth
-pub mod Wholes
+pub mod Making

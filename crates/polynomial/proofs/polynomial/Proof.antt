@@ -1,17 +1,31 @@
--- `polynomial` meets its contract: each test's code (Answering), and then `answer_in`'s.
-use mathlib.Core.Path.{_≡_, sym, _∙_, ap}
+-- `polynomial` meets its contract: each test's code (Answering), and then `answer_in`'s. What each test showed is named
+-- once.
+use mathlib.Core.Path.{_≡_, sym, _∙_}
+use mathlib.Core.Bool.{true}
 use borrow.Author.Tests.{not-true, not-false}
-use lib.IntN.{pos}
-use lib.Signed.{ltZ}
-use Rattle.polynomial.proofs.Stopping.{index-good}
-use Rattle.polynomial.proofs.Negation.{read-back}
+use Rattle.definitions.specs.Requests.{knownKind, goodIndex}
+use Rattle.index.proofs.Laws.{taken-good}
+use Rattle.shapes.proofs.Negation.{read-back}
 use Rattle.polynomial.proofs.Answering.{ask-kind, ask-index, ask-limit, at-kind, at-index, at-limit}
 use borrow.Author.Needs.{needs}
 use Rattle.polynomial.proofs.polynomial.Statement.{statement}
 use Rattle.polynomial.proofs.polynomial.Tie as tie
 
-known-requires : tie.Need-known-requires
-known-requires c κs = search needs
+known : (c : tie.Else1) → knownKind (c .before .before .args .kind) ≡ true
+known c = sym (c .before .known-kind .ensures) ∙ not-false _ (c .if1 .left)
+
+module _ (c : tie.Else2) where
+  abbrev start : tie.Start
+  start = c .before .before .before .before
+
+  kind-known : knownKind (start .args .kind) ≡ true
+  kind-known = known (c .before .before)
+
+  good : goodIndex (start .args .n) ≡ true
+  good = sym (c .before .good-index .ensures) ∙ not-false _ (c .if2 .left)
+
+known-kind-requires : tie.Need-known-kind-requires
+known-kind-requires c κs = search needs
 
 refused-requires : tie.Need-refused-requires
 refused-requires c κs = search needs
@@ -19,12 +33,12 @@ refused-requires c κs = search needs
 returns : tie.Need-returns
 returns c =
     let p = c .before .before .before in
-    let k = sym (c .before .before .known .ensures) ∙ not-true _ (c .before .if1 .taken) in
+    let k = sym (c .before .before .known-kind .ensures) ∙ not-true _ (c .before .if1 .taken) in
     let s = at-kind (p .args .kind) (p .args .n) (p .args .h) (p .args .buf .now) (ask-kind _ _ _ _ k) in
     (c .refused .ensures ∙ s .0, s .1)
 
-good-requires : tie.Need-good-requires
-good-requires c κs = search needs
+good-index-requires : tie.Need-good-index-requires
+good-index-requires c κs = search needs
 
 refused-requires-2 : tie.Need-refused-requires-2
 refused-requires-2 c κs = search needs
@@ -32,10 +46,9 @@ refused-requires-2 c κs = search needs
 returns-2 : tie.Need-returns-2
 returns-2 c =
     let p = c .before .before .before .before .before in
-    let k = sym (c .before .before .before .before .known .ensures)
-    ∙ not-false _ (c .before .before .before .if1 .left) in
-    let g = sym (c .before .before .good2 .ensures) ∙ not-true _ (c .before .if2 .taken) in
-    let s = at-index (p .args .kind) (p .args .n) (p .args .h) (p .args .buf .now) (ask-index _ _ _ _ k g) in
+    let g = sym (c .before .before .good-index .ensures) ∙ not-true _ (c .before .if2 .taken) in
+    let s = at-index (p .args .kind) (p .args .n) (p .args .h) (p .args .buf .now)
+    (ask-index _ _ _ _ (known (c .before .before .before)) g) in
     (c .refused2 .ensures ∙ s .0, s .1)
 
 refused-requires-3 : tie.Need-refused-requires-3
@@ -43,42 +56,41 @@ refused-requires-3 c κs = search needs
 
 returns-3 : tie.Need-returns-3
 returns-3 c =
-    let p = c .before .before .before .before .before .before in
-    let k = sym (c .before .before .before .before .before .known .ensures)
-    ∙ not-false _ (c .before .before .before .before .if1 .left) in
-    let g = sym (c .before .before .before .good2 .ensures) ∙ not-false _ (c .before .before .if2 .left) in
+    let t = c .before .before in
+    let p = start t in
     let s = at-limit (p .args .kind) (p .args .n) (p .args .h) (p .args .buf .now)
-    (ask-limit _ _ _ _ k g (rw (read-back (p .args .h) (p .fits .h .sfits)) at (c .before .if3 .taken))) in
+    (ask-limit _ _ _ _ (kind-known t) (good t)
+    (rw (read-back (p .args .h) (p .fits .h .sfits)) at (c .before .if3 .taken))) in
     (c .refused3 .ensures ∙ s .0, s .1)
 
 take-apart-requires : tie.Need-take-apart-requires
-take-apart-requires c κs = index-good _ (sym (c .before .before .good2 .ensures) ∙ not-false _ (c .before .if2 .left))
+take-apart-requires c κs = search needs
 
 answer-in-requires : tie.Need-answer-in-requires
 answer-in-requires c κs =
-    let p = c .before .before .before .before .before .before .before in
-    let k = sym (c .before .before .before .before .before .before .known .ensures)
-    ∙ not-false _ (c .before .before .before .before .before .if1 .left) in
-    let g = sym (c .before .before .before .before .good2 .ensures)
-    ∙ not-false _ (c .before .before .before .if2 .left) in
-    (c .before .take-apart .ensures, k, g, c .before .before .if3 .left)
+    let t = c .before .before .before in (
+      c .before .take-apart .ensures ∙ taken-good _ (good t),
+      kind-known t,
+      good t,
+      c .before .before .if3 .left,
+    )
 
 same-length : tie.Need-same-length
 same-length c = search needs
 
 returns-4 : tie.Need-returns-4
 returns-4 c =
-    let p = c .before .before .before .before .before .before .before .before .before in
+    let p = start (c .before .before .before .before .before) in
     rw (read-back (p .args .h) (p .fits .h .sfits)) at (c .before .answer-in .ensures)
 
 pub polynomial-spec : {M : Type 1} → statement M
 polynomial-spec =
     tie.close
     (tie.spec
-    known-requires
+    known-kind-requires
     refused-requires
     returns
-    good-requires
+    good-index-requires
     refused-requires-2
     returns-2
     refused-requires-3

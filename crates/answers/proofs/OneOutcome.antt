@@ -1,0 +1,25 @@
+-- For each code and degree the contract leaves one refusal: two that meet it, as the checker reads it off the clauses,
+-- are equal.
+use mathlib.Core.Path.{_≡_, sym, _∙_}
+use contract.Lifetimes.{Lfts}
+use borrow.Fn.Kinds.{endedOf}
+use borrow.Fn.World.{ArgsD, ResD}
+use denote.Triple.Clauses.{AtExit}
+use Rattle.answers.proofs.Answer.refused as answer
+use Rattle.answers.proofs.Answer.refused.Kinds as answer-kinds
+use Rattle.answers.proofs.Answer.refused.Reads as answer-reads
+use Rattle.answers.proofs.Stop.refused as stop
+use Rattle.answers.proofs.Stop.refused.Kinds as stop-kinds
+use Rattle.answers.proofs.Stop.refused.Reads as stop-reads
+
+pub answer-one :
+    (κs : Lfts 0) (a : ArgsD answer.signature κs) (z z′ : ResD answer.signature κs)
+    (e e′ : AtExit (endedOf 0 answer-kinds.ps answer-kinds.r) κs)
+    → answer-reads.Post κs a z e → answer-reads.Post κs a z′ e′ → z ≡ z′
+answer-one κs a z z′ e e′ p p′ = p ∙ sym p′
+
+pub stop-one :
+    (κs : Lfts 0) (a : ArgsD stop.signature κs) (z z′ : ResD stop.signature κs)
+    (e e′ : AtExit (endedOf 0 stop-kinds.ps stop-kinds.r) κs)
+    → stop-reads.Post κs a z e → stop-reads.Post κs a z′ e′ → z ≡ z′
+stop-one κs a z z′ e e′ p p′ = p ∙ sym p′

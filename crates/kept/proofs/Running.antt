@@ -1,0 +1,232 @@
+-- A run of the first j divisors' steps, turn by turn: where it stands after i of them, that a turn goes one further or
+-- shows a value out of range, and what it has come to at the end.
+use Prim.Native.Nat.{ℕ, zero, suc, _+_, _*_, _-_, _^_, _<_, _≤_}
+use mathlib.Core.Path.{_≡_, refl, sym, _∙_, ap, ap₂}
+use mathlib.Core.Bool.{Bool, true, false, true≢false, _||_}
+use mathlib.Core.Logic.{_≢_}
+use mathlib.Core.List.{List, [], _∷_, _++_, map, map-append}
+use native.Mathlib.Omega.{arith}
+use native.Mathlib.Nat as NatL
+use native.Mathlib.Numerals.{add-one}
+use lib.ListN.{length, getD, take, length-take, length-replicate, List·getD-eq-default}
+use lib.Seq.{take-suc}
+use lib.IntN.{ℤ, natAbs}
+use Rattle.definitions.specs.Integers.{0ℤ}
+use Rattle.definitions.specs.Series.{firsts}
+use Rattle.definitions.specs.Numbers.{divisorsBelow, kOf}
+use Rattle.definitions.specs.Steps.{entries, largest}
+use Rattle.definitions.specs.KeptHalf.{halfDegree, start, keptHalf, sumOf, additionsAfter}
+use Rattle.definitions.specs.Requests.{divisorsDue, nextDivisor, overAt, overAmong, zeros}
+use Rattle.numbers.specs.Apart.{OddSquarefree}
+use Rattle.numbers.specs.AtMostFive.{k-at-most-5}
+use Rattle.numbers.specs.Below.{divisors-below}
+use Rattle.numbers.specs.Lists.{sum-append, sum-at-most}
+use Rattle.cyclotomic.specs.Kept.{half-below, kept-start}
+use Rattle.step_laws.specs.Bound.{Bounded}
+use Rattle.step_laws.specs.Tests.{by-order}
+use Rattle.step_laws.specs.Firsts.{length-firsts, getD-firsts}
+use Rattle.kept.specs.Walks.{Stands, taken, walkAt}
+use Rattle.kept.proofs.Walking.{taken-at, stands-at}
+use Rattle.kept.specs.Halves.{KeptHalfAt, DivisorOutcomeIs, RunOutcomeIs, WalkAtStart, KeptHalfIs}
+use Rattle.kept.specs.declared.walk.Walk.{Walk}
+use Rattle.kept.specs.declared.run.DivisorOutcome.{DivisorOutcome}
+use Rattle.kept.specs.declared.RunOutcome.{RunOutcome}
+use Rattle.kept.proofs.Turning.{kept-length}
+use Rattle.kept.proofs.Advancing.{start-first, start-later}
+
+-- ---- sums
+sum-next : (kind r i : ℕ) → i < divisorsDue r → additionsAfter kind r (suc i)
+    ≡ additionsAfter kind r i + (halfDegree kind r + 1 - nextDivisor r i)
+unfolding additionsAfter divisorsDue nextDivisor sumOf
+sum-next kind r i h =
+    ap (λ l. sumOf (map (λ d. halfDegree kind r + 1 - d) l)) (take-suc (divisorsBelow r) i 0 h)
+    ∙ ap sumOf (map-append (λ d. halfDegree kind r + 1 - d) (take i (divisorsBelow r))
+    (getD (divisorsBelow r) i 0 ∷ []))
+    ∙ sum-append (map (λ d. halfDegree kind r + 1 - d) (take i (divisorsBelow r)))
+    ((halfDegree kind r + 1 - getD (divisorsBelow r) i 0) ∷ [])
+    ∙ ap (λ k. sumOf (map (λ d. halfDegree kind r + 1 - d) (take i (divisorsBelow r))) + k) (NatL.add-zero _)
+
+module _ (kind r : ℕ) (O : OddSquarefree r) (small : r ≤ 65535) (above : r ≢ 1) where
+  larger : 1 < r
+  larger = NatL.lt-of-not-le (λ b. above (omega (arith, O .pos)))
+
+  pub few : divisorsDue r ≤ 31
+  unfolding divisorsDue
+  few =
+      let p : 2 ^ kOf r ≤ 2 ^ 5 = NatL.pow-le-pow-right (omega arith) (k-at-most-5 r small) in
+      omega (arith, divisors-below r O)
+
+  pub sum-small : (i : ℕ) → additionsAfter kind r i ≤ 31 * 65536
+  unfolding additionsAfter divisorsDue
+  sum-small i =
+      let b = sum-at-most (λ d. halfDegree kind r + 1 - d) (halfDegree kind r + 1) (λ d. omega arith)
+      (take i (divisorsBelow r)) in
+      let n : length (take i (divisorsBelow r)) ≤ 31 = omega (arith, length-take i (divisorsBelow r), few) in
+      let d : halfDegree kind r + 1 ≤ 65536 = omega (arith, half-below kind r larger) in
+      NatL.le-trans b (NatL.mul-le-mul n d)
+
+-- ---- where a run stands
+pub record Running (kind r i additions bound : ℕ) (at : Walk) (a : List ℤ) : Type 0 where
+  pub walk : at ≡ walkAt r i
+  pub half : a ≡ keptHalf kind r i
+  pub bounded : Bounded bound (entries a)
+  pub inside : bound ≤ largest
+  pub clear : overAmong largest kind r i ≡ false
+  pub sum : additions ≡ additionsAfter kind r i
+
+module _ (kind r : ℕ) (O : OddSquarefree r) (small : r ≤ 65535) (above : r ≢ 1) {i additions bound : ℕ} {at : Walk}
+    {a : List ℤ} (s : Running kind r i additions bound at a) (h : i < divisorsDue r) where
+  of-r : at .r ≡ r
+  unfolding walkAt
+  of-r = ap (λ (w : Walk). w .r) (s .walk)
+
+  at-i : taken at ≡ i
+  unfolding divisorsDue
+  at-i = ap taken (s .walk) ∙ taken-at r i (omega arith)
+
+  pub stands : KeptHalfAt kind at bound a
+  unfolding divisorsDue
+  stands =
+      record {
+        walk = rw (s .walk) (stands-at r i O small (omega arith));
+        above = rw of-r above;
+        half = s .half ∙ sym (ap₂ (keptHalf kind) of-r at-i);
+        bounded = s .bounded;
+        inside = s .inside;
+      }
+
+  pub more-due : 0 < at .due
+  unfolding divisorsDue walkAt
+  more-due = let e : at .due ≡ length (divisorsBelow r) - i = ap (λ (w : Walk). w .due) (s .walk) in omega arith
+
+  module _ {m : List ℤ} {t : DivisorOutcome} (u : DivisorOutcomeIs kind at m t) where
+    over-here : t .over ≡ overAt largest kind r i
+    over-here = u .over ∙ ap₂ (overAt largest kind) of-r at-i
+
+    pub count-here : t .count ≡ halfDegree kind r + 1 - nextDivisor r i
+    count-here = u .count ∙ ap₂ (λ x k. halfDegree kind x + 1 - nextDivisor x k) of-r at-i
+
+    pub runs-on : t .over ≡ false → Running kind r (i + 1) (additions + t .count) (t .bound) (t .walk) m
+    unfolding overAmong
+    runs-on o =
+        rw (add-one i)
+        (record {
+          walk = u .after ∙ ap₂ (λ x k. walkAt x (suc k)) of-r at-i;
+          half = u .half o ∙ ap₂ (λ x k. keptHalf kind x (suc k)) of-r at-i;
+          bounded = u .bounded o;
+          inside = u .inside;
+          clear = ap₂ _||_ (s .clear) (sym over-here ∙ o);
+          sum = ap₂ _+_ (s .sum) count-here ∙ sym (sum-next kind r i h);
+        })
+
+    pub turned-length : length m ≡ halfDegree kind r + 1
+    turned-length = u .len ∙ ap (λ x. halfDegree kind x + 1) of-r
+
+    pub stops : t .over ≡ true → overAmong largest kind r (suc i) ≡ true
+    unfolding overAmong
+    stops o = ap₂ _||_ (s .clear) (sym over-here ∙ o)
+
+-- one of the first steps is one of more
+over-more : (w kind r i : ℕ) → overAmong w kind r i ≡ true → overAmong w kind r (suc i) ≡ true
+unfolding overAmong
+over-more w kind r i e = ap (λ b. b || overAt w kind r i) e
+
+over-later : (w kind r i k : ℕ) → overAmong w kind r i ≡ true → overAmong w kind r (i + k) ≡ true
+over-later w kind r i zero e = ap (overAmong w kind r) (NatL.add-zero i) ∙ e
+over-later w kind r i (suc k) e =
+    ap (overAmong w kind r) (NatL.add-suc i k) ∙ over-more w kind r (i + k) (over-later w kind r i k e)
+
+pub over-among : (w kind r i j : ℕ) → i ≤ j → overAmong w kind r i ≡ true → overAmong w kind r j ≡ true
+over-among w kind r i j h e = ap (overAmong w kind r) (sym (NatL.add-sub-of-le h)) ∙ over-later w kind r i (j - i) e
+
+-- ---- the start and the end
+pub standing-length : {kind bound : ℕ} {w : Walk} {l : List ℤ} → KeptHalfAt kind w bound l
+    → length l ≡ halfDegree kind (w .r) + 1
+standing-length {kind} {w = w} s = ap length (s .half) ∙ kept-length kind (w .r) (taken w)
+
+pub run-start : (kind r : ℕ) (at : Walk) (a : List ℤ) → KeptHalfAt kind at 1 a → at ≡ walkAt r 0
+    → Running kind r 0 0 1 at a
+unfolding overAmong additionsAfter sumOf walkAt divisorsDue
+run-start kind r at a s e =
+    record {
+      walk = e;
+      half = s .half ∙ ap₂ (keptHalf kind) (ap (λ (w : Walk). w .r) e) (ap taken e ∙ taken-at r 0 (omega arith));
+      bounded = s .bounded;
+      inside = s .inside;
+      clear = refl;
+      sum = refl;
+    }
+
+pub ran-over : (kind r i j : ℕ) (m : List ℤ) → i < j → overAmong largest kind r (suc i) ≡ true
+    → length m ≡ halfDegree kind r + 1
+    → RunOutcomeIs kind r j m (record { over = true; additions = 0; due = 0 })
+ran-over kind r i j m h e n =
+    record {
+      over = sym (over-among largest kind r (suc i) j h e);
+      half = λ o. absurd (true≢false o);
+      inside = λ o. absurd (true≢false o);
+      additions = λ o. absurd (true≢false o);
+      due = λ o. absurd (true≢false o);
+      len = n;
+    }
+
+pub ran : (kind r j additions bound : ℕ) (at : Walk) (a : List ℤ) → Running kind r j additions bound at a
+    → RunOutcomeIs kind r j a (record { over = false; additions = additions; due = at .due })
+unfolding divisorsDue walkAt
+ran kind r j additions bound at a s =
+    record {
+      over = sym (s .clear);
+      half = λ o. s .half;
+      inside = λ o k. NatL.le-trans (s .bounded k) (s .inside);
+      additions = λ o. s .sum;
+      due = λ o. ap (λ (w : Walk). w .due) (s .walk);
+      len = ap length (s .half) ∙ kept-length kind r j;
+    }
+
+-- ---- a walk that has taken nothing, and the start of the kept half
+start-at-most : (kind k : ℕ) → natAbs (start kind k) ≤ 1
+start-at-most kind zero = rw (start-first kind) (omega arith)
+start-at-most kind (suc k) = rw (start-later kind k) (omega arith)
+
+pub start-bounded : (kind n : ℕ) → Bounded 1 (entries (firsts n (start kind)))
+unfolding entries
+start-bounded kind n k =
+    by-order k n (λ h. rw (getD-firsts n (start kind) k h) (start-at-most kind k))
+    (λ h. rw (List·getD-eq-default (firsts n (start kind)) 0ℤ {n = k} (omega (arith, length-firsts n (start kind))))
+    (omega arith))
+
+pub fresh-stands :
+    (kind : ℕ) (w : Walk) (l : List ℤ) (n : ℕ) → WalkAtStart w → n ≡ halfDegree kind (w .r) + 1
+    → l ≡ firsts n (start kind)
+    → KeptHalfAt kind w 1 l
+unfolding divisorsDue
+fresh-stands kind w l n f len e =
+    record {
+      walk = rw (f .here) (stands-at (w .r) 0 (f .squarefree) (f .small) (omega arith));
+      above = f .above;
+      half = e ∙ ap (λ k. firsts k (start kind)) len ∙ sym (kept-start kind (w .r))
+          ∙ sym (ap (keptHalf kind (w .r)) (ap taken (f .here) ∙ taken-at (w .r) 0 (omega arith)));
+      bounded = rw e (start-bounded kind n);
+      inside = omega arith;
+    }
+
+pub made-zeros : (kind r j : ℕ) (m l : List ℤ) (h : RunOutcome) → RunOutcomeIs kind r j m h → h .over ≡ true
+    → l ≡ zeros (length m)
+    → KeptHalfIs kind r j l h
+unfolding zeros
+made-zeros kind r j m l h t o e =
+    record {
+      ran =
+          record {
+            over = t .over;
+            half = λ q. absurd (both q);
+            inside = λ q. absurd (both q);
+            additions = λ q. absurd (both q);
+            due = λ q. absurd (both q);
+            len = ap length e ∙ length-replicate (length m) 0ℤ ∙ t .len;
+          };
+      zeroed = λ q. e ∙ ap zeros (t .len);
+    }
+  where
+    both : h .over ≡ false → ⊥
+    both q = true≢false (sym o ∙ q)

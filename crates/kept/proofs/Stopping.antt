@@ -1,0 +1,216 @@
+-- The partial request's outcomes: which code each test leads to, what is then told and left, and what n taken apart
+-- gives the walk.
+use Prim.Native.Nat.{ℕ, _+_, _-_, _/_, _<_, _≤_}
+use mathlib.Core.Path.{_≡_, refl, sym, _∙_, ap, ap₂, subst}
+use mathlib.Core.Bool.{Bool, true, false, cond, not, _||_}
+use mathlib.Core.Logic.{_≢_}
+use mathlib.Core.List.{List, _++_}
+use native.Mathlib.Omega.{arith}
+use native.Mathlib.Nat as NatL
+use borrow.Author.Tests.{eq-eqb, ne-eqb, lt-ltb, le-ltb, le-leb, lt-leb}
+use lib.ListN.{length, drop, length-replicate}
+use lib.Dec.{eqb, ltb, leb}
+use lib.IntN.{ℤ}
+use Rattle.definitions.specs.Integers.{0ℤ}
+use Rattle.definitions.specs.Codes.{DONE, KIND, INDEX, STEP, SHORT, OVER}
+use Rattle.definitions.specs.Numbers.{rOf, divisorsBelow}
+use Rattle.definitions.specs.Polynomials.{degree}
+use Rattle.definitions.specs.Steps.{largest}
+use Rattle.definitions.specs.KeptHalf.{halfDegree, keptHalf, additionsAfter}
+use Rattle.definitions.specs.Requests.{knownKind, goodIndex, divisorsDue, overAmong, written, zeros}
+use Rattle.numbers.specs.Apart.{r-odd-squarefree}
+use Rattle.answers.specs.declared.Stop.{Stop}
+use Rattle.answers.specs.Partial.{code, answered, answer, left, leaves}
+use Rattle.kept.specs.Walks.{walkAt, overParts}
+use Rattle.kept.proofs.Walking.{over-start}
+use Rattle.kept.specs.Halves.{StepsDue, WalkAtStart, KeptHalfIs}
+use Rattle.index.specs.declared.Parts.{Parts}
+use Rattle.index.proofs.Laws.{index-good, r-small, parts-r, parts-free}
+use Rattle.kept.specs.declared.walk.Walk.{Walk}
+use Rattle.kept.specs.declared.RunOutcome.{RunOutcome}
+use Rattle.kept.proofs.Turning.{kept-length}
+
+-- ---- the walk over n's r, at its start
+module _ (kind n : ℕ) (x : Parts) (S : StepsDue kind n x) (w : Walk) (o : w ≡ overParts x) where
+  pub walk-start : w ≡ walkAt (rOf n) 0
+  walk-start = o ∙ ap overParts (S .parts) ∙ over-start n (index-good n (S .good) .0)
+
+  pub walk-r : w .r ≡ rOf n
+  unfolding walkAt
+  walk-r = ap (λ (y : Walk). y .r) walk-start
+
+  pub walk-due : w .due ≡ divisorsDue (rOf n)
+  unfolding walkAt divisorsDue
+  walk-due = ap (λ (y : Walk). y .due) walk-start ∙ NatL.sub-zero (length (divisorsBelow (rOf n)))
+
+  pub walk-fresh : WalkAtStart w
+  walk-fresh =
+      record {
+        squarefree = rw walk-r (r-odd-squarefree n);
+        small = rw walk-r (r-small n (S .good));
+        above = rw walk-r (S .above);
+        here = walk-start ∙ ap (λ r. walkAt r 0) (sym walk-r);
+      }
+
+  -- what the making asks: D + 1 entries, and no more divisors than are due
+  pub fresh-half : (len j : ℕ) → len ≡ halfDegree kind (rOf n) + 1 → j ≤ divisorsDue (rOf n)
+      → WalkAtStart w × (len ≡ halfDegree kind (w .r) + 1) × (j ≤ divisorsDue (w .r))
+  fresh-half len j e h = (walk-fresh, e ∙ ap (λ r. halfDegree kind r + 1) (sym walk-r), rw walk-r h)
+
+  -- what the walk's r came to is what n's came to
+  pub of-r : (j : ℕ) {m : List ℤ} {h : RunOutcome} → KeptHalfIs kind (w .r) j m h → KeptHalfIs kind (rOf n) j m h
+  of-r j {m} {h} t = subst (λ r. KeptHalfIs kind r j m h) walk-r t
+
+  pub of-all : {m : List ℤ} {h : RunOutcome} → KeptHalfIs kind (w .r) (w .due) m h
+      → KeptHalfIs kind (rOf n) (divisorsDue (rOf n)) m h
+  of-all {m} {h} t = of-r (divisorsDue (rOf n)) (subst (λ j. KeptHalfIs kind (w .r) j m h) walk-due t)
+
+-- D, as it is computed
+pub half-is : (kind n : ℕ) (x : Parts) → StepsDue kind n x
+    → (d : ℕ) → d ≡ cond (eqb kind 1) (x .free) (x .r - x .free) / 2 → d ≡ halfDegree kind (rOf n)
+unfolding halfDegree degree
+half-is kind n x S d e =
+    e ∙ ap₂ (λ f r. cond (eqb kind 1) f (r - f) / 2) (parts-free n x (S .parts)) (parts-r n x (S .parts))
+
+-- ---- codes
+module _ (kind n j room : ℕ) where
+  pub stop-kind : knownKind kind ≡ false → code kind n j room ≡ KIND
+  unfolding code
+  stop-kind e = rw e
+
+  pub stop-index : knownKind kind ≡ true → goodIndex n ≡ false → code kind n j room ≡ INDEX
+  unfolding code
+  stop-index e f = rw (e, f)
+
+  pub stop-one : knownKind kind ≡ true → goodIndex n ≡ true → rOf n ≡ 1 → code kind n j room ≡ INDEX
+  unfolding code
+  stop-one e f g = rw (e, f, eq-eqb (rOf n) 1 g)
+
+  module _ (e : knownKind kind ≡ true) (f : goodIndex n ≡ true) (g : rOf n ≢ 1) where
+    pub stop-step : divisorsDue (rOf n) < j → code kind n j room ≡ STEP
+    unfolding code
+    stop-step h = rw (e, f, ne-eqb (rOf n) 1 g, lt-ltb (divisorsDue (rOf n)) j h)
+
+    module _ (few : j ≤ divisorsDue (rOf n)) where
+      pub stop-short : room ≤ halfDegree kind (rOf n) → code kind n j room ≡ SHORT
+      unfolding code
+      stop-short h =
+          rw (e, f, ne-eqb (rOf n) 1 g, le-ltb (divisorsDue (rOf n)) j few, le-leb room (halfDegree kind (rOf n)) h)
+
+      pub stop-last : halfDegree kind (rOf n) < room → code kind n j room
+          ≡ cond (overAmong largest kind (rOf n) j) OVER DONE
+      unfolding code
+      stop-last h =
+          rw (e, f, ne-eqb (rOf n) 1 g, le-ltb (divisorsDue (rOf n)) j few, lt-leb room (halfDegree kind (rOf n)) h)
+
+-- ---- outcomes: the answer and what is left, by the code
+module _ (kind n j : ℕ) (l : List ℤ) (c : ℕ) (e : code kind n j (length l) ≡ c) where
+  told : answer kind n j (length l) ≡ answered kind n j c
+  unfolding answer
+  told = ap (answered kind n j) e
+
+  stands-left : leaves kind n j l ≡ left kind n j c l
+  unfolding leaves
+  stands-left = ap (λ x. left kind n j x l) e
+
+-- a refusal that tells degree 0 and leaves all as it was
+abbrev pub Stopped : (kind n j : ℕ) → Stop → List ℤ → List ℤ → Type 0
+Stopped kind n j a m l = (a ≡ answer kind n j (length l)) × (m ≡ leaves kind n j l)
+
+module _ (kind n j : ℕ) (l : List ℤ) where
+  -- KIND, INDEX and STEP
+  pub plain-stop :
+      (c : ℕ) → answered kind n j c ≡ record { code = c; degree = 0; additions = 0; due = 0 } → left kind n j c l ≡ l
+      → code kind n j (length l) ≡ c
+      → Stopped kind n j (record { code = c; degree = 0; additions = 0; due = 0 }) l l
+  plain-stop c a b e = (sym (told kind n j l c e ∙ a), sym (stands-left kind n j l c e ∙ b))
+
+  pub at-kind : code kind n j (length l) ≡ KIND
+      → Stopped kind n j (record { code = KIND; degree = 0; additions = 0; due = 0 }) l l
+  unfolding answered left
+  at-kind e = plain-stop KIND refl refl e
+
+  pub at-index : code kind n j (length l) ≡ INDEX
+      → Stopped kind n j (record { code = INDEX; degree = 0; additions = 0; due = 0 }) l l
+  unfolding answered left
+  at-index e = plain-stop INDEX refl refl e
+
+  pub at-step : code kind n j (length l) ≡ STEP
+      → Stopped kind n j (record { code = STEP; degree = 0; additions = 0; due = 0 }) l l
+  unfolding answered left
+  at-step e = plain-stop STEP refl refl e
+
+  pub at-short : code kind n j (length l) ≡ SHORT
+      → Stopped kind n j (record { code = SHORT; degree = halfDegree kind (rOf n); additions = 0; due = 0 }) l l
+  unfolding answered left
+  at-short e = (sym (told kind n j l SHORT e), sym (stands-left kind n j l SHORT e))
+
+  pub at-over :
+      code kind n j (length l) ≡ OVER
+      → Stopped kind n j (record { code = OVER; degree = halfDegree kind (rOf n); additions = 0; due = 0 })
+      (written (zeros (halfDegree kind (rOf n) + 1)) l) l
+  unfolding answered left
+  at-over e = (sym (told kind n j l OVER e), sym (stands-left kind n j l OVER e))
+
+  pub at-done :
+      code kind n j (length l) ≡ DONE
+      → Stopped kind n j
+      (record {
+        code = DONE;
+        degree = halfDegree kind (rOf n);
+        additions = additionsAfter kind (rOf n) j;
+        due =
+            divisorsDue (rOf n) - j;
+      }) (written (keptHalf kind (rOf n) j) l) l
+  unfolding answered left
+  at-done e = (sym (told kind n j l DONE e), sym (stands-left kind n j l DONE e))
+
+-- ---- after the tests: n is good and taken apart, and D is known
+module _ (kind n j : ℕ) (x : Parts) (S : StepsDue kind n x) (l : List ℤ) (d : ℕ)
+    (ed : d ≡ halfDegree kind (rOf n)) where
+  pub too-many : divisorsDue (rOf n) < j
+      → Stopped kind n j (record { code = STEP; degree = 0; additions = 0; due = 0 }) l l
+  too-many h = at-step kind n j l (stop-step kind n j (length l) (S .known) (S .good) (S .above) h)
+
+  module _ (few : j ≤ divisorsDue (rOf n)) where
+    pub too-short : length l ≤ d → Stopped kind n j (record { code = SHORT; degree = d; additions = 0; due = 0 }) l l
+    too-short h =
+        let s = at-short kind n j l
+        (stop-short kind n j (length l) (S .known) (S .good) (S .above) few (omega arith)) in
+        (ap (λ k. record { code = SHORT; degree = k; additions = 0; due = 0 }) ed ∙ s .0, s .1)
+
+    -- m stands in the first D + 1 entries after the steps
+    module _ (room : d < length l) (m : List ℤ) (h : RunOutcome) (made : KeptHalfIs kind (rOf n) j m h) where
+      last-code : code kind n j (length l) ≡ cond (h .over) OVER DONE
+      last-code =
+          stop-last kind n j (length l) (S .known) (S .good) (S .above) few (omega arith)
+          ∙ ap (λ b. cond b OVER DONE) (sym (made .ran .over))
+
+      in-front : (new : List ℤ) → length new ≡ halfDegree kind (rOf n) + 1 → m ≡ new
+          → m ++ drop (d + 1) l ≡ written new l
+      unfolding written
+      in-front new len q = ap₂ (λ x k. x ++ drop k l) q (ap (λ x. x + 1) ed ∙ sym len)
+
+      pub made-over : h .over ≡ true → Stopped kind n j (record { code = OVER; degree = d; additions = 0; due = 0 })
+          (m ++ drop (d + 1) l) l
+      unfolding zeros
+      made-over o =
+          let s = at-over kind n j l (last-code ∙ ap (λ b. cond b OVER DONE) o) in (
+            ap (λ k. record { code = OVER; degree = k; additions = 0; due = 0 }) ed ∙ s .0,
+            in-front (zeros (halfDegree kind (rOf n) + 1)) (length-replicate (halfDegree kind (rOf n) + 1) 0ℤ)
+                (made .zeroed o) ∙ s .1,
+          )
+
+      pub made-done : h .over ≡ false
+          → Stopped kind n j (record { code = DONE; degree = d; additions = h .additions; due = h .due })
+          (m ++ drop (d + 1) l) l
+      made-done o =
+          let s = at-done kind n j l (last-code ∙ ap (λ b. cond b OVER DONE) o) in (
+            stop-same ed (made .ran .additions o) (made .ran .due o) ∙ s .0,
+            in-front (keptHalf kind (rOf n) j) (kept-length kind (rOf n) j) (made .ran .half o) ∙ s .1,
+          )
+        where
+          stop-same : {x y z x′ y′ z′ : ℕ} → x ≡ x′ → y ≡ y′ → z ≡ z′
+              → _≡_ {A = Stop} (record { code = DONE; degree = x; additions = y; due = z })
+              (record { code = DONE; degree = x′; additions = y′; due = z′ })
+          stop-same p q r i = record { code = DONE; degree = p i; additions = q i; due = r i }

@@ -1,0 +1,143 @@
+-- `stop_at` meets its contract: each test's code, and after the steps the kept half or zeros (Stopping). What is known
+-- once the walk is made, and what `Stopping` takes, is named here once.
+use Prim.Native.Nat.{ℕ, _+_, _<_, _≤_}
+use mathlib.Core.Path.{_≡_, sym, _∙_, ap}
+use mathlib.Core.List.{List}
+use native.Mathlib.Omega.{arith}
+use lib.IntN.{ℤ}
+use lib.ListN.{length}
+use lib.Seq.{length-take-le}
+use Rattle.definitions.specs.Numbers.{rOf}
+use Rattle.definitions.specs.KeptHalf.{halfDegree}
+use Rattle.definitions.specs.Requests.{divisorsDue}
+use Rattle.index.proofs.Laws.{parts-few}
+use Rattle.kept.specs.Halves.{KeptHalfIs}
+use Rattle.kept.specs.declared.RunOutcome.{RunOutcome}
+use Rattle.kept.proofs.Stopping as Stopping
+use borrow.Author.Needs.{needs}
+use Rattle.kept.proofs.stop.stop_at.Statement.{statement}
+use Rattle.kept.proofs.stop.stop_at.Tie as tie
+
+module _ (q : tie.After-over) where
+  abbrev start : tie.Start
+  start = q .before .before
+
+  abbrev kind : ℕ
+  kind = start .args .kind
+
+  abbrev n : ℕ
+  n = start .args .n
+
+  d-is : q .before .half-degree .result ≡ halfDegree kind (rOf n)
+  d-is = Stopping.half-is kind n (start .args .parts) (start .pre) _ (q .before .half-degree .ensures)
+
+  due-is : q .over .result .due ≡ divisorsDue (rOf n)
+  due-is = Stopping.walk-due kind n (start .args .parts) (start .pre) (q .over .result) (q .over .ensures)
+
+  abbrev D : ℕ
+  D = q .before .half-degree .result
+
+  abbrev old : List ℤ
+  old = start .args .buf .now
+
+  -- no more divisors are asked for than are due, and there is room for D + 1 entries
+  module _ (few : start .args .j ≤ q .over .result .due) where
+    few-due : start .args .j ≤ divisorsDue (rOf n)
+    few-due = omega (arith, due-is)
+
+    module _ (room : D < length old) where
+      part-length : length (lib.ListN.take (D + 1) old) ≡ D + 1
+      part-length = length-take-le (D + 1) old (omega arith)
+
+-- what the steps came to
+module _ (q : tie.After-over) {m : List ℤ} {h : RunOutcome} where
+  walk-of-r : KeptHalfIs (kind q) (q .over .result .r) (start q .args .j) m h
+      → KeptHalfIs (kind q) (rOf (n q)) (start q .args .j) m h
+  walk-of-r = Stopping.of-r (kind q) (n q) (start q .args .parts) (start q .pre) (q .over .result) (q .over .ensures) _
+
+half-degree-requires : tie.Need-half-degree-requires
+half-degree-requires c κs = search needs
+
+over-requires : tie.Need-over-requires
+over-requires c κs = let p = c .before in parts-few (p .args .n) (p .args .parts) (p .pre .parts) (p .pre .good)
+
+refused-requires : tie.Need-refused-requires
+refused-requires c κs = search needs
+
+returns : tie.Need-returns
+returns c =
+    let q = c .before .before .before in
+    let s = Stopping.too-many (kind q) (n q) (start q .args .j) _ (start q .pre) (old q) _ (d-is q)
+    (omega (arith, due-is q)) in
+    (c .refused .ensures ∙ s .0, s .1)
+
+refused-requires-2 : tie.Need-refused-requires-2
+refused-requires-2 c κs = search needs
+
+returns-2 : tie.Need-returns-2
+returns-2 c =
+    let q = c .before .before .before .before in
+    let s = Stopping.too-short (kind q) (n q) (start q .args .j) _ (start q .pre) (old q) _ (d-is q)
+    (few-due q (omega arith)) (omega arith) in
+    (c .refused2 .ensures ∙ s .0, s .1)
+
+add-h : tie.Need-add-h
+add-h c = search needs
+
+slice-relend-prefix-make-kept-half : tie.Need-slice-relend-prefix-make-kept-half
+slice-relend-prefix-make-kept-half c = search needs
+
+slice-aggregate-make-kept-half : tie.Need-slice-aggregate-make-kept-half
+slice-aggregate-make-kept-half c =
+    let q = c .before .before .before .before in sym (part-length q (omega arith) (omega arith))
+
+make-kept-half-requires : tie.Need-make-kept-half-requires
+make-kept-half-requires c κs =
+    let q = c .before .before .before .before in
+    Stopping.fresh-half (kind q) (n q) _ (start q .pre) (q .over .result) (q .over .ensures) _ _
+    (part-length q (omega arith) (omega arith) ∙ ap (λ k. k + 1) (d-is q)) (few-due q (omega arith))
+
+refused-requires-3 : tie.Need-refused-requires-3
+refused-requires-3 c κs = search needs
+
+same-length : tie.Need-same-length
+same-length c = search needs
+
+returns-3 : tie.Need-returns-3
+returns-3 c =
+    let q = c .before .before .before .before .before .before .before .before in
+    let s = Stopping.made-over (kind q) (n q) (start q .args .j) _ (start q .pre) (old q) _ (d-is q)
+    (few-due q (omega arith)) (omega arith) _ _
+    (walk-of-r q (c .before .before .before .make-kept-half .ensures))
+    (c .before .if3 .taken) in
+    (c .refused3 .ensures ∙ s .0, s .1)
+
+same-length-2 : tie.Need-same-length-2
+same-length-2 c = search needs
+
+returns-4 : tie.Need-returns-4
+returns-4 c =
+    let q = c .before .before .before .before .before .before .before in
+    Stopping.made-done (kind q) (n q) (start q .args .j) _ (start q .pre) (old q) _ (d-is q)
+    (few-due q (omega arith)) (omega arith) _ _
+    (walk-of-r q (c .before .before .make-kept-half .ensures)) (c .if3 .left)
+
+pub stop-at-spec : {M : Type 1} → statement M
+stop-at-spec =
+    tie.close
+    (tie.spec
+    half-degree-requires
+    over-requires
+    refused-requires
+    returns
+    refused-requires-2
+    returns-2
+    add-h
+    slice-relend-prefix-make-kept-half
+    slice-aggregate-make-kept-half
+    make-kept-half-requires
+    refused-requires-3
+    same-length
+    returns-3
+    same-length-2
+    returns-4)

@@ -1,0 +1,56 @@
+// The kept half for an index: the walk over r's divisors, the steps, and the partial request (`partial`), of which
+// nothing is asked. `all_steps` is for `polynomial`, which shows what it requires.
+mod run;
+mod step;
+mod stop;
+mod walk;
+
+use answers::Stop;
+use index::Parts;
+use run::make_kept_half;
+pub use stop::half_degree;
+use walk::Walk;
+ghost use Prim.Native.Nat.{_+_};
+ghost use mathlib.Core.Path.{_≡_};
+ghost use lib.ListN.{length};
+ghost use Rattle.definitions.specs.Numbers.{rOf};
+ghost use Rattle.definitions.specs.KeptHalf.{halfDegree};
+ghost use Rattle.definitions.specs.Requests.{divisorsDue};
+ghost use Rattle.answers.specs.Partial as Partial;
+ghost use Rattle.kept.specs.Halves.{StepsDue, KeptHalfIs};
+
+// The outcome of a run of steps: a value out of range, or the additions and the divisors still due.
+pub struct RunOutcome {
+    pub over: bool,
+    pub additions: u64,
+    pub due: u64,
+}
+
+// The kept half for n's r after all its divisors' steps, in a slice of D + 1 entries; zeros where a value would be out
+// of range.
+pub fn all_steps(kind: u64, n: u64, parts: Parts, a: &mut [i64]) -> RunOutcome
+    requires { ⌜ StepsDue kind n parts × (length (now a) ≡ halfDegree kind (rOf n) + 1) ⌝ }
+    ensures { λ r. ⌜ KeptHalfIs kind (rOf n) (divisorsDue (rOf n)) (now (a .exit)) r ⌝ }
+{
+    let walk = Walk::over(parts);
+    let all = walk.due;
+    make_kept_half(a, walk, kind, all)
+}
+
+// The kept half for n's r after the first j divisors' steps, in entries 0 to D.
+pub fn partial(kind: u64, n: u64, j: u64, buf: &mut [i64]) -> Stop
+    ensures { λ r. ⌜ r ≡ Partial.answer kind n j (length (now (buf .entry))) ⌝ }
+    ensures { λ _. ⌜ now (buf .exit) ≡ Partial.leaves kind n j (now (buf .entry)) ⌝ }
+{
+    if !index::known_kind(kind) {
+        return Stop::refused(answers::KIND, 0);
+    }
+    if !index::good_index(n) {
+        return Stop::refused(answers::INDEX, 0);
+    }
+    let parts = index::take_apart(n);
+    if parts.r == 1 {
+        return Stop::refused(answers::INDEX, 0);
+    }
+    stop::stop_at(kind, n, parts, j, buf)
+}

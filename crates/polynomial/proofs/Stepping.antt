@@ -1,0 +1,161 @@
+-- r > 1: after all divisors the kept half is the lower half of the polynomial of r; its height is the polynomial's; and
+-- what each outcome tells and leaves (`Halfway`). r = 1: no step is taken (`laid-one`).
+use Prim.Native.Nat.{ℕ, zero, suc, _+_, _*_, _-_, _/_, _<_, _≤_}
+use mathlib.Core.Path.{_≡_, refl, sym, _∙_, ap, ap₂}
+use mathlib.Core.Bool.{Bool, true, false, cond}
+use mathlib.Core.Logic.{_≢_}
+use mathlib.Core.List.{List, _++_}
+use native.Mathlib.Omega.{arith}
+use native.Mathlib.Nat as NatL
+use native.Mathlib.Numerals.{add-one}
+use lib.ListN.{length, getD, take, drop, length-append, length-drop, List·getD-append}
+use lib.Seq.{take-at}
+use lib.Dec.{eqb}
+use lib.IntN.{ℤ, pos, natAbs}
+use lib.Signed.{ltZ}
+use Rattle.definitions.specs.Integers.{0ℤ}
+use Rattle.definitions.specs.Codes.{DONE, OVER, TALL}
+use Rattle.definitions.specs.Series.{firsts}
+use Rattle.definitions.specs.Numbers.{rOf, listTo, divisorsBelow}
+use Rattle.definitions.specs.Polynomials.{polynomial, degree}
+use Rattle.definitions.specs.Steps.{entries, largest}
+use Rattle.definitions.specs.KeptHalf.{halfDegree, keptHalf, additionsAfter, additions, sumOf}
+use Rattle.definitions.specs.Requests.{divisorsDue, overAmong, zeros}
+use Rattle.definitions.specs.Answer.{coefficients, heightOf, height, additionsFor}
+use Rattle.numbers.specs.Apart.{r-odd-squarefree}
+use Rattle.numbers.specs.Below.{additions-all}
+use Rattle.cyclotomic.specs.Kept.{kept-all}
+use Rattle.cyclotomic.specs.Heights.{height-half, height-one}
+use Rattle.kept.specs.Halves.{StepsDue, KeptHalfIs}
+use Rattle.polynomial.specs.Growth.{Lower}
+use Rattle.polynomial.specs.Making.{Ready, MakingOutcomeIs, makingCode}
+use Rattle.index.specs.declared.Parts.{Parts}
+use Rattle.kept.specs.declared.RunOutcome.{RunOutcome}
+use Rattle.polynomial.proofs.Growing.{half-within, front-entry, front-length}
+use Rattle.polynomial.proofs.Laying.{above-zero, r-is, r-fits}
+
+pub steps-due : {kind n : ℕ} {a : Parts} {l : List ℤ} → Ready kind n a l → rOf n ≢ 1 → StepsDue kind n a
+steps-due R above = record { parts = R .parts; known = R .known; good = R .good; above = above }
+
+-- what the making goes by once all steps are taken on the first d + 1 entries of l and have left m there
+pub record Halfway (kind n : ℕ) (a : Parts) (l : List ℤ) (d : ℕ) (m : List ℤ) (h : RunOutcome) : Type 0 where
+  pub rest-length : length (m ++ drop (d + 1) l) ≡ length l
+  pub ready : Ready kind n a (m ++ drop (d + 1) l)
+  pub over : (lim : ℤ) (x : List ℤ) → h .over ≡ true → x ≡ zeros (length (m ++ drop (d + 1) l))
+      → MakingOutcomeIs kind n lim x (record { code = OVER; additions = 0; height = 0 })
+  pub lower : h .over ≡ false → Lower kind (rOf n) (m ++ drop (d + 1) l)
+  pub height-is : h .over ≡ false → (x : ℕ) → x ≡ heightOf (take (d + 1) (m ++ drop (d + 1) l)) → x ≡ height kind n
+  pub tall : h .over ≡ false → (lim : ℤ) (x : List ℤ) → ltZ lim (pos (height kind n)) ≡ true
+      → x ≡ zeros (length (m ++ drop (d + 1) l))
+      → MakingOutcomeIs kind n lim x (record { code = TALL; additions = 0; height = 0 })
+  pub done : h .over ≡ false → (lim : ℤ) (x : List ℤ) (y : ℕ) → ltZ lim (pos (height kind n)) ≡ false
+      → x ≡ coefficients kind n
+      → y ≡ height kind n
+      → MakingOutcomeIs kind n lim x (record { code = DONE; additions = h .additions; height = y })
+
+module _ (kind n : ℕ) (a : Parts) (l : List ℤ) (R : Ready kind n a l) (above : rOf n ≢ 1) (d : ℕ)
+    (ed : d ≡ halfDegree kind (rOf n)) where
+  pub half-room : d + 1 ≤ length l
+  half-room = omega (arith, half-within kind (rOf n), r-fits kind n a l R)
+
+  module _ (m : List ℤ) (h : RunOutcome) (made : KeptHalfIs kind (rOf n) (divisorsDue (rOf n)) m h) where
+    m-length : length m ≡ d + 1
+    m-length = made .ran .len ∙ ap (λ k. k + 1) (sym ed)
+
+    rest-length : length (m ++ drop (d + 1) l) ≡ length l
+    rest-length = length-append m (drop (d + 1) l) ∙ omega (arith, m-length, length-drop (d + 1) l, half-room)
+
+    still-ready : Ready kind n a (m ++ drop (d + 1) l)
+    still-ready = record { parts = R .parts; known = R .known; good = R .good; room = rest-length ∙ R .room }
+
+    -- a value would be out of range
+    laid-over : (lim : ℤ) (x : List ℤ) → h .over ≡ true → x ≡ zeros (length (m ++ drop (d + 1) l))
+        → MakingOutcomeIs kind n lim x (record { code = OVER; additions = 0; height = 0 })
+    unfolding makingCode
+    laid-over lim x o e =
+        record {
+          code = sym (ap (λ b. cond b OVER (cond (ltZ lim (pos (height kind n))) TALL DONE))
+              (sym (made .ran .over) ∙ o));
+          leaves = e ∙ ap zeros (rest-length ∙ R .room ∙ add-one (degree kind n));
+          additions = λ q. absurd (never q);
+          height = λ q. absurd (never q);
+        }
+      where
+        never : OVER ≡ DONE → ⊥
+        never q = omega arith
+
+    module _ (o : h .over ≡ false) where
+      m-is : m ≡ firsts (halfDegree kind (rOf n) + 1) (polynomial kind (rOf n))
+      unfolding divisorsDue
+      m-is = made .ran .half o ∙ kept-all kind (rOf n) (r-odd-squarefree n) above
+
+      lower : Lower kind (rOf n) (m ++ drop (d + 1) l)
+      unfolding entries
+      lower =
+          record {
+            squarefree = r-odd-squarefree n;
+            above = above;
+            half = λ i b. List·getD-append m (drop (d + 1) l) 0ℤ i (omega (arith, m-length))
+                ∙ front-entry (halfDegree kind (rOf n) + 1) (polynomial kind (rOf n)) m m-is i b;
+            inside = λ i b. rw (sym (front-entry (halfDegree kind (rOf n) + 1) (polynomial kind (rOf n)) m m-is i b))
+                (made .ran .inside o i);
+          }
+
+      height-is : (x : ℕ) → x ≡ heightOf (take (d + 1) (m ++ drop (d + 1) l)) → x ≡ height kind n
+      height-is x e =
+          e ∙ ap heightOf (take-at m (drop (d + 1) l) (d + 1) m-length ∙ m-is)
+          ∙ sym (height-half kind n (above-zero kind n a l R) above)
+
+      laid-tall : (lim : ℤ) (x : List ℤ) → ltZ lim (pos (height kind n)) ≡ true
+          → x ≡ zeros (length (m ++ drop (d + 1) l))
+          → MakingOutcomeIs kind n lim x (record { code = TALL; additions = 0; height = 0 })
+      unfolding makingCode
+      laid-tall lim x t e =
+          record {
+            code = sym (ap₂ (λ b c. cond b OVER (cond c TALL DONE)) (sym (made .ran .over) ∙ o) t);
+            leaves = e ∙ ap zeros (rest-length ∙ R .room ∙ add-one (degree kind n));
+            additions = λ q. absurd (never q);
+            height = λ q. absurd (never q);
+          }
+        where
+          never : TALL ≡ DONE → ⊥
+          never q = omega arith
+
+      laid-done :
+          (lim : ℤ) (x : List ℤ) (y : ℕ) → ltZ lim (pos (height kind n)) ≡ false → x ≡ coefficients kind n
+          → y ≡ height kind n
+          → MakingOutcomeIs kind n lim x (record { code = DONE; additions = h .additions; height = y })
+      unfolding makingCode additionsFor divisorsDue
+      laid-done lim x y t e q =
+          record {
+            code = sym (ap₂ (λ b c. cond b OVER (cond c TALL DONE)) (sym (made .ran .over) ∙ o) t);
+            leaves = e;
+            additions = λ z. made .ran .additions o ∙ additions-all kind (rOf n);
+            height = λ z. q;
+          }
+
+    pub halfway : Halfway kind n a l d m h
+    halfway =
+        record {
+          rest-length = rest-length;
+          ready = still-ready;
+          over = laid-over;
+          lower = lower;
+          height-is = height-is;
+          tall = laid-tall;
+          done = laid-done;
+        }
+
+-- ---- r = 1: no step is taken, and the height is 1
+pub laid-one :
+    (kind n : ℕ) (h : ℤ) (x : List ℤ) → 0 < n → rOf n ≡ 1 → ltZ h (pos 1) ≡ false → x ≡ coefficients kind n
+    → MakingOutcomeIs kind n h x (record { code = DONE; additions = 0; height = 1 })
+unfolding makingCode additionsFor divisorsDue divisorsBelow listTo overAmong additions sumOf
+laid-one kind n h x l o t e =
+    record {
+      code = sym (ap₂ (λ r y. cond (overAmong largest kind r (divisorsDue r)) OVER (cond (ltZ h (pos y)) TALL DONE)) o
+          (height-one kind n l o) ∙ ap (λ b. cond b TALL DONE) t);
+      leaves = e;
+      additions = λ z. sym (ap (additions kind) o);
+      height = λ z. sym (height-one kind n l o);
+    }

@@ -1,0 +1,117 @@
+-- `answer_in` meets its contract: SHORT, or what the making came to (Answering). The degree is named once.
+use Prim.Native.Nat.{ℕ, _+_, _<_, _≤_}
+use mathlib.Core.Path.{_≡_, sym, _∙_, ap}
+use native.Mathlib.Omega.{arith}
+use lib.ListN.{length}
+use lib.Seq.{length-take-le}
+use Rattle.definitions.specs.Codes.{SHORT}
+use Rattle.definitions.specs.Polynomials.{degree}
+use Rattle.index.proofs.Laws.{index-good, parts-phi, parts-degree}
+use Rattle.shapes.proofs.Negation.{read-back}
+use Rattle.polynomial.specs.Making.{MakingOutcomeIs}
+use Rattle.polynomial.proofs.Answering.{told-only, ask-short, at-short, refuses, delivers}
+use borrow.Author.Needs.{needs}
+use Rattle.polynomial.proofs.making.answer_in.Statement.{statement}
+use Rattle.polynomial.proofs.making.answer_in.Tie as tie
+
+module _ (g : tie.After-degree-from) where
+  abbrev start : tie.Start
+  start = g .before
+
+  degree-is : g .degree-from .result ≡ degree (start .args .kind) (start .args .n)
+  degree-is = parts-degree (start .args .n) _ (start .pre .0) (start .args .kind) _ (g .degree-from .ensures)
+
+-- what the making came to, with h as it was asked
+made : (c : tie.After-make)
+    → MakingOutcomeIs (start (c .before .before .before) .args .kind) (start (c .before .before .before) .args .n)
+    (start (c .before .before .before) .args .h) (c .make .last .0) (c .make .result)
+made c =
+    let p = start (c .before .before .before) in
+    rw (read-back (p .args .h) (p .fits .h .sfits)) at (c .make .ensures)
+
+degree-from-requires : tie.Need-degree-from-requires
+degree-from-requires c κs = search needs
+
+refused-requires : tie.Need-refused-requires
+refused-requires c κs = search needs
+
+returns : tie.Need-returns
+returns c =
+    let g = c .before .before in
+    let p = start g in
+    let d = degree-is g in
+    let s = at-short (p .args .kind) (p .args .n) (p .args .h) (p .args .buf .now)
+    (ask-short _ _ _ _ (p .pre .1) (p .pre .2) (p .pre .3) (omega arith)) in
+    (c .refused .ensures ∙ ap (told-only SHORT) d ∙ s .0, s .1)
+
+add-size : tie.Need-add-size
+add-size c = search needs
+
+slice-relend-prefix-make : tie.Need-slice-relend-prefix-make
+slice-relend-prefix-make c = search needs
+
+slice-aggregate-make : tie.Need-slice-aggregate-make
+slice-aggregate-make c =
+    let p = start (c .before .before) in sym (length-take-le _ (p .args .buf .now) (omega arith))
+
+make-requires : tie.Need-make-requires
+make-requires c κs =
+    let g = c .before .before in
+    let p = start g in (
+      record {
+        parts = p .pre .0;
+        known = p .pre .1;
+        good = p .pre .2;
+        room = length-take-le _ (p .args .buf .now) (omega arith) ∙ ap (λ k. k + 1) (degree-is g);
+      },
+      rw (read-back (p .args .h) (p .fits .h .sfits)) (p .pre .3),
+    )
+
+refused-requires-2 : tie.Need-refused-requires-2
+refused-requires-2 c κs = search needs
+
+same-length : tie.Need-same-length
+same-length c = search needs
+
+returns-2 : tie.Need-returns-2
+returns-2 c =
+    let g = c .before .before .before .before .before .before .before in
+    let p = start g in
+    let s = refuses (p .args .kind) (p .args .n) (p .args .h) (p .args .buf .now) (p .pre .1) (p .pre .2) (p .pre .3) _
+    (degree-is g) (omega arith) _ _ (made (c .before .before .before .before)) (c .before .if2 .taken) in
+    (c .refused2 .ensures ∙ s .0, s .1)
+
+gain-of-requires : tie.Need-gain-of-requires
+gain-of-requires c κs =
+    let p = start (c .before .before .before .before .before .before) in
+    let i = index-good (p .args .n) (p .pre .2) in
+    (i .0, i .1, parts-phi (p .args .n) _ (p .pre .0))
+
+same-length-2 : tie.Need-same-length-2
+same-length-2 c = search needs
+
+returns-3 : tie.Need-returns-3
+returns-3 c =
+    let g = c .before .before .before .before .before .before .before in
+    let p = start g in
+    delivers (p .args .kind) (p .args .n) (p .args .h) (p .args .buf .now) (p .pre .1) (p .pre .2) (p .pre .3) _
+    (degree-is g) (omega arith) _ _ (made (c .before .before .before .before)) (c .before .if2 .left) _
+    (c .gain-of .ensures)
+
+pub answer-in-spec : {M : Type 1} → statement M
+answer-in-spec =
+    tie.close
+    (tie.spec
+    degree-from-requires
+    refused-requires
+    returns
+    add-size
+    slice-relend-prefix-make
+    slice-aggregate-make
+    make-requires
+    refused-requires-2
+    same-length
+    returns-2
+    gain-of-requires
+    same-length-2
+    returns-3)

@@ -1,0 +1,167 @@
+-- `make_by_steps` meets its contract: the kept half after all divisors, its height, and the outcome (`Halfway`). What
+-- is known after `half_degree`, after the steps and after the height is named once each.
+use Prim.Native.Nat.{ℕ, _+_, _≤_}
+use mathlib.Core.Path.{_≡_, sym, _∙_, ap, ap₂}
+use mathlib.Core.Bool.{false}
+use mathlib.Core.List.{List, _++_}
+use native.Mathlib.Omega.{arith}
+use lib.IntN.{ℤ, pos}
+use lib.ListN.{length, take, drop}
+use lib.Seq.{length-take-le}
+use lib.Signed.{ltZ}
+use Rattle.definitions.specs.Numbers.{rOf}
+use Rattle.definitions.specs.KeptHalf.{halfDegree}
+use Rattle.definitions.specs.Answer.{height}
+use Rattle.kept.proofs.Stopping.{half-is}
+use Rattle.shapes.proofs.Negation.{read-back}
+use Rattle.polynomial.proofs.Stepping.{steps-due, half-room, Halfway, halfway}
+use borrow.Author.Needs.{needs}
+use Rattle.polynomial.proofs.making.make_by_steps.Statement.{statement}
+use Rattle.polynomial.proofs.making.make_by_steps.Tie as tie
+
+module _ (q : tie.After-half-degree) where
+  abbrev start : tie.Start
+  start = q .before
+
+  abbrev D : ℕ
+  D = q .half-degree .result
+
+  abbrev old : List ℤ
+  old = start .args .b .now
+
+  d-is : D ≡ halfDegree (start .args .kind) (rOf (start .args .n))
+  d-is = half-is _ _ _ (steps-due (start .pre .0) (start .pre .1)) _ (q .half-degree .ensures)
+
+  room : D + 1 ≤ length old
+  room = half-room _ _ _ _ (start .pre .0) (start .pre .1) _ d-is
+
+  part-length : length (take (D + 1) old) ≡ D + 1
+  part-length = length-take-le (D + 1) old room
+
+-- after the steps
+module _ (c : tie.After-all-steps) where
+  abbrev at-start : tie.After-half-degree
+  at-start = c .before .before
+
+  mid : Halfway (start at-start .args .kind) (start at-start .args .n) (start at-start .args .parts) (old at-start)
+      (D at-start) (c .all-steps .last .1 .1 .1 .0) (c .all-steps .result)
+  mid = halfway _ _ _ _ (start at-start .pre .0) (start at-start .pre .1) _ (d-is at-start) _ _ (c .all-steps .ensures)
+
+  part-room : D at-start + 1 ≤ length (c .all-steps .last .1 .1 .1 .0 ++ drop (D at-start + 1) (old at-start))
+  part-room = omega (arith, mid .rest-length, room at-start)
+
+-- after the height
+module _ (t : tie.After-is-tall) where
+  abbrev steps : tie.After-all-steps
+  steps = t .before .before .before .before .before
+
+  abbrev begin : tie.Start
+  begin = start (at-start steps)
+
+  inside : steps .all-steps .result .over ≡ false
+  inside = t .before .before .before .if1 .left
+
+  high : t .before .height .result ≡ height (begin .args .kind) (begin .args .n)
+  high = mid steps .height-is inside _ (t .before .height .ensures)
+
+  told : t .is-tall .result ≡ ltZ (begin .args .h) (pos (height (begin .args .kind) (begin .args .n)))
+  told = t .is-tall .ensures
+      ∙ ap₂ (λ x y. ltZ x (pos y)) (read-back (begin .args .h) (begin .fits .h .sfits)) high
+
+half-degree-requires : tie.Need-half-degree-requires
+half-degree-requires c κs = search needs
+
+add-half : tie.Need-add-half
+add-half c = omega (arith, room c)
+
+slice-relend-prefix-all-steps : tie.Need-slice-relend-prefix-all-steps
+slice-relend-prefix-all-steps c = room c
+
+slice-aggregate-all-steps : tie.Need-slice-aggregate-all-steps
+slice-aggregate-all-steps c = sym (part-length (c .before))
+
+all-steps-requires : tie.Need-all-steps-requires
+all-steps-requires c κs =
+    let q = c .before in
+    (steps-due (start q .pre .0) (start q .pre .1), part-length q ∙ ap (λ k. k + 1) (d-is q))
+
+clear-requires : tie.Need-clear-requires
+clear-requires c κs = search needs
+
+refused-requires : tie.Need-refused-requires
+refused-requires c κs = search needs
+
+same-length : tie.Need-same-length
+same-length c = search needs
+
+returns : tie.Need-returns
+returns c =
+    rw (c .refused .ensures)
+    (mid (c .before .before .before .before .before .before) .over _ _ (c .before .before .before .before .if1 .taken)
+    (c .before .before .clear .ensures))
+
+slice-reshare-prefix-height : tie.Need-slice-reshare-prefix-height
+slice-reshare-prefix-height c = part-room (c .before .before)
+
+slice-aggregate-height : tie.Need-slice-aggregate-height
+slice-aggregate-height c = sym (length-take-le _ _ (part-room (c .before .before .before)))
+
+height-requires : tie.Need-height-requires
+height-requires c κs = search needs
+
+is-tall-requires : tie.Need-is-tall-requires
+is-tall-requires c κs = search needs
+
+clear-requires-2 : tie.Need-clear-requires-2
+clear-requires-2 c κs = search needs
+
+refused-requires-2 : tie.Need-refused-requires-2
+refused-requires-2 c κs = search needs
+
+same-length-2 : tie.Need-same-length-2
+same-length-2 c = search needs
+
+returns-2 : tie.Need-returns-2
+returns-2 c =
+    let t = c .before .before .before .before .before in
+    rw (c .refused2 .ensures)
+    (mid (steps t) .tall (inside t) _ _ (sym (told t) ∙ c .before .before .before .before .if2 .taken)
+    (c .before .before .clear2 .ensures))
+
+from-lower-half-requires : tie.Need-from-lower-half-requires
+from-lower-half-requires c κs =
+    let t = c .before .before in (mid (steps t) .ready, mid (steps t) .lower (inside t))
+
+same-length-3 : tie.Need-same-length-3
+same-length-3 c = search needs
+
+returns-3 : tie.Need-returns-3
+returns-3 c =
+    let t = c .before .before .before .before in
+    mid (steps t) .done (inside t) _ _ _ (sym (told t) ∙ c .before .before .before .if2 .left)
+    (c .before .from-lower-half .ensures) (high t)
+
+pub make-by-steps-spec : {M : Type 1} → statement M
+make-by-steps-spec =
+    tie.close
+    (tie.spec
+    half-degree-requires
+    add-half
+    slice-relend-prefix-all-steps
+    slice-aggregate-all-steps
+    all-steps-requires
+    clear-requires
+    refused-requires
+    same-length
+    returns
+    slice-reshare-prefix-height
+    slice-aggregate-height
+    height-requires
+    is-tall-requires
+    clear-requires-2
+    refused-requires-2
+    same-length-2
+    returns-2
+    from-lower-half-requires
+    same-length-3
+    returns-3)

@@ -1,0 +1,2 @@
+-- What the shaping passes leave, entry by entry.
+pub mod Shapes

@@ -1,0 +1,26 @@
+-- What the shaping passes leave, entry by entry.
+use Prim.Native.Nat.{ℕ, _-_, _<_, _≤_, _/_, _+_}
+use mathlib.Core.Bool.{Bool, cond, _&&_}
+use mathlib.Core.List.{List}
+use lib.ListN.{length}
+use lib.IntN.{ℤ, natAbs}
+use lib.Dec.{eqb, ltb, leb}
+use Rattle.definitions.specs.Integers.{⊖, 0ℤ}
+use Rattle.definitions.specs.Series.{Series}
+use Rattle.definitions.specs.Steps.{entries, largest}
+
+-- each of the first n entries can be negated
+abbrev pub InRange : ℕ → List ℤ → Type 0
+InRange n l = (i : ℕ) → i < n → natAbs (entries l i) ≤ largest
+
+-- the upper half of n entries mirrors the lower
+unfoldable pub mirroredUp : Bool → ℕ → Series → Series
+mirroredUp negate n f i = cond (ltb i ((n + 1) / 2)) (f i) (cond negate (⊖ (f (n - 1 - i))) (f (n - 1 - i)))
+
+-- the entries from r on are the negatives of those r before
+unfoldable pub negatedCopy : ℕ → Series → Series
+negatedCopy r f i = cond (ltb i r) (f i) (⊖ (f (i - r)))
+
+-- entry i at `at`, and nothing from `next` on up to there
+unfoldable pub movedUp : ℕ → ℕ → ℕ → Series → Series
+movedUp i at next f k = cond (eqb k at) (f i) (cond (leb next k && ltb k at) 0ℤ (f k))

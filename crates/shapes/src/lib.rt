@@ -1,0 +1,118 @@
+// Inner: each `requires` is shown by the callers `kept` and `polynomial`. The passes that give a polynomial its shape,
+// in place: clearing, the upper half, the signs and the second copy of an even index, and z^t for z. Each works on a
+// slice that is just as long as what it makes.
+ghost use Prim.Native.Nat.{ℕ, _+_, _*_, _-_, _/_, _<_, _≤_};
+ghost use mathlib.Core.Path.{_≡_};
+ghost use mathlib.Core.Bool.{cond};
+ghost use lib.ListN.{length, set};
+ghost use lib.IntN.{natAbs};
+ghost use Rattle.definitions.specs.Integers.{⊖};
+ghost use Rattle.definitions.specs.Series.{firsts, constant, alternate, spread};
+ghost use Rattle.definitions.specs.Steps.{entries, largest};
+ghost use Rattle.definitions.specs.Requests.{zeros};
+ghost use Rattle.shapes.specs.Shapes.{InRange, mirroredUp, negatedCopy, movedUp};
+
+// All entries 0.
+pub fn clear(a: &mut [i64])
+    ensures { λ _. ⌜ now (a .exit) ≡ zeros (length (now (a .entry))) ⌝ }
+{
+    let mut i = 0;
+    while i < a.len() {
+        a[i] = 0;
+        i += 1;
+    }
+}
+
+// The upper half from the lower: entry N - i is entry i, or its negative.
+pub fn mirror(a: &mut [i64], negate: bool)
+    requires { ⌜ InRange ((length (now a) + 1) / 2) (now a) ⌝ }
+    ensures { λ _.
+        ⌜ now (a .exit)
+        ≡ firsts (length (now (a .entry))) (mirroredUp negate (length (now (a .entry))) (entries (now (a .entry)))) ⌝ }
+{
+    let n = a.len();
+    let mut i = (n + 1) / 2;
+    while i < n {
+        let k = n - 1 - i;
+        put_signed(a, k, i, negate);
+        i += 1;
+    }
+}
+
+// Entry k, or its negative, at i.
+fn put_signed(a: &mut [i64], k: usize, i: usize, negate: bool)
+    requires { ⌜ (k < length (now a)) × (i < length (now a)) × (natAbs (entries (now a) k) ≤ largest) ⌝ }
+    ensures { λ _.
+        ⌜ now (a .exit)
+        ≡ set (now (a .entry)) i (cond negate (⊖ (entries (now (a .entry)) k)) (entries (now (a .entry)) k)) ⌝ }
+{
+    if negate {
+        negate_to(a, k, i);
+    } else {
+        copy_to(a, k, i);
+    }
+}
+
+fn copy_to(a: &mut [i64], k: usize, i: usize)
+    requires { ⌜ (k < length (now a)) × (i < length (now a)) ⌝ }
+    ensures { λ _. ⌜ now (a .exit) ≡ set (now (a .entry)) i (entries (now (a .entry)) k) ⌝ }
+{
+    a[i] = a[k];
+}
+
+fn negate_to(a: &mut [i64], k: usize, i: usize)
+    requires { ⌜ (k < length (now a)) × (i < length (now a)) × (natAbs (entries (now a) k) ≤ largest) ⌝ }
+    ensures { λ _. ⌜ now (a .exit) ≡ set (now (a .entry)) i (⊖ (entries (now (a .entry)) k)) ⌝ }
+{
+    a[i] = -a[k];
+}
+
+// The entries at odd places negated.
+pub fn alternate(a: &mut [i64])
+    requires { ⌜ InRange (length (now a)) (now a) ⌝ }
+    ensures { λ _. ⌜ now (a .exit) ≡ firsts (length (now (a .entry))) (alternate (entries (now (a .entry)))) ⌝ }
+{
+    let n = a.len();
+    let mut i = 1;
+    while i < n {
+        negate_to(a, i, i);
+        i += 2;
+    }
+}
+
+// From r on, the negatives of the entries r before.
+pub fn negated_copy(a: &mut [i64], r: usize)
+    requires { ⌜ InRange (length (now a) - r) (now a) × (1 ≤ r) × (r ≤ length (now a)) × (length (now a) ≤ r + r) ⌝ }
+    ensures { λ _. ⌜ now (a .exit) ≡ firsts (length (now (a .entry))) (negatedCopy r (entries (now (a .entry)))) ⌝ }
+{
+    let n = a.len();
+    let mut i = r;
+    while i < n {
+        negate_to(a, i - r, i);
+        i += 1;
+    }
+}
+
+// Entry i at `at`, and zeros from `next` on up to there.
+fn move_up(a: &mut [i64], i: usize, at: usize, next: usize)
+    requires { ⌜ (i ≤ at) × (next ≤ at) × (at < length (now a)) ⌝ }
+    ensures { λ _. ⌜ now (a .exit) ≡ firsts (length (now (a .entry))) (movedUp i at next (entries (now (a .entry)))) ⌝ }
+{
+    copy_to(a, i, at);
+    clear(&mut a[next..at]);
+}
+
+// z^t for z: the entries 0, 1, .. go to 0, t, .. with zeros between, from the top down, so that none is overwritten
+// before it is moved.
+pub fn spread(a: &mut [i64], top: usize, t: usize)
+    requires { ⌜ (1 ≤ t) × (length (now a) ≡ top * t + 1) ⌝ }
+    ensures { λ _. ⌜ now (a .exit) ≡ firsts (length (now (a .entry))) (spread t (entries (now (a .entry)))) ⌝ }
+{
+    let mut i = top;
+    let mut at = a.len() - 1;
+    while 0 < i {
+        move_up(a, i, at, at - t + 1);
+        at -= t;
+        i -= 1;
+    }
+}
