@@ -73,7 +73,7 @@ pub extern "C" fn bv_partial(kind: u64, n: u64, j: u64, buf: &mut [i64]) -> BvSt
     ensures answer { λ r. ⌜ r ≡ sameStop (Partial.answer kind n j (length (now (buf .entry)))) ⌝ }
     ensures leaves { λ _. ⌜ now (buf .exit) ≡ Partial.leaves kind n j (now (buf .entry)) ⌝ }
 {
-    same::stop(polynomial::partial(kind, n, j, buf))
+    same::stop(kept::partial(kind, n, j, buf))
 }
 
 // A step of either sort on its own.
