@@ -27,18 +27,28 @@ module _ {s : Sort} {d : ℕ} {l m : List ℤ} {r : Bool} (t : Taken s d l m r) 
       let is : m ≡ stepList s d l = t .leaves ∙ ap (λ b. cond b (stepList s d l) l) e in
       rw (is, length-stepList s d l) (told-done largest s d l one most (t .over ∙ ap not e))
 
-  refused : r ≡ false → Told largest s d l OVER 0 m
-  refused e =
+  undone : r ≡ false → Told largest s d l OVER 0 m
+  undone e =
       let is : m ≡ l = t .leaves ∙ ap (λ b. cond b (stepList s d l) l) e in
       rw is (told-over largest s d l one most (t .over ∙ ap not e))
 
+refused-requires : tie.Need-refused-requires
+refused-requires c κs = search needs
+
 returns : tie.Need-returns
-returns c = clauses (told-zero largest _ (c .before .args .self .size) (c .before .args .a .now) (c .if1 .taken))
+returns c =
+    let q = c .before .before in
+    rw (c .refused .ensures)
+    (clauses (told-zero largest _ (q .args .self .size) (q .args .a .now) (c .before .if1 .taken)))
+
+refused-requires-2 : tie.Need-refused-requires-2
+refused-requires-2 c κs = search needs
 
 returns-2 : tie.Need-returns-2
 returns-2 c =
-    clauses (told-large largest _ (c .before .before .args .self .size) (c .before .before .args .a .now)
-    (c .if2 .taken))
+    let q = c .before .before .before in
+    rw (c .refused2 .ensures)
+    (clauses (told-large largest _ (q .args .self .size) (q .args .a .now) (c .before .if2 .taken)))
 
 returns-3 : tie.Need-returns-3
 returns-3 c =
@@ -59,24 +69,31 @@ returns-4 c =
     clauses (done (c .before .before .taken .ensures) (omega arith)
     (c .before .before .before .before .before .if2 .left) (c .if4 .taken))
 
+refused-requires-3 : tie.Need-refused-requires-3
+refused-requires-3 c κs = search needs
+
 same-length-2 : tie.Need-same-length-2
 same-length-2 c = search needs
 
 returns-5 : tie.Need-returns-5
 returns-5 c =
-    clauses (refused (c .before .before .taken .ensures) (omega arith)
-    (c .before .before .before .before .before .if2 .left) (c .if4 .left))
+    rw (c .refused3 .ensures)
+    (clauses (undone (c .before .before .before .taken .ensures) (omega arith)
+    (c .before .before .before .before .before .before .if2 .left) (c .before .if4 .left)))
 
 pub apply-spec : {M : Type 1} → statement M
 apply-spec =
     tie.close
     (tie.spec
+    refused-requires
     returns
+    refused-requires-2
     returns-2
     returns-3
     taken-requires
     sub-count
     same-length
     returns-4
+    refused-requires-3
     same-length-2
     returns-5)
