@@ -2,7 +2,7 @@
 use super::walk::Next;
 use super::walk::Walk;
 use passes::Sort;
-use passes::step_under;
+use passes::untested_step;
 use steps::Step;
 ghost use Prim.Native.Nat.{ℕ, _+_, _*_, _-_, _≤_, _<_};
 ghost use mathlib.Core.Path.{_≡_};
@@ -59,7 +59,7 @@ fn untested(a: &mut [i64], sort: Sort, d: u64, grown: u64) -> Moved
     requires { ⌜ Bounded grown (entries (stepList (sortMeans sort) d (now a))) × (grown ≤ largest) ⌝ }
     ensures { λ r. ⌜ Advanced (sortMeans sort) d (now (a .entry)) (now (a .exit)) r ⌝ }
 {
-    step_under(sort, a, d as usize);
+    untested_step(sort, a, d as usize);
     Moved {
         over: false,
         bound: grown,

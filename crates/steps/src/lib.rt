@@ -4,7 +4,7 @@ ghost use mathlib.Core.Path.{_≡_};
 ghost use Rattle.definitions.specs.Steps.{largest, stepCode, stepCount, stepLeaves};
 ghost use Rattle.passes.specs.Sorts.{sortMeans};
 pub use passes::Sort;
-use passes::taken;
+use passes::step_or_undo;
 
 pub struct Step {
     pub sort: Sort,
@@ -48,7 +48,7 @@ impl Step {
                 count: 0,
             };
         }
-        if taken(sort, a, d) {
+        if step_or_undo(sort, a, d) {
             let count = (a.len() - d) as u64;
             return Stepped {
                 code: answers::DONE,

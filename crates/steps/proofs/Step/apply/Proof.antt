@@ -11,7 +11,7 @@ use Rattle.definitions.specs.Codes.{DONE, OVER}
 use Rattle.definitions.specs.Steps.{Sort, largest, stepCode, stepCount, stepLeaves, stepList}
 use Rattle.step_laws.specs.Step.{length-stepList}
 use Rattle.step_laws.specs.Told.{Told, told-zero, told-large, told-over, told-done, told-long}
-use Rattle.passes.specs.Passes.{Taken}
+use Rattle.passes.specs.Passes.{SteppedOrUndone}
 use Rattle.steps.proofs.Step.apply.Statement.{statement}
 use Rattle.steps.proofs.Step.apply.Tie as tie
 
@@ -20,7 +20,8 @@ clauses : {s : Sort} {d : ℕ} {l : List ℤ} {code count : ℕ} {m : List ℤ} 
     → (code ≡ stepCode largest s d l) × ((count ≡ stepCount largest s d l) × (m ≡ stepLeaves largest s d l))
 clauses t = (t .code, (t .count, t .leaves))
 
-module _ {s : Sort} {d : ℕ} {l m : List ℤ} {r : Bool} (t : Taken s d l m r) (one : 1 ≤ d) (most : d ≤ 65535) where
+module _ {s : Sort} {d : ℕ} {l m : List ℤ} {r : Bool} (t : SteppedOrUndone s d l m r) (one : 1 ≤ d)
+    (most : d ≤ 65535) where
   -- a step that was taken, and one that was not
   done : r ≡ true → Told largest s d l DONE (length m - d) m
   done e =
@@ -55,8 +56,8 @@ returns-3 c =
     clauses (told-long largest _ (c .before .before .before .args .self .size) (c .before .before .before .args .a .now)
     (omega arith) (c .before .if2 .left) (c .if3 .taken))
 
-taken-requires : tie.Need-taken-requires
-taken-requires c κs = search needs
+step-or-undo-requires : tie.Need-step-or-undo-requires
+step-or-undo-requires c κs = search needs
 
 sub-count : tie.Need-sub-count
 sub-count c = search needs
@@ -66,7 +67,7 @@ same-length c = search needs
 
 returns-4 : tie.Need-returns-4
 returns-4 c =
-    clauses (done (c .before .before .taken .ensures) (omega arith)
+    clauses (done (c .before .before .step-or-undo .ensures) (omega arith)
     (c .before .before .before .before .before .if2 .left) (c .if4 .taken))
 
 refused-requires-3 : tie.Need-refused-requires-3
@@ -78,7 +79,7 @@ same-length-2 c = search needs
 returns-5 : tie.Need-returns-5
 returns-5 c =
     rw (c .refused3 .ensures)
-    (clauses (undone (c .before .before .before .taken .ensures) (omega arith)
+    (clauses (undone (c .before .before .before .step-or-undo .ensures) (omega arith)
     (c .before .before .before .before .before .before .if2 .left) (c .before .if4 .left)))
 
 pub apply-spec : {M : Type 1} → statement M
@@ -90,7 +91,7 @@ apply-spec =
     refused-requires-2
     returns-2
     returns-3
-    taken-requires
+    step-or-undo-requires
     sub-count
     same-length
     returns-4
