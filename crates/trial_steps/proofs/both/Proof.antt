@@ -1,9 +1,9 @@
--- `steps_trial::both` is safe: the first n entries of an array of 8 are n.
+-- `trial_steps::both` is safe: the first n entries of an array of 8 are n.
 use native.Mathlib.Omega.{arith}
 use lib.ListN.{length-take}
 use borrow.Author.Needs.{needs}
-use Rattle.steps_trial.proofs.both.Statement.{statement}
-use Rattle.steps_trial.proofs.both.Tie as tie
+use Rattle.trial_steps.proofs.both.Statement.{statement}
+use Rattle.trial_steps.proofs.both.Tie as tie
 
 array-borrow-prefix-c : tie.Need-array-borrow-prefix-c
 array-borrow-prefix-c c = search needs

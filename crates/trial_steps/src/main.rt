@@ -2,37 +2,8 @@
 // code, the count, a colon and the entries. `second/steps.py` makes the same lines from the definition.
 
 ghost use Prim.Native.Nat.{_≤_};
-ghost use mathlib.Core.Path.{_≡_};
-ghost use lib.IntN.{natAbs};
 use steps::Sort;
 use steps::Step;
-
-// A number's magnitude, which for -2^63 is no i64.
-fn magnitude(x: i64) -> u64
-    ensures { λ r. ⌜ r ≡ natAbs x ⌝ }
-{
-    if x < 0 {
-        return (-(x + 1)) as u64 + 1;
-    }
-    x as u64
-}
-
-fn print_number(x: i64) {
-    if x < 0 {
-        io::write_all(1, b" -");
-    } else {
-        io::write_all(1, b" ");
-    }
-    io::print_decimal(1, magnitude(x));
-}
-
-fn print_entries(a: &[i64]) {
-    let mut i = 0;
-    while i < a.len() {
-        print_number(a[i]);
-        i += 1;
-    }
-}
 
 fn letter(sort: Sort) {
     match sort {
@@ -58,8 +29,7 @@ fn show(sort: Sort, size: u64, a: &mut [i64]) {
     io::write_all(1, b" ");
     io::print_decimal(1, told.count);
     io::write_all(1, b" :");
-    print_entries(a);
-    io::write_all(1, b"\n");
+    lines::entries(b" ", a, b"");
 }
 
 // Both sorts, each on the first n entries of a.

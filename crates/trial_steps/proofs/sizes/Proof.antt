@@ -1,8 +1,8 @@
--- `steps_trial::sizes` is safe and ends.
+-- `trial_steps::sizes` is safe and ends.
 use Prim.Native.Nat.{_≤_, _-_}
 use native.Mathlib.Omega.{arith}
-use Rattle.steps_trial.proofs.sizes.Statement.{statement}
-use Rattle.steps_trial.proofs.sizes.Tie as tie
+use Rattle.trial_steps.proofs.sizes.Statement.{statement}
+use Rattle.trial_steps.proofs.sizes.Tie as tie
 
 abbrev Inv-loop : tie.InvT-loop
 Inv-loop a n i₀ i = i ≤ 10

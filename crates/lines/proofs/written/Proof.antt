@@ -1,9 +1,9 @@
--- `trials::written` is safe and ends: the place falls.
+-- `lines::written` is safe and ends: the place falls.
 use borrow.Author.Needs.{needs}
 use Prim.Native.Nat.{_≤_}
 use lib.ListN.{length}
-use Rattle.trials.proofs.written.Statement.{statement}
-use Rattle.trials.proofs.written.Tie as tie
+use Rattle.lines.proofs.written.Statement.{statement}
+use Rattle.lines.proofs.written.Tie as tie
 
 abbrev Inv-loop : tie.InvT-loop
 Inv-loop a i₀ i = i ≤ length a
