@@ -33,18 +33,20 @@ def indices():
     yield constant("CHOICE", "u64", choice.choice())
 
 
-def columns(prefix, names, rows):
-    for (name, kind), values in zip(names, zip(*rows)):
-        yield constant(prefix + name, kind, values)
+def rows(request, asked):
+    for arguments in asked:
+        yield "    Request::%s(%s),\n" % (request, ", ".join(map(str, arguments)))
 
 
 def asked():
-    yield "// The requests of second/refusals.py, a table for each argument, written by second/make.py.\n"
-    yield counted("ASKED", refusals.POLYNOMIALS)
-    yield from columns("", [("KINDS", "u64"), ("INDICES", "u64"), ("LIMITS", "i64"), ("ROOMS", "usize")], refusals.POLYNOMIALS)
-    yield "\n" + counted("STOPPED", refusals.PARTIALS)
-    names = [("KINDS", "u64"), ("INDICES", "u64"), ("AFTER", "u64"), ("ROOMS", "usize")]
-    yield from columns("STOPPED_", names, refusals.PARTIALS)
+    count = len(refusals.POLYNOMIALS) + len(refusals.PARTIALS)
+    yield "// The requests of second/refusals.py, a row for each, written by second/make.py.\n"
+    yield "use crate::Request;\n\n"
+    yield "pub const COUNT: usize = %d;\n" % count
+    yield "\npub const TABLE: [Request; %d] = [\n" % count
+    yield from rows("Polynomial", refusals.POLYNOMIALS)
+    yield from rows("Partial", refusals.PARTIALS)
+    yield "];\n"
 
 
 def table():
@@ -88,7 +90,7 @@ def store(path, parts):
 
 
 if __name__ == "__main__":
-    store("steps_trial/stdout", printed("steps.py"))
+    store("trial_steps/stdout", printed("steps.py"))
     store("shelf_trial/stdout", printed("shelf.py"))
     store("list/stdout", listed())
     store("trial_table/src/choice.rt", indices())

@@ -1,6 +1,6 @@
 // One step on the kept half. Where the magnitudes of its entries are known to be small enough it needs no test.
 use passes::Sort;
-use passes::step_under;
+use passes::untested_step;
 use steps::Step;
 ghost use Prim.Native.Nat.{ℕ, _+_, _*_, _≤_};
 ghost use mathlib.Core.Path.{_≡_};
@@ -36,7 +36,7 @@ fn take_untested(a: &mut [i64], sort: Sort, d: u64, grown: u64) -> StepOutcome
     requires { ⌜ Bounded grown (entries (stepList (sortMeans sort) d (now a))) × (grown ≤ largest) ⌝ }
     ensures { λ r. ⌜ StepOutcomeIs (sortMeans sort) d (now (a .entry)) (now (a .exit)) r ⌝ }
 {
-    step_under(sort, a, d as usize);
+    untested_step(sort, a, d as usize);
     StepOutcome {
         over: false,
         bound: grown,

@@ -1,7 +1,7 @@
 -- Laws that the functions' proofs share.
 pub mod Split
 pub mod Below
-pub mod Turns
+pub mod ByEntry
 pub mod Whole
-pub mod Fours
+pub mod FourEntries
 pub mod Rest

@@ -12,7 +12,7 @@ use Rattle.definitions.specs.Series.{Series, firsts}
 use Rattle.definitions.specs.Steps.{comb, accumulate}
 use Rattle.step_laws.specs.Tests.{by-order}
 use Rattle.step_laws.specs.Firsts.{is-firsts}
-use Rattle.passes.specs.Passes.{Split, All, turnAt}
+use Rattle.passes.specs.Passes.{Split, All, newEntry}
 
 -- an entry after a store at j: what was stored, or what stood there
 pub getD-set-by : (l : List ℤ) (j : ℕ) (v : ℤ) → j < length l → (k : ℕ) (x : ℤ) → (k ≡ j → v ≡ x)
@@ -54,10 +54,10 @@ module _ {l : List ℤ} {n i : ℕ} {f g : Series} (s : Split l n i f g) (k j : 
 -- what a turn computes: the older entry of a sum is done already, those of a difference are both still to be done
 module _ {l : List ℤ} {n i : ℕ} {f g : Series} (s : Split l n i f g) (d k : ℕ) (one : 1 ≤ d) (h : d ≤ k)
     (b : k < n) where
-  pub plus-turn : i ≤ k → k < i + d → f k ≡ g k ⊕ f (k - d) → turnAt accumulate d l k ≡ f k
+  pub plus-turn : i ≤ k → k < i + d → f k ≡ g k ⊕ f (k - d) → newEntry accumulate d l k ≡ f k
   plus-turn low high e = ap₂ _⊕_ (s .above k low b) (s .below (k - d) (omega arith) (omega arith)) ∙ sym e
 
-  pub minus-turn : k < i → g k ≡ f k ⊝ f (k - d) → turnAt comb d l k ≡ g k
+  pub minus-turn : k < i → g k ≡ f k ⊝ f (k - d) → newEntry comb d l k ≡ g k
   minus-turn low e = ap₂ _⊝_ (s .below k low b) (s .below (k - d) (omega arith) (omega arith)) ∙ sym e
 
 pub all-firsts : {l : List ℤ} {n : ℕ} {f : Series} → All l n f → l ≡ firsts n f

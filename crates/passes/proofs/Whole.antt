@@ -18,20 +18,21 @@ use Rattle.step_laws.specs.Firsts.{firsts-entries, firsts-same}
 use Rattle.step_laws.specs.Signed.{sub-add, add-sub}
 use Rattle.step_laws.specs.Summed.{summed, summed-from, summed-below, accumulated-from, accumulated-below}
 use Rattle.step_laws.specs.Step.{combed-from, stepped-below, over-is, not-over-all}
-use Rattle.passes.specs.Passes.{All, combedBelow, CombedTo, AccumulatedTo, Taken}
+use Rattle.passes.specs.Passes.{All, combedBelow, CombedTo, AccumulatedTo, SteppedOrUndone}
 use Rattle.passes.proofs.Split.{all-below, all-above, all-firsts}
 use Rattle.passes.proofs.Below.{below-end, past-end, below-d}
 
 module _ (s : Sort) (d : ℕ) (l : List ℤ) where
   -- nothing was left out, and nothing is out of range
   whole : {m : List ℤ} → All m (length l) (stepped s d (entries l))
-      → ((k : ℕ) → d ≤ k → k < length l → inRange largest (stepped s d (entries l) k) ≡ true) → Taken s d l m true
+      → ((k : ℕ) → d ≤ k → k < length l → inRange largest (stepped s d (entries l) k) ≡ true)
+      → SteppedOrUndone s d l m true
   unfolding stepList
   whole t inside = record { over = not-over-all s d l largest inside; leaves = all-firsts t }
 
   -- every entry is back, and one would be out of range
   undone : {m : List ℤ} {f : Series} → All m (length l) f → ((k : ℕ) → k < length l → f k ≡ entries l k) → (r : ℕ)
-      → d ≤ r → r < length l → inRange largest (stepped s d (entries l) r) ≡ false → Taken s d l m false
+      → d ≤ r → r < length l → inRange largest (stepped s d (entries l) r) ≡ false → SteppedOrUndone s d l m false
   undone {f = f} t back r h b out =
       record {
         over = over-is s d l largest (record { at = r; from = h; below = b; outside = out });
@@ -39,13 +40,13 @@ module _ (s : Sort) (d : ℕ) (l : List ℤ) where
       }
 
 module _ {d : ℕ} {l m : List ℤ} {r : ℕ} where
-  pub comb-done : CombedTo d l m r → r ≡ d → Taken comb d l m true
+  pub comb-done : CombedTo d l m r → r ≡ d → SteppedOrUndone comb d l m true
   unfolding stepped
   comb-done t e =
       whole comb d l (all-above (t .split) (λ k b n. sym (stepped-below d (entries l) comb k (omega arith))))
       (λ k h b. t .inside k (omega arith) b)
 
-  pub accumulate-done : AccumulatedTo d l m r → r ≡ length l → Taken accumulate d l m true
+  pub accumulate-done : AccumulatedTo d l m r → r ≡ length l → SteppedOrUndone accumulate d l m true
   unfolding stepped
   accumulate-done t e = whole accumulate d l (all-below (t .split) (omega arith)) (λ k h b. t .inside k h (omega arith))
 
@@ -80,14 +81,15 @@ module _ {d : ℕ} {l m : List ℤ} {r : ℕ} where
       (λ high. past-end d r (entries m) k high ∙ t .split .above k high n)
 
   pub comb-undone : CombedTo d l m r → 1 ≤ d → d < r → inRange largest (combed d (entries l) (r - 1)) ≡ false
-      → {m′ : List ℤ} → All m′ (length m) (summed d r (entries m)) → Taken comb d l m′ false
+      → {m′ : List ℤ} → All m′ (length m) (summed d r (entries m)) → SteppedOrUndone comb d l m′ false
   unfolding stepped
   comb-undone t one h out u =
       undone comb d l (rw (t .split .len) at u) (λ k b. comb-back t one (suc k) k (omega arith) b) (r - 1) (omega arith)
       (omega (arith, t .to)) out
 
   pub accumulate-undone : AccumulatedTo d l m r → 1 ≤ d → r < length l → inRange largest (accumulated d (entries l) r)
-      ≡ false → {m′ : List ℤ} → All m′ (length m) (combedBelow d r (entries m)) → Taken accumulate d l m′ false
+      ≡ false → {m′ : List ℤ} → All m′ (length m) (combedBelow d r (entries m))
+      → SteppedOrUndone accumulate d l m′ false
   unfolding stepped
   accumulate-undone t one h out u =
       undone accumulate d l (rw (t .split .len) at u) (all-back t one) r (t .from) h out

@@ -14,13 +14,13 @@ use Rattle.definitions.specs.Series.{Series}
 use Rattle.definitions.specs.Steps.{Sort, comb, accumulate, combed, accumulated, inRange, largest, entries, stepOver}
 use Rattle.definitions.specs.Steps.{stepList}
 
--- what a turn makes of an entry x and the one y that stands d before it, and of the entry at i of a list
-abbrev pub turned : Sort → ℤ → ℤ → ℤ
-turned comb x y = x ⊝ y
-turned accumulate x y = x ⊕ y
+-- what a step makes of an entry x and the one y that stands d before it, and of the entry at i of a list
+abbrev pub newValue : Sort → ℤ → ℤ → ℤ
+newValue comb x y = x ⊝ y
+newValue accumulate x y = x ⊕ y
 
-abbrev pub turnAt : Sort → ℕ → List ℤ → ℕ → ℤ
-turnAt s d l i = turned s (getD l i 0ℤ) (getD l (i - d) 0ℤ)
+abbrev pub newEntry : Sort → ℕ → List ℤ → ℕ → ℤ
+newEntry s d l i = newValue s (getD l i 0ℤ) (getD l (i - d) 0ℤ)
 
 pub record Split (l : List ℤ) (n i : ℕ) (f g : Series) : Type 0 where
   pub len : length l ≡ n
@@ -39,8 +39,8 @@ abbrev pub Inside : ℕ → ℕ → Series → Type 0
 Inside i n f = (k : ℕ) → i ≤ k → k < n → inRange largest (f k) ≡ true
 
 -- four values v put into their places, from k on
-abbrev pub fourAt : List ℤ → ℕ → Series → List ℤ
-fourAt l k v = set (set (set (set l k (v k)) (k + 1) (v (k + 1))) (k + 2) (v (k + 2))) (k + 3) (v (k + 3))
+abbrev pub setFour : List ℤ → ℕ → Series → List ℤ
+setFour l k v = set (set (set (set l k (v k)) (k + 1) (v (k + 1))) (k + 2) (v (k + 2))) (k + 3) (v (k + 3))
 
 -- the entries from d on and below `end`, each with the old one d before it taken away: a comb that starts early
 unfoldable pub combedBelow : ℕ → ℕ → Series → Series
@@ -64,6 +64,6 @@ pub record AccumulatedTo (d : ℕ) (l m : List ℤ) (r : ℕ) : Type 0 where
   pub fit : Fit d r (entries l)
 
 -- a step on l left m: all of it where `done`, and nothing where a value would be out of range
-pub record Taken (s : Sort) (d : ℕ) (l m : List ℤ) (done : Bool) : Type 0 where
+pub record SteppedOrUndone (s : Sort) (d : ℕ) (l m : List ℤ) (done : Bool) : Type 0 where
   pub over : stepOver largest s d l ≡ not done
   pub leaves : m ≡ cond done (stepList s d l) l

@@ -4,14 +4,7 @@ ghost use mathlib.Core.Path.{_≡_};
 ghost use Rattle.definitions.specs.Steps.{largest, stepCode, stepCount, stepLeaves};
 ghost use Rattle.passes.specs.Sorts.{sortMeans};
 pub use passes::Sort;
-use passes::taken;
-
-// Document 01's codes.
-const DONE: u64 = 0;
-
-const OVER: u64 = 5;
-
-const STEP: u64 = 7;
+use passes::step_or_undo;
 
 pub struct Step {
     pub sort: Sort,
@@ -21,6 +14,15 @@ pub struct Step {
 pub struct Stepped {
     pub code: u64,
     pub count: u64,
+}
+
+impl Stepped {
+    // A refusal: its code, and nothing was added.
+    fn refused(code: u64) -> Stepped
+        ensures { λ r. ⌜ r ≡ record { code = code; count = 0 } ⌝ }
+    {
+        Stepped { code, count: 0 }
+    }
 }
 
 impl Step {
@@ -34,34 +36,25 @@ impl Step {
         let sort = self.sort;
         let size = self.size;
         if size == 0 {
-            return Stepped {
-                code: STEP,
-                count: 0,
-            };
+            return Stepped::refused(answers::STEP);
         }
         if 65535 < size {
-            return Stepped {
-                code: STEP,
-                count: 0,
-            };
+            return Stepped::refused(answers::STEP);
         }
         let d = size as usize;
         if a.len() <= d {
             return Stepped {
-                code: DONE,
+                code: answers::DONE,
                 count: 0,
             };
         }
-        if taken(sort, a, d) {
+        if step_or_undo(sort, a, d) {
             let count = (a.len() - d) as u64;
             return Stepped {
-                code: DONE,
+                code: answers::DONE,
                 count: count,
             };
         }
-        Stepped {
-            code: OVER,
-            count: 0,
-        }
+        Stepped::refused(answers::OVER)
     }
 }

@@ -2,37 +2,27 @@
 // least room and limit that are enough, and the figures of 'Run and compared'.
 mod asked;
 
-use asked::ASKED;
-use asked::INDICES;
-use asked::KINDS;
-use asked::LIMITS;
-use asked::ROOMS;
-use asked::STOPPED;
-use asked::STOPPED_AFTER;
-use asked::STOPPED_INDICES;
-use asked::STOPPED_KINDS;
-use asked::STOPPED_ROOMS;
+use asked::COUNT;
+use asked::TABLE;
 
-fn polynomials(buf: &mut [i64]) {
-    let kinds = KINDS;
-    let indices = INDICES;
-    let limits = LIMITS;
-    let rooms = ROOMS;
-    let mut i = 0;
-    while i < ASKED {
-        trials::polynomial(kinds[i], indices[i], limits[i], rooms[i], buf);
-        i += 1;
+// A request: kind, index, then the limit or the number of steps, and the room.
+pub enum Request {
+    Polynomial(u64, u64, i64, usize),
+    Partial(u64, u64, u64, usize),
+}
+
+fn ask(request: Request, buf: &mut [i64]) {
+    match request {
+        Request::Polynomial(kind, n, h, room) => trials::polynomial(kind, n, h, room, buf),
+        Request::Partial(kind, n, j, room) => trials::partial(kind, n, j, room, buf),
     }
 }
 
-fn partials(buf: &mut [i64]) {
-    let kinds = STOPPED_KINDS;
-    let indices = STOPPED_INDICES;
-    let after = STOPPED_AFTER;
-    let rooms = STOPPED_ROOMS;
+fn ask_all(buf: &mut [i64]) {
+    let table = TABLE;
     let mut i = 0;
-    while i < STOPPED {
-        trials::partial(kinds[i], indices[i], after[i], rooms[i], buf);
+    while i < COUNT {
+        ask(table[i], buf);
         i += 1;
     }
 }
@@ -41,14 +31,12 @@ fn partials(buf: &mut [i64]) {
 fn coefficients() {
     let mut space = [0i64; 49];
     let buf: &mut [i64] = &mut space;
-    polynomial::polynomial(1, 105, 2, buf);
-    trials::entries(buf);
+    trials::coefficients(1, 105, 2, buf);
 }
 
 fn main() {
     let mut space = [0i64; 33000];
     let buf: &mut [i64] = &mut space;
-    polynomials(buf);
-    partials(buf);
+    ask_all(buf);
     coefficients();
 }

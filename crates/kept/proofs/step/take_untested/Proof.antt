@@ -5,8 +5,8 @@ use Rattle.kept.proofs.Untested.{under}
 use Rattle.kept.proofs.step.take_untested.Statement.{statement}
 use Rattle.kept.proofs.step.take_untested.Tie as tie
 
-step-under-requires : tie.Need-step-under-requires
-step-under-requires c κs = search needs
+untested-step-requires : tie.Need-untested-step-requires
+untested-step-requires c κs = search needs
 
 same-length : tie.Need-same-length
 same-length c = search needs
@@ -14,8 +14,8 @@ same-length c = search needs
 returns : tie.Need-returns
 returns c =
     let p = c .before .before .before in
-    under (sortMeans (p .args .sort)) (p .args .d) (p .args .a .now) (p .pre .0 .1) (c .before .step-under .ensures)
+    under (sortMeans (p .args .sort)) (p .args .d) (p .args .a .now) (p .pre .0 .1) (c .before .untested-step .ensures)
     (p .pre .1 .0) (p .pre .1 .1)
 
 pub take-untested-spec : {M : Type 1} → statement M
-take-untested-spec = tie.close (tie.spec step-under-requires same-length returns)
+take-untested-spec = tie.close (tie.spec untested-step-requires same-length returns)

@@ -1,0 +1,14 @@
+-- `lines::within` meets its contract: so many first entries, where there are so many, are so many.
+use native.Mathlib.Omega.{arith}
+use lib.ListN.{length-take}
+use Rattle.lines.proofs.within.Statement.{statement}
+use Rattle.lines.proofs.within.Tie as tie
+
+returns : tie.Need-returns
+returns c = (omega arith, rw length-take (omega arith))
+
+returns-2 : tie.Need-returns-2
+returns-2 c = (omega arith, rw length-take (omega arith))
+
+pub within-spec : {M : Type 1} → statement M
+within-spec = tie.close (tie.spec returns returns-2)

@@ -1,0 +1,45 @@
+-- `passes::untested::untested_step` meets its contract: each arm does the step of its own sort.
+use borrow.Author.Needs.{needs}
+use Rattle.passes.proofs.untested.untested_step.Statement.{statement}
+use Rattle.passes.proofs.untested.untested_step.Tie as tie
+
+enum-told : tie.Need-enum-told
+enum-told c = search needs
+
+untested-comb-requires : tie.Need-untested-comb-requires
+untested-comb-requires c κs =
+    let p = c .before .before .before .pre in
+    (p .0, rw (c .before .enum-told .given .1) at (p .1))
+
+enum-told-2 : tie.Need-enum-told-2
+enum-told-2 c = search needs
+
+untested-accumulate-requires : tie.Need-untested-accumulate-requires
+untested-accumulate-requires c κs =
+    let p = c .before .before .before .pre in
+    (p .0, rw (c .before .enum-told2 .given .1) at (p .1))
+
+same-length : tie.Need-same-length
+same-length c = search needs
+
+returns : tie.Need-returns
+returns c = rw (c .before .before .before .enum-told .given .1) (c .before .untested-comb .ensures)
+
+same-length-2 : tie.Need-same-length-2
+same-length-2 c = search needs
+
+returns-2 : tie.Need-returns-2
+returns-2 c = rw (c .before .before .before .enum-told2 .given .1) (c .before .untested-accumulate .ensures)
+
+pub untested-step-spec : {M : Type 1} → statement M
+untested-step-spec =
+    tie.close
+    (tie.spec
+    enum-told
+    untested-comb-requires
+    enum-told-2
+    untested-accumulate-requires
+    same-length
+    returns
+    same-length-2
+    returns-2)

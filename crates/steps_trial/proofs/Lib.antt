@@ -1,2 +1,0 @@
--- What the proof of `magnitude` uses.
-pub mod Negative

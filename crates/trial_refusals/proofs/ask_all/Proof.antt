@@ -1,0 +1,56 @@
+-- `trial_refusals::ask_all` is safe and ends: the place stays within the table.
+use borrow.Author.Needs.{needs}
+use Prim.Native.Nat.{_-_, _≤_}
+use lib.ListN.{length}
+use mathlib.Core.Path.{_≡_}
+use Rattle.trial_refusals.proofs.ask_all.Statement.{statement}
+use Rattle.trial_refusals.proofs.ask_all.Tie as tie
+
+abbrev Inv-loop : tie.InvT-loop
+Inv-loop buf₀ table i₀ buf i = (i ≤ 64) × (length table ≡ 64) × (length buf ≡ length buf₀)
+
+abbrev μ-loop : tie.MeasureT-loop
+μ-loop buf₀ table i₀ buf i = 64 - i
+
+loop-holds : tie.Need-loop-holds Inv-loop μ-loop
+loop-holds c = search needs
+
+mul-ask : tie.Need-mul-ask Inv-loop μ-loop
+mul-ask c = search needs
+
+array-copy-out-ask : tie.Need-array-copy-out-ask Inv-loop μ-loop
+array-copy-out-ask c = search needs
+
+ask-requires : tie.Need-ask-requires Inv-loop μ-loop
+ask-requires c κs = search needs
+
+add-i : tie.Need-add-i Inv-loop μ-loop
+add-i c = search needs
+
+loop-less : tie.Need-loop-less Inv-loop μ-loop
+loop-less c = search needs
+
+loop-again : tie.Need-loop-again Inv-loop μ-loop
+loop-again c = search needs
+
+same-length : tie.Need-same-length Inv-loop μ-loop
+same-length c = search needs
+
+returns : tie.Need-returns Inv-loop μ-loop
+returns c = search needs
+
+pub ask-all-spec : {M : Type 1} → statement M
+ask-all-spec =
+    tie.close
+    (tie.spec
+    Inv-loop
+    μ-loop
+    loop-holds
+    mul-ask
+    array-copy-out-ask
+    ask-requires
+    add-i
+    loop-less
+    loop-again
+    same-length
+    returns)

@@ -1,0 +1,81 @@
+// Takes steps on awkward slices and prints what becomes of them, a line for each: the sort's letter, the size, the
+// code, the count, a colon and the entries. `second/steps.py` makes the same lines from the definition.
+
+ghost use Prim.Native.Nat.{_≤_};
+use steps::Sort;
+use steps::Step;
+
+fn letter(sort: Sort) {
+    match sort {
+        Sort::Comb => {
+            io::write_all(1, b"C ");
+        }
+        Sort::Accumulate => {
+            io::write_all(1, b"A ");
+        }
+    }
+}
+
+fn show(sort: Sort, size: u64, a: &mut [i64]) {
+    let step = Step {
+        sort: sort,
+        size: size,
+    };
+    let told = step.apply(a);
+    letter(sort);
+    io::print_decimal(1, size);
+    io::write_all(1, b" ");
+    io::print_decimal(1, told.code);
+    io::write_all(1, b" ");
+    io::print_decimal(1, told.count);
+    io::write_all(1, b" :");
+    lines::entries(b" ", a, b"");
+}
+
+// Both sorts, each on the first n entries of a.
+fn both(a: [i64; 8], n: usize, size: u64)
+    requires { ⌜ n ≤ 8 ⌝ }
+{
+    let mut c = a;
+    show(Sort::Comb, size, &mut c[..n]);
+    let mut s = a;
+    show(Sort::Accumulate, size, &mut s[..n]);
+}
+
+const SIZES: [u64; 10] = [0, 1, 2, 3, 7, 8, 9, 65535, 65536, 18446744073709551615];
+
+fn sizes(a: [i64; 8], n: usize)
+    requires { ⌜ n ≤ 8 ⌝ }
+{
+    let mut i = 0;
+    while i < 10 {
+        both(a, n, SIZES[i]);
+        i += 1;
+    }
+}
+
+const MOST: i64 = 9223372036854775807;
+
+const NONE: i64 = -9223372036854775808;
+
+fn main() {
+    sizes([1, 2, 3, 4, 5, 6, 7, 8], 8);
+    sizes([1, 2, 3, 4, 5, 6, 7, 8], 0);
+    sizes([MOST, NONE, 0, -1, 1, MOST, -MOST, 5], 8);
+    sizes([NONE, NONE, NONE, NONE, NONE, NONE, NONE, NONE], 8);
+    sizes([-1, 0, NONE, 0, -1, NONE, 1, NONE], 8);
+    sizes([1, 0, NONE, 1, 0, MOST, 0, NONE], 8);
+    sizes(
+        [
+            0,
+            4611686018427387904,
+            4611686018427387903,
+            0,
+            0,
+            -4611686018427387904,
+            -4611686018427387904,
+            0,
+        ],
+        8,
+    );
+}
