@@ -3,6 +3,7 @@ pub mod Signs
 pub mod Widths
 pub mod Least
 pub mod Passes
+pub mod Told
 pub mod Writing
 pub mod Reading
 pub mod Lowest

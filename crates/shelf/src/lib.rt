@@ -16,6 +16,19 @@ pub struct Written {
     pub used: u64,
 }
 
+impl Written {
+    // A refusal: the degree is told with OVER and SHORT only.
+    pub(crate) fn refused(code: u64, degree: u64) -> Written
+        ensures { λ r. ⌜ r ≡ record { code = code; degree = degree; used = 0 } ⌝ }
+    {
+        Written {
+            code,
+            degree,
+            used: 0,
+        }
+    }
+}
+
 // What the reader answers: the code, the degree, the bytes used, and the kind and the index of the record.
 pub struct Record {
     pub code: u64,
@@ -23,6 +36,21 @@ pub struct Record {
     pub used: u64,
     pub kind: u64,
     pub n: u64,
+}
+
+impl Record {
+    // A refusal: the degree is told with SHORT only.
+    pub(crate) fn refused(code: u64, degree: u64) -> Record
+        ensures { λ r. ⌜ r ≡ record { code = code; degree = degree; used = 0; kind = 0; n = 0 } ⌝ }
+    {
+        Record {
+            code,
+            degree,
+            used: 0,
+            kind: 0,
+            n: 0,
+        }
+    }
 }
 
 // The record of some coefficients, in the bytes lent.
@@ -43,8 +71,8 @@ pub fn read(bytes: &[u8], coeffs: &mut [i64]) -> Record
         ⌜ now (coeffs .exit) ≡ readLeaves (degreeIn (now (bytes .entry))) (now (bytes .entry)) (now (coeffs .entry)) ⌝ }
 {
     let code = reader::header_code(bytes);
-    if code != 0 {
-        return reader::refused(code, 0);
+    if code != answers::DONE {
+        return Record::refused(code, 0);
     }
     let degree = polynomial::degree_of(reader::field(bytes, 2), reader::index_in(bytes));
     reader::read_with(bytes, degree, coeffs)

@@ -13,19 +13,6 @@ ghost use lib.ListN.{length, getD};
 ghost use Rattle.definitions.specs.Codes.{DONE};
 ghost use Rattle.shelf.specs.Format.{headerCode, marked, indexIn, countIn, readAnswer, readLeaves};
 
-// A refusal: the degree is told with SHORT only.
-pub(crate) fn refused(code: u64, degree: u64) -> Record
-    ensures { λ r. ⌜ r ≡ record { code = code; degree = degree; used = 0; kind = 0; n = 0 } ⌝ }
-{
-    Record {
-        code,
-        degree,
-        used: 0,
-        kind: 0,
-        n: 0,
-    }
-}
-
 // What stands in a header.
 fn is_marked(bytes: &[u8]) -> bool
     requires { ⌜ 10 ≤ length (now bytes) ⌝ }
@@ -61,21 +48,21 @@ pub(crate) fn header_code(bytes: &[u8]) -> u64
     ensures { λ r. ⌜ r ≡ headerCode (now (bytes .entry)) ⌝ }
 {
     if bytes.len() < 10 {
-        return 8;
+        return answers::CUT;
     }
     if !is_marked(bytes) {
-        return 9;
+        return answers::MARK;
     }
     if !is_kind(field(bytes, 2)) {
-        return 10;
+        return answers::FIELD;
     }
     if !is_width(field(bytes, 3)) {
-        return 10;
+        return answers::FIELD;
     }
     if index_in(bytes) == 0 {
-        return 10;
+        return answers::FIELD;
     }
-    0
+    answers::DONE
 }
 
 // Reading past a right header, at the degree of its kind and index, which the caller has worked out.
@@ -87,21 +74,21 @@ pub(crate) fn read_with(bytes: &[u8], degree: u64, coeffs: &mut [i64]) -> Record
     let w = field(bytes, 3) as usize;
     let count = count_in(bytes) as usize;
     if count as u64 != degree + 1 {
-        return refused(10, 0);
+        return Record::refused(answers::FIELD, 0);
     }
     let size = 10 + count * w;
     if bytes.len() < size {
-        return refused(8, 0);
+        return Record::refused(answers::CUT, 0);
     }
     if coeffs.len() < count {
-        return refused(4, degree);
+        return Record::refused(answers::SHORT, degree);
     }
     if least_width(height_in(bytes, w, count)) != w {
-        return refused(11, 0);
+        return Record::refused(answers::WIDTH, 0);
     }
     fill(bytes, w, count, coeffs);
     Record {
-        code: 0,
+        code: answers::DONE,
         degree,
         used: size as u64,
         kind: field(bytes, 2),

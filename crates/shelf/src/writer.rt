@@ -49,53 +49,29 @@ pub(crate) fn write_with(
     ensures leaves { λ r. ⌜ now (bytes .exit) ≡ writeLeaves degree kind n (now (coeffs .entry)) (now (bytes .entry)) ⌝ }
 {
     if !is_kind(kind) {
-        return Written {
-            code: 1,
-            degree: 0,
-            used: 0,
-        };
+        return Written::refused(answers::KIND, 0);
     }
     if n == 0 {
-        return Written {
-            code: 2,
-            degree: 0,
-            used: 0,
-        };
+        return Written::refused(answers::INDEX, 0);
     }
     if 65535 < n {
-        return Written {
-            code: 2,
-            degree: 0,
-            used: 0,
-        };
+        return Written::refused(answers::INDEX, 0);
     }
     let count = coeffs.len();
     if count as u64 != degree + 1 {
-        return Written {
-            code: 10,
-            degree: 0,
-            used: 0,
-        };
+        return Written::refused(answers::FIELD, 0);
     }
     let w = least_width(heights::height(coeffs));
     if w == 0 {
-        return Written {
-            code: 5,
-            degree,
-            used: 0,
-        };
+        return Written::refused(answers::OVER, degree);
     }
     let size = 10 + count * w;
     if bytes.len() < size {
-        return Written {
-            code: 4,
-            degree,
-            used: 0,
-        };
+        return Written::refused(answers::SHORT, degree);
     }
     store(kind, n, w, coeffs, bytes);
     Written {
-        code: 0,
+        code: answers::DONE,
         degree,
         used: size as u64,
     }
