@@ -2,9 +2,11 @@
 use mathlib.Core.Path.{sym, _∙_}
 use borrow.Author.Needs.{needs}
 use lib.Dec.{lit<}
-use Rattle.shelf.specs.Format.{degreeIn, kindIn}
+use Rattle.record.specs.Header.{kindIn}
+use Rattle.record.proofs.Headers.{right}
+use Rattle.shelf.specs.Format.{degreeIn}
 use Rattle.shelf.proofs.Told.{told}
-use Rattle.shelf.proofs.Reading.{header-wrong, right}
+use Rattle.shelf.proofs.Reading.{header-wrong}
 use Rattle.shelf.proofs.Degrees.{told-small, degree-in}
 use Rattle.shelf.proofs.read.Statement.{statement}
 use Rattle.shelf.proofs.read.Tie as tie

@@ -5,12 +5,13 @@ use mathlib.Core.List.{List}
 use native.Mathlib.Omega.{arith}
 use borrow.Author.Needs.{needs}
 use lib.Dec.{lit<}
-use Rattle.shelf.specs.Numbers.{width}
-use Rattle.shelf.specs.Format.{kindIn, widthIn, countIn, coefficientsIn, sizeIn, readTells}
+use Rattle.record.specs.Numbers.{width}
+use Rattle.record.specs.Header.{kindIn, widthIn, countIn}
+use Rattle.record.proofs.Widths.{few}
+use Rattle.record.proofs.Headers.{right, in-bounds}
+use Rattle.shelf.specs.Format.{coefficientsIn, sizeIn, readTells}
 use Rattle.shelf.proofs.Told.{told}
-use Rattle.shelf.proofs.Writing.{few}
-use Rattle.shelf.proofs.Reading.{right, in-bounds, count-wrong, cut, no-room, width-wrong, filled, size-in}
-use Rattle.shelf.proofs.Reading.{seen-in, filled-in}
+use Rattle.shelf.proofs.Reading.{count-wrong, cut, no-room, width-wrong, filled, size-in, seen-in, filled-in}
 use Rattle.shelf.proofs.reader.read_with.Statement.{statement}
 use Rattle.shelf.proofs.reader.read_with.Tie as tie
 

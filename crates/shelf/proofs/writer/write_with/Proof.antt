@@ -7,12 +7,15 @@ use lib.Dec.{eqb, ltb}
 use native.Mathlib.Omega.{arith}
 use borrow.Author.Needs.{needs}
 use borrow.Author.Tests.{not-true, not-false}
-use Rattle.shelf.specs.Numbers.{width}
-use Rattle.shelf.specs.Format.{size, isKind, writeTells}
-use Rattle.shelf.proofs.Least.{Fitting, width-none, width-made, width-fits}
+use Rattle.record.specs.Numbers.{width}
+use Rattle.record.specs.Header.{isKind}
+use Rattle.record.proofs.Least.{Fitting, width-none, width-made, width-fits}
+use Rattle.record.proofs.Widths.{few, nonzero}
+use Rattle.record.proofs.Headers.{kind-small}
+use Rattle.shelf.specs.Format.{size, writeTells}
 use Rattle.shelf.proofs.Told.{told}
 use Rattle.shelf.proofs.Writing.{kind-wrong, index-wrong, count-wrong, too-low, no-room, stored, size-made}
-use Rattle.shelf.proofs.Writing.{index-zero, index-above, index-right, few, kind-small, nonzero}
+use Rattle.shelf.proofs.Writing.{index-zero, index-above, index-right}
 use Rattle.shelf.proofs.writer.write_with.Statement.{statement}
 use Rattle.shelf.proofs.writer.write_with.Tie as tie
 
@@ -88,7 +91,8 @@ returns-4 : tie.Need-returns-4
 unfolding writeTells
 returns-4 c =
     let e = c .before .before in
-    told (c .refused4 .ensures) (count-wrong _ _ _ _ _ (kind-ok (e .before .before)) (index-ok e) (c .before .if4 .taken))
+    told (c .refused4 .ensures) (count-wrong _ _ _ _ _ (kind-ok (e .before .before)) (index-ok e)
+    (c .before .if4 .taken))
 
 height-requires : tie.Need-height-requires
 height-requires c κs = search needs
