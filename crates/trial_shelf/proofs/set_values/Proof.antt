@@ -3,8 +3,8 @@ use Prim.Native.Nat.{_-_, _≤_}
 use mathlib.Core.Path.{_≡_}
 use borrow.Author.Needs.{needs}
 use lib.ListN.{length}
-use Rattle.shelf_trial.proofs.set_values.Statement.{statement}
-use Rattle.shelf_trial.proofs.set_values.Tie as tie
+use Rattle.trial_shelf.proofs.set_values.Statement.{statement}
+use Rattle.trial_shelf.proofs.set_values.Tie as tie
 
 abbrev Inv-loop : tie.InvT-loop
 Inv-loop coeffs₀ count p i₀ coeffs i = (i ≤ count) × (length coeffs ≡ length coeffs₀)

@@ -2,8 +2,8 @@
 use Prim.Native.Nat.{_-_, _≤_}
 use borrow.Author.Needs.{needs}
 use lib.ListN.{length}
-use Rattle.shelf_trial.proofs.show.Statement.{statement}
-use Rattle.shelf_trial.proofs.show.Tie as tie
+use Rattle.trial_shelf.proofs.show.Statement.{statement}
+use Rattle.trial_shelf.proofs.show.Tie as tie
 
 abbrev Inv-loop : tie.InvT-loop
 Inv-loop bytes i₀ i = i ≤ length bytes

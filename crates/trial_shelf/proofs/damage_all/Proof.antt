@@ -3,8 +3,8 @@ use Prim.Native.Nat.{_-_, _≤_}
 use mathlib.Core.Path.{_≡_}
 use borrow.Author.Needs.{needs}
 use lib.ListN.{length}
-use Rattle.shelf_trial.proofs.damage_all.Statement.{statement}
-use Rattle.shelf_trial.proofs.damage_all.Tie as tie
+use Rattle.trial_shelf.proofs.damage_all.Statement.{statement}
+use Rattle.trial_shelf.proofs.damage_all.Tie as tie
 
 abbrev Inv-loop : tie.InvT-loop
 Inv-loop bytes₀ room v j₀ bytes j = (j ≤ 12) × (length bytes ≡ length bytes₀)

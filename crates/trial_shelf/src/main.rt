@@ -1,7 +1,9 @@
 // Records of each width with extreme coefficients, written, read back, rewritten and damaged. What it prints is held to
 // what second/shelf.py makes of the same cases.
 use libc::STDOUT_FILENO;
+ghost use mathlib.Core.Path.{_≡_};
 ghost use Prim.Native.Nat.{_≤_};
+ghost use lib.ListN.{length, take};
 
 // The edges of each width; -2^63 has none.
 fn value(k: u64) -> i64 {
@@ -126,36 +128,44 @@ fn damage(bytes: &mut [u8], room: usize, j: usize, v: u8) {
     bytes[j] = old;
 }
 
-// The first `room` bytes only, where there are so many.
-fn write_part(kind: u64, n: u64, coeffs: &[i64], count: usize, bytes: &mut [u8], room: usize) {
-    if count <= coeffs.len() {
-        if room <= bytes.len() {
-            write_one(kind, n, &coeffs[..count], &mut bytes[..room]);
-        }
+// How many of some bytes, or of some entries, can be lent where so many are asked for: the two facts that a part needs.
+fn of_bytes(asked: usize, bytes: &[u8]) -> usize
+    ensures { λ r. ⌜ (r ≤ length (now (bytes .entry))) × (r ≡ length (take r (now (bytes .entry)))) ⌝ }
+{
+    if asked <= bytes.len() {
+        return asked;
     }
+    bytes.len()
 }
 
+fn of_entries(asked: usize, entries: &[i64]) -> usize
+    ensures { λ r. ⌜ (r ≤ length (now (entries .entry))) × (r ≡ length (take r (now (entries .entry)))) ⌝ }
+{
+    if asked <= entries.len() {
+        return asked;
+    }
+    entries.len()
+}
+
+// `count` coefficients written in the first `room` bytes.
+fn write_part(kind: u64, n: u64, coeffs: &[i64], count: usize, bytes: &mut [u8], room: usize) {
+    let k = of_entries(count, coeffs);
+    let r = of_bytes(room, bytes);
+    write_one(kind, n, &coeffs[..k], &mut bytes[..r]);
+}
+
+// The first `room` bytes read into the first `count` entries.
+fn read_part(bytes: &[u8], room: usize, entries: &mut [i64], count: usize) -> shelf::Record {
+    let r = of_bytes(room, bytes);
+    let k = of_entries(count, entries);
+    read_one(&bytes[..r], &mut entries[..k])
+}
+
+// The same into entries of its own.
 fn cut(bytes: &[u8], room: usize) {
     let mut entries = [77i64; 20];
-    if room <= bytes.len() {
-        read_one(&bytes[..room], &mut entries);
-    }
-}
-
-// The first `room` bytes read into the first k entries, where there are so many.
-fn read_part(bytes: &[u8], room: usize, entries: &mut [i64], k: usize) -> shelf::Record {
-    if room <= bytes.len() {
-        if k <= entries.len() {
-            return read_one(&bytes[..room], &mut entries[..k]);
-        }
-    }
-    shelf::Record {
-        code: 99,
-        degree: 0,
-        used: 0,
-        kind: 0,
-        n: 0,
-    }
+    let r = of_bytes(room, bytes);
+    read_one(&bytes[..r], &mut entries);
 }
 
 // One byte changed, and the record cut short at it.
@@ -184,7 +194,7 @@ fn run_case(kind: u64, n: u64, p: u64, count: usize, room: usize)
     set_values(&mut coeffs, count, p);
     write_part(kind, n, &coeffs, count, &mut bytes, room);
     let told = read_part(&bytes, room, &mut entries, count + 1);
-    if told.code == 0 {
+    if told.code == answers::DONE {
         write_part(told.kind, told.n, &entries, count, &mut again, room);
     }
     if p % 5 == 1 {

@@ -1,8 +1,8 @@
 -- `run_kind` ends.
 use Prim.Native.Nat.{_-_, _≤_}
 use borrow.Author.Needs.{needs}
-use Rattle.shelf_trial.proofs.run_kind.Statement.{statement}
-use Rattle.shelf_trial.proofs.run_kind.Tie as tie
+use Rattle.trial_shelf.proofs.run_kind.Statement.{statement}
+use Rattle.trial_shelf.proofs.run_kind.Tie as tie
 
 abbrev Inv-loop : tie.InvT-loop
 Inv-loop kind n degree count p₀ p = p ≤ 23
