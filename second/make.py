@@ -91,7 +91,7 @@ def store(path, parts):
 
 if __name__ == "__main__":
     store("trial_steps/stdout", printed("steps.py"))
-    store("shelf_trial/stdout", printed("shelf.py"))
+    store("trial_shelf/stdout", printed("shelf.py"))
     store("list/stdout", listed())
     store("trial_table/src/choice.rt", indices())
     store("trial_refusals/src/asked.rt", asked())

@@ -1,5 +1,5 @@
 #!/usr/bin/env python3
-"""shelf.py: what the program shelf_trial must print, made by another road: python's own int.to_bytes and from_bytes."""
+"""shelf.py: what the program trial_shelf must print, made by another road: python's own int.to_bytes and from_bytes."""
 import math
 
 VALUES = [0, 1, -1, 127, -127, 128, -128, 255, -256, 32767, -32767, 32768, -32768, 65536, 2**31 - 1, 1 - 2**31, 2**31, -2**31, 2**32,

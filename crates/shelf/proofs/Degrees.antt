@@ -11,9 +11,10 @@ use lib.Dec.{eqb, ltb}
 use borrow.Author.Tests.{ltb-false, le-ltb}
 use Rattle.definitions.specs.Numbers.{countTo, phi}
 use Rattle.definitions.specs.Polynomials.{degree}
+use Rattle.record.specs.Header.{isKind, kindIn, indexIn}
+use Rattle.record.proofs.Least.{or-right}
 use Rattle.shelf.specs.declared.Written.{Written}
-use Rattle.shelf.specs.Format.{isKind, kindIn, indexIn, degreeIn, writeCode, writeTells, writeAnswer, writeLeaves}
-use Rattle.shelf.proofs.Least.{or-right}
+use Rattle.shelf.specs.Format.{degreeIn, writeCode, writeTells, writeAnswer, writeLeaves}
 
 count-le : (k : ℕ) (p : ℕ → Bool) → countTo k p ≤ k
 unfolding countTo

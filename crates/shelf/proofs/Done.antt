@@ -11,9 +11,9 @@ use borrow.Author.Tests.{eqb-true, eqb-false, ltb-false}
 use Rattle.definitions.specs.Answer.{heightOf}
 use Rattle.definitions.specs.Steps.{largest}
 use Rattle.definitions.specs.Codes.{DONE, KIND, INDEX, SHORT, OVER, CUT, FIELD, WIDTH}
-use Rattle.shelf.specs.Numbers.{width}
-use Rattle.shelf.specs.Format.{size, isKind, writeCode, widthIn, countIn, coefficientsIn, sizeIn, headerCode}
-use Rattle.shelf.specs.Format.{readCode}
+use Rattle.record.specs.Numbers.{width}
+use Rattle.record.specs.Header.{isKind, widthIn, countIn, headerCode}
+use Rattle.shelf.specs.Format.{size, writeCode, coefficientsIn, sizeIn, readCode}
 
 -- what a writer that refuses nothing was given
 pub record Written-right (d kind n : ℕ) (cs : List ℤ) (room : ℕ) : Type 0 where

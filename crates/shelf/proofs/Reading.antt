@@ -1,95 +1,23 @@
 -- The reader's answers, a code each, from the tests that led there; and what the pass that stores leaves.
-use Prim.Native.Nat.{ℕ, zero, suc, _+_, _*_, _≤_, _<_}
-use mathlib.Core.Path.{_≡_, refl, sym, ap, _∙_}
-use mathlib.Core.Bool.{Bool, true, false, cond, not, _&&_}
+use Prim.Native.Nat.{ℕ, _+_, _*_, _≤_, _<_}
+use mathlib.Core.Path.{_≡_, refl, sym, _∙_}
+use mathlib.Core.Bool.{false, cond}
 use mathlib.Core.List.{List, _++_}
 use native.Mathlib.Omega.{arith}
 use native.Mathlib.Nat.{zero-add}
 use lib.ListN.{length, drop}
 use lib.Seq.{sets, sets-eq}
 use lib.IntN.{ℤ}
-use lib.Dec.{eqb, ltb}
-use borrow.Author.Tests.{eqb-false, eq-eqb, ne-eqb, lt-ltb, le-ltb, ltb-false}
+use lib.Dec.{eqb}
+use borrow.Author.Tests.{eq-eqb, ne-eqb, lt-ltb, le-ltb}
 use Rattle.definitions.specs.Answer.{heightOf}
-use Rattle.definitions.specs.Codes.{DONE, SHORT, CUT, MARK, FIELD, WIDTH}
+use Rattle.definitions.specs.Codes.{DONE, SHORT, CUT, FIELD, WIDTH}
+use Rattle.record.specs.Numbers.{coefficientsAt, widths, leastOf, width}
+use Rattle.record.specs.Header.{widthIn, countIn, headerCode}
+use Rattle.record.proofs.Passes.{length-at}
+use Rattle.record.proofs.Headers.{header-codes}
 use Rattle.shelf.specs.declared.Record.{Record}
-use Rattle.shelf.specs.Numbers.{coefficientsAt, widths, oneOf, leastOf, width}
-use Rattle.shelf.specs.Format.{isKind, marked, kindIn, widthIn, indexIn, countIn, coefficientsIn, sizeIn}
-use Rattle.shelf.specs.Format.{fieldsRight, headerCode, readCode, readTells, readAnswer, readLeaves}
-use Rattle.shelf.proofs.Least.{width-bounds}
-
--- the header by itself
-module _ (bs : List ℕ) where
-  pub header-short : length bs < 10 → headerCode bs ≡ CUT
-  unfolding headerCode
-  header-short s = simp (lt-ltb (length bs) 10 s)
-
-  module _ (s : 10 ≤ length bs) where
-    pub header-unmarked : marked bs ≡ false → headerCode bs ≡ MARK
-    unfolding headerCode
-    header-unmarked m = simp (le-ltb (length bs) 10 s, m)
-
-    module _ (m : marked bs ≡ true) where
-      pub header-kind : isKind (kindIn bs) ≡ false → headerCode bs ≡ FIELD
-      unfolding headerCode fieldsRight
-      header-kind k = simp (le-ltb (length bs) 10 s, m, k)
-
-      module _ (k : isKind (kindIn bs) ≡ true) where
-        pub header-width : oneOf widths (widthIn bs) ≡ false → headerCode bs ≡ FIELD
-        unfolding headerCode fieldsRight
-        header-width w = simp (le-ltb (length bs) 10 s, m, k, w)
-
-        module _ (w : oneOf widths (widthIn bs) ≡ true) where
-          pub header-zero : indexIn bs ≡ 0 → headerCode bs ≡ FIELD
-          unfolding headerCode fieldsRight
-          header-zero z = simp (le-ltb (length bs) 10 s, m, k, w, eq-eqb (indexIn bs) 0 z)
-
-          pub header-right : (indexIn bs ≡ 0 → ⊥) → headerCode bs ≡ DONE
-          unfolding headerCode fieldsRight
-          header-right z = simp (le-ltb (length bs) 10 s, m, k, w, ne-eqb (indexIn bs) 0 z)
-
--- and back: what a right header has
-pub record Right (bs : List ℕ) : Type 0 where
-  pub long : 10 ≤ length bs
-  pub mark : marked bs ≡ true
-  pub kind : isKind (kindIn bs) ≡ true
-  pub wide : oneOf widths (widthIn bs) ≡ true
-  pub index : indexIn bs ≡ 0 → ⊥
-
-pub right : (bs : List ℕ) → headerCode bs ≡ DONE → Right bs
-unfolding headerCode fieldsRight
-right bs = go (ltb (length bs) 10) refl (marked bs) refl (isKind (kindIn bs)) refl (oneOf widths (widthIn bs)) refl
-    (eqb (indexIn bs) 0) refl
-  where
-    wrong : {k : ℕ} → suc k ≡ 0 → Right bs
-    wrong e = absurd (omega arith)
-
-    go : (s : Bool) → ltb (length bs) 10 ≡ s → (m : Bool) → marked bs ≡ m → (k : Bool) → isKind (kindIn bs) ≡ k
-        → (w : Bool) →
-        oneOf widths (widthIn bs) ≡ w → (z : Bool) → eqb (indexIn bs) 0 ≡ z →
-        cond s CUT (cond (not m) MARK (cond (not (k && w && not z)) FIELD DONE)) ≡ DONE → Right bs
-    go true es m em k ek w ew z ez e = wrong e
-    go false es false em k ek w ew z ez e = wrong e
-    go false es true em false ek w ew z ez e = wrong e
-    go false es true em true ek false ew z ez e = wrong e
-    go false es true em true ek true ew true ez e = wrong e
-    go false es true em true ek true ew false ez e = record {
-      long = ltb-false (length bs) 10 es;
-      mark = em;
-      kind = ek;
-      wide = ew;
-      index = eqb-false (indexIn bs) 0 ez;
-    }
-
-header-codes : (bs : List ℕ) → headerCode bs ≡ SHORT → ⊥
-unfolding headerCode
-header-codes bs = go (ltb (length bs) 10) (marked bs) (fieldsRight bs)
-  where
-    go : (s m f : Bool) → cond s CUT (cond (not m) MARK (cond (not f) FIELD DONE)) ≡ SHORT → ⊥
-    go true m f e = omega arith
-    go false false f e = omega arith
-    go false true false e = omega arith
-    go false true true e = omega arith
+use Rattle.shelf.specs.Format.{coefficientsIn, sizeIn, readCode, readTells, readAnswer, readLeaves}
 
 module _ (d : ℕ) (bs : List ℕ) (cs : List ℤ) where
   abbrev pub Answered : Record → List ℤ → Type 0
@@ -153,11 +81,6 @@ module _ (d : ℕ) (bs : List ℕ) (cs : List ℤ) where
             eq-eqb (width (coefficientsIn bs)) (widthIn bs) w,
           ))
 
-pub length-at : (w k : ℕ) (bs : List ℕ) → length (coefficientsAt w k bs) ≡ k
-unfolding coefficientsAt
-length-at w zero bs = refl
-length-at w (suc k) bs = ap suc (length-at w k (drop w bs))
-
 pub length-all : (bs : List ℕ) → length (coefficientsIn bs) ≡ countIn bs
 unfolding coefficientsIn
 length-all bs = length-at (widthIn bs) (countIn bs) (drop 10 bs)
@@ -181,6 +104,3 @@ module _ (bs : List ℕ) (w k : ℕ) (ew : w ≡ widthIn bs) (ek : k ≡ countIn
       let n : length l ≡ k = length-at w k (drop 10 bs) in
       let whole : sets cs 0 l ≡ l ++ drop k cs = sets-eq l cs 0 (omega arith) ∙ rw (zero-add, n) in
       e ∙ whole ∙ rw (ew, ek)
-
-pub in-bounds : (bs : List ℕ) (w : ℕ) → w ≡ widthIn bs → headerCode bs ≡ DONE → (0 < w) × (w ≤ 8)
-in-bounds bs w e h = rw e (width-bounds (widthIn bs) (right bs h .wide))

@@ -11,13 +11,14 @@ use lib.IntN.{ℤ}
 use lib.Dec.{eqb}
 use Rattle.definitions.specs.Codes.{DONE}
 use Rattle.definitions.specs.Polynomials.{degree}
+use Rattle.record.specs.Header.{countIn}
+use Rattle.record.proofs.Digits.{bytes-each}
 use Rattle.shelf.specs.declared.Written.{Written}
 use Rattle.shelf.specs.declared.Record.{Record}
-use Rattle.shelf.specs.Format.{recordOf, size, writeCode, writeTells, writeAnswer, writeLeaves, degreeIn, countIn}
+use Rattle.shelf.specs.Format.{recordOf, size, writeCode, writeTells, writeAnswer, writeLeaves, degreeIn}
 use Rattle.shelf.specs.Format.{coefficientsIn, sizeIn, readCode, readTells, readAnswer, readLeaves}
 use Rattle.shelf.proofs.Writing.{length-record}
 use Rattle.shelf.proofs.Reading.{length-all}
-use Rattle.shelf.proofs.Digits.{bytes-each}
 use Rattle.shelf.proofs.Degrees.{degree-le}
 use Rattle.shelf.proofs.Done.{written-right}
 use Rattle.shelf.proofs.WriteRead.{left-written, degree-back, write-read-record}

@@ -11,14 +11,15 @@ use Rattle.definitions.specs.Answer.{heightOf}
 use Rattle.definitions.specs.Steps.{largest}
 use Rattle.definitions.specs.Codes.{DONE}
 use Rattle.definitions.specs.Polynomials.{degree}
-use Rattle.shelf.specs.Numbers.{bytesOf, number, body, widths, oneOf, width}
-use Rattle.shelf.specs.Format.{headerOf, recordOf, size, isKind, writeCode, writeLeaves, marked, degreeIn, kindIn}
-use Rattle.shelf.specs.Format.{widthIn, indexIn, countIn, coefficientsIn, sizeIn, readTells, readAnswer}
-use Rattle.shelf.specs.Format.{readLeaves}
-use Rattle.shelf.proofs.Least.{Fitting, width-none, width-some}
+use Rattle.record.specs.Numbers.{bytesOf, number, body, widths, oneOf, width}
+use Rattle.record.specs.Header.{headerOf, isKind, marked, kindIn, widthIn, indexIn, countIn}
+use Rattle.record.proofs.Least.{Fitting, width-none, width-some}
+use Rattle.record.proofs.Headers.{header-right}
+use Rattle.record.proofs.Digits.{number-bytes, coefficients-body}
+use Rattle.shelf.specs.Format.{recordOf, size, writeCode, writeLeaves, degreeIn, coefficientsIn, sizeIn}
+use Rattle.shelf.specs.Format.{readTells, readAnswer, readLeaves}
 use Rattle.shelf.proofs.Writing.{length-record}
-use Rattle.shelf.proofs.Reading.{header-right, filled}
-use Rattle.shelf.proofs.Digits.{number-bytes, coefficients-body}
+use Rattle.shelf.proofs.Reading.{filled}
 use Rattle.shelf.proofs.Done.{written-right}
 
 -- such coefficients have a width

@@ -1,51 +1,28 @@
 -- The writer's answers, a code each, from the tests that led there; and what the stores leave.
 use Prim.Native.Nat.{ℕ, _+_, _*_, _≤_, _<_}
-use mathlib.Core.Path.{_≡_, refl, sym, ap, _∙_}
+use mathlib.Core.Path.{_≡_, refl, sym, _∙_}
 use mathlib.Core.Bool.{true, false, cond, _||_}
-use mathlib.Core.Logic.{⊎-elim}
-use mathlib.Core.List.{List, [], _∷_, _++_}
+use mathlib.Core.List.{List, _++_}
 use native.Mathlib.Omega.{arith}
-use native.Mathlib.Nat.{zero-add, zero-mul, suc-mul, mul-le-mul}
-use lib.ListN.{length, set, drop, length-append, length-set}
+use native.Mathlib.Nat.{zero-add}
+use lib.ListN.{length, drop, length-append}
 use lib.Seq.{sets, sets-eq}
 use lib.IntN.{ℤ}
 use lib.Dec.{eqb, ltb}
-use borrow.Author.Tests.{eqb-true, eq-eqb, ne-eqb, lt-ltb, le-ltb}
+use borrow.Author.Tests.{eq-eqb, ne-eqb, lt-ltb, le-ltb}
 use Rattle.definitions.specs.Answer.{heightOf}
 use Rattle.definitions.specs.Codes.{DONE, KIND, INDEX, SHORT, OVER, FIELD}
 use Rattle.definitions.specs.Steps.{largest}
+use Rattle.record.specs.Numbers.{body, width}
+use Rattle.record.specs.Header.{headerOf, isKind}
+use Rattle.record.proofs.Passes.{sets-append, length-body}
+use Rattle.record.proofs.Headers.{length-header}
 use Rattle.shelf.specs.declared.Written.{Written}
-use Rattle.shelf.specs.Numbers.{body, bytesOf, width}
-use Rattle.shelf.specs.Format.{headerOf, recordOf, size, isKind, writeCode, writeTells, writeAnswer, writeLeaves}
-use Rattle.shelf.proofs.Passes.{length-bytesOf, sets-append}
-use Rattle.shelf.proofs.Least.{or-cases}
-
-pub length-body : (w : ℕ) (cs : List ℤ) → length (body w cs) ≡ length cs * w
-unfolding body
-length-body w [] = sym (zero-mul w)
-length-body w (c ∷ cs) = rw (length-append, length-bytesOf, length-body w cs, suc-mul) (omega arith)
-
-pub length-header : (kind w n count : ℕ) → length (headerOf kind w n count) ≡ 10
-unfolding headerOf
-length-header kind w n count = rw (length-append, length-bytesOf, length-bytesOf)
+use Rattle.shelf.specs.Format.{recordOf, size, writeCode, writeTells, writeAnswer, writeLeaves}
 
 pub length-record : (kind n : ℕ) (cs : List ℤ) → length (recordOf kind n cs) ≡ size cs
 unfolding recordOf size
 length-record kind n cs = rw (length-append, length-header, length-body)
-
--- the header's stores
-pub four-long : (b : List ℕ) (kind w : ℕ) → length (set (set (set (set b 0 0xC9) 1 0x50) 2 kind) 3 w) ≡ length b
-four-long b kind w = simp length-set
-
-pub header-stored : (b b₁ b₂ : List ℕ) (kind w n count : ℕ)
-    → b₁ ≡ sets (set (set (set (set b 0 0xC9) 1 0x50) 2 kind) 3 w) 4 (bytesOf 2 n) →
-    b₂ ≡ sets b₁ 6 (bytesOf 4 count) → b₂ ≡ sets b 0 (headerOf kind w n count)
-unfolding headerOf
-header-stored b b₁ b₂ kind w n count e₁ e₂ =
-    let l = set (set (set (set b 0 0xC9) 1 0x50) 2 kind) 3 w in
-    let e : 4 + length (bytesOf 2 n) ≡ 6 = ap (λ (k : ℕ). 4 + k) (length-bytesOf 2 n) in
-    rw (e₂, e₁) (sym (sets-append l 4 (bytesOf 2 n) (bytesOf 4 count)
-    ∙ ap (λ (k : ℕ). sets (sets l 4 (bytesOf 2 n)) k (bytesOf 4 count)) e))
 
 module _ (d kind n : ℕ) (cs : List ℤ) (b : List ℕ) where
   abbrev pub Answered : Written → List ℕ → Type 0
@@ -115,18 +92,3 @@ index-above n z h = simp (ne-eqb n 0 z, lt-ltb 65535 n h)
 
 pub index-right : (n : ℕ) → (n ≡ 0 → ⊥) → n ≤ 65535 → (eqb n 0 || ltb 65535 n) ≡ false
 index-right n z h = simp (ne-eqb n 0 z, le-ltb 65535 n h)
-
--- a record's bytes are few
-pub few : (count d w : ℕ) → count ≡ d + 1 → d ≤ 65535 → w ≤ 8 → count * w ≤ 524288
-few count d w e h l =
-    let c : count ≤ 65536 = omega arith in
-    mul-le-mul c l
-
-pub kind-small : (kind : ℕ) → isKind kind ≡ true → kind ≤ 2
-unfolding isKind
-kind-small kind k =
-    ⊎-elim (λ e. let s : kind ≡ 1 = eqb-true kind 1 e in omega arith) (λ e. let s : kind ≡ 2 = eqb-true kind 2 e in
-    omega arith) (or-cases (eqb kind 1) (eqb kind 2) k)
-
-pub nonzero : (w : ℕ) → (w ≡ 0 → ⊥) → 0 < w
-nonzero w z = omega arith

@@ -6,9 +6,9 @@ use lib.ListN.{set, take}
 use lib.IntN.{ℤ, pos, negsuc}
 use Rattle.definitions.specs.Codes.{DONE, KIND, INDEX, SHORT, OVER, CUT, MARK, FIELD, WIDTH}
 use Rattle.definitions.specs.Answer.{heightOf}
-use Rattle.shelf.specs.Numbers.{bytesOf, number, top, twos, signedOf, body, coefficientsAt, oneOf, leastOf, width}
-use Rattle.shelf.specs.Format.{headerOf, recordOf, size, isKind, writeCode, marked, kindIn, widthIn, indexIn}
-use Rattle.shelf.specs.Format.{countIn, coefficientsIn, sizeIn, fieldsRight, headerCode, readCode}
+use Rattle.record.specs.Numbers.{bytesOf, number, top, twos, signedOf, body, coefficientsAt, oneOf, leastOf, width}
+use Rattle.record.specs.Header.{headerOf, isKind, marked, kindIn, widthIn, indexIn, countIn, fieldsRight, headerCode}
+use Rattle.shelf.specs.Format.{recordOf, size, writeCode, coefficientsIn, sizeIn, readCode}
 
 -- F(6): C9 50 01 01 06 00 03 00 00 00 01 FF 01
 F6 : List ℕ

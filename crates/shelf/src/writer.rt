@@ -1,29 +1,15 @@
 // The writer: looks at everything, then stores.
 use super::Written;
-use super::bytes::put;
-use super::bytes::put_body;
-use super::numbers::is_kind;
-use super::numbers::least_width;
+use record::is_kind;
+use record::least_width;
+use record::put_body;
+use record::put_header;
 ghost use mathlib.Core.Path.{_≡_};
 ghost use Prim.Native.Nat.{_<_, _≤_};
 ghost use mathlib.Core.List.{_++_};
 ghost use lib.ListN.{length, drop};
-ghost use lib.Seq.{sets};
-ghost use Rattle.shelf.specs.Numbers.{width};
-ghost use Rattle.shelf.specs.Format.{headerOf, recordOf, size, writeAnswer, writeLeaves};
-
-// The 10 bytes before the coefficients.
-fn put_header(bytes: &mut [u8], kind: u8, w: u8, n: u64, count: u64)
-    requires { ⌜ 10 ≤ length (now bytes) ⌝ }
-    ensures { λ r. ⌜ now (bytes .exit) ≡ sets (now (bytes .entry)) 0 (headerOf kind w n count) ⌝ }
-{
-    bytes[0] = 0xC9;
-    bytes[1] = 0x50;
-    bytes[2] = kind;
-    bytes[3] = w;
-    put(bytes, 4, 2, n);
-    put(bytes, 6, 4, count);
-}
+ghost use Rattle.record.specs.Numbers.{width};
+ghost use Rattle.shelf.specs.Format.{recordOf, size, writeAnswer, writeLeaves};
 
 // The record, in bytes of which there are enough.
 fn store(kind: u64, n: u64, w: usize, coeffs: &[i64], bytes: &mut [u8])
@@ -49,53 +35,29 @@ pub(crate) fn write_with(
     ensures leaves { λ r. ⌜ now (bytes .exit) ≡ writeLeaves degree kind n (now (coeffs .entry)) (now (bytes .entry)) ⌝ }
 {
     if !is_kind(kind) {
-        return Written {
-            code: 1,
-            degree: 0,
-            used: 0,
-        };
+        return Written::refused(answers::KIND, 0);
     }
     if n == 0 {
-        return Written {
-            code: 2,
-            degree: 0,
-            used: 0,
-        };
+        return Written::refused(answers::INDEX, 0);
     }
     if 65535 < n {
-        return Written {
-            code: 2,
-            degree: 0,
-            used: 0,
-        };
+        return Written::refused(answers::INDEX, 0);
     }
     let count = coeffs.len();
     if count as u64 != degree + 1 {
-        return Written {
-            code: 10,
-            degree: 0,
-            used: 0,
-        };
+        return Written::refused(answers::FIELD, 0);
     }
     let w = least_width(heights::height(coeffs));
     if w == 0 {
-        return Written {
-            code: 5,
-            degree,
-            used: 0,
-        };
+        return Written::refused(answers::OVER, degree);
     }
     let size = 10 + count * w;
     if bytes.len() < size {
-        return Written {
-            code: 4,
-            degree,
-            used: 0,
-        };
+        return Written::refused(answers::SHORT, degree);
     }
     store(kind, n, w, coeffs, bytes);
     Written {
-        code: 0,
+        code: answers::DONE,
         degree,
         used: size as u64,
     }

@@ -2,8 +2,11 @@
 use mathlib.Core.Path.{sym, _∙_}
 use borrow.Author.Needs.{needs}
 use lib.Dec.{lit<}
-use Rattle.shelf.specs.Format.{degreeIn, kindIn}
-use Rattle.shelf.proofs.Reading.{header-wrong, right}
+use Rattle.record.specs.Header.{kindIn}
+use Rattle.record.proofs.Headers.{right}
+use Rattle.shelf.specs.Format.{degreeIn}
+use Rattle.shelf.proofs.Told.{told}
+use Rattle.shelf.proofs.Reading.{header-wrong}
 use Rattle.shelf.proofs.Degrees.{told-small, degree-in}
 use Rattle.shelf.proofs.read.Statement.{statement}
 use Rattle.shelf.proofs.read.Tie as tie
@@ -20,7 +23,7 @@ returns c =
     let p = header-wrong (degreeIn (a .bytes .now)) (a .bytes .now) (a .coeffs .now) _
     (c .before .before .header-code .ensures)
     (c .before .if1 .taken) in
-    (c .refused .ensures ∙ p .0, p .1)
+    told (c .refused .ensures) p
 
 field-requires : tie.Need-field-requires
 field-requires c κs = (right _ (sym (c .before .header-code .ensures) ∙ c .if1 .left) .long, lit< tt)

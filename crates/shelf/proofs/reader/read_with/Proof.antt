@@ -5,11 +5,13 @@ use mathlib.Core.List.{List}
 use native.Mathlib.Omega.{arith}
 use borrow.Author.Needs.{needs}
 use lib.Dec.{lit<}
-use Rattle.shelf.specs.Numbers.{width}
-use Rattle.shelf.specs.Format.{kindIn, widthIn, countIn, coefficientsIn, sizeIn, readTells}
-use Rattle.shelf.proofs.Writing.{few}
-use Rattle.shelf.proofs.Reading.{right, in-bounds, count-wrong, cut, no-room, width-wrong, filled, size-in}
-use Rattle.shelf.proofs.Reading.{seen-in, filled-in}
+use Rattle.record.specs.Numbers.{width}
+use Rattle.record.specs.Header.{kindIn, widthIn, countIn}
+use Rattle.record.proofs.Widths.{few}
+use Rattle.record.proofs.Headers.{right, in-bounds}
+use Rattle.shelf.specs.Format.{coefficientsIn, sizeIn, readTells}
+use Rattle.shelf.proofs.Told.{told}
+use Rattle.shelf.proofs.Reading.{count-wrong, cut, no-room, width-wrong, filled, size-in, seen-in, filled-in}
 use Rattle.shelf.proofs.reader.read_with.Statement.{statement}
 use Rattle.shelf.proofs.reader.read_with.Tie as tie
 
@@ -70,7 +72,7 @@ returns c =
     let start = c .before .before .before .before .before in
     let p = count-wrong (start .args .degree) (start .args .bytes .now) (start .args .coeffs .now) (start .pre .0)
     (λ m. c .before .if1 .taken (c .before .before .count-in .ensures ∙ m)) in
-    (c .refused .ensures ∙ p .0, p .1)
+    told (c .refused .ensures) p
 
 mul-size : tie.Need-mul-size
 mul-size c = omega (arith, small c)
@@ -88,7 +90,7 @@ returns-2 c =
     let start = from e in
     let p = cut (start .args .degree) (bytes e) (start .args .coeffs .now) (start .pre .0) (count-ok e)
     (omega (arith, whole e)) in
-    (c .refused2 .ensures ∙ p .0, p .1)
+    told (c .refused2 .ensures) p
 
 refused-requires-3 : tie.Need-refused-requires-3
 refused-requires-3 c κs = search needs
@@ -101,7 +103,7 @@ returns-3 c =
     let p = no-room (start .args .degree) (bytes e) (start .args .coeffs .now) (start .pre .0) (count-ok e)
     (omega (arith, whole e))
     (omega (arith, e .before .count-in .ensures)) in
-    (c .refused3 .ensures ∙ p .0, p .1)
+    told (c .refused3 .ensures) p
 
 height-in-requires : tie.Need-height-in-requires
 height-in-requires c κs =
@@ -123,7 +125,7 @@ returns-4 c =
     let wrong = width-wrong (start .args .degree) (bytes e) (start .args .coeffs .now) (start .pre .0) (count-ok e) in
     let p = wrong (omega (arith, whole e)) (omega (arith, e .before .count-in .ensures))
     (λ same. c .before .if4 .taken (seen look ∙ same ∙ sym (width-is e))) in
-    (c .refused4 .ensures ∙ p .0, p .1)
+    told (c .refused4 .ensures) p
 
 fill-requires : tie.Need-fill-requires
 fill-requires c κs =

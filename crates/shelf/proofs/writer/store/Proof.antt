@@ -1,8 +1,9 @@
 -- `store`: the header and then the body are the record (Writing).
 use native.Mathlib.Omega.{arith}
 use borrow.Author.Needs.{needs}
-use Rattle.shelf.proofs.Least.{width-fits}
-use Rattle.shelf.proofs.Writing.{length-body, size-made, record-made}
+use Rattle.record.proofs.Least.{width-fits}
+use Rattle.record.proofs.Passes.{length-body}
+use Rattle.shelf.proofs.Writing.{size-made, record-made}
 use Rattle.shelf.proofs.writer.store.Statement.{statement}
 use Rattle.shelf.proofs.writer.store.Tie as tie
 

@@ -7,11 +7,15 @@ use lib.Dec.{eqb, ltb}
 use native.Mathlib.Omega.{arith}
 use borrow.Author.Needs.{needs}
 use borrow.Author.Tests.{not-true, not-false}
-use Rattle.shelf.specs.Numbers.{width}
-use Rattle.shelf.specs.Format.{size, isKind, writeTells}
-use Rattle.shelf.proofs.Least.{Fitting, width-none, width-made, width-fits}
+use Rattle.record.specs.Numbers.{width}
+use Rattle.record.specs.Header.{isKind}
+use Rattle.record.proofs.Least.{Fitting, width-none, width-made, width-fits}
+use Rattle.record.proofs.Widths.{few, nonzero}
+use Rattle.record.proofs.Headers.{kind-small}
+use Rattle.shelf.specs.Format.{size, writeTells}
+use Rattle.shelf.proofs.Told.{told}
 use Rattle.shelf.proofs.Writing.{kind-wrong, index-wrong, count-wrong, too-low, no-room, stored, size-made}
-use Rattle.shelf.proofs.Writing.{index-zero, index-above, index-right, few, kind-small, nonzero}
+use Rattle.shelf.proofs.Writing.{index-zero, index-above, index-right}
 use Rattle.shelf.proofs.writer.write_with.Statement.{statement}
 use Rattle.shelf.proofs.writer.write_with.Tie as tie
 
@@ -51,26 +55,44 @@ small c = few _ _ _ (c .before .before .before .if4 .left) (from5 c .pre) (fit c
 is-kind-requires : tie.Need-is-kind-requires
 is-kind-requires c κs = search needs
 
+refused-requires : tie.Need-refused-requires
+refused-requires c κs = search needs
+
 returns : tie.Need-returns
 unfolding writeTells
-returns c = kind-wrong _ _ _ _ _ (sym (c .before .is-kind .ensures) ∙ not-true _ (c .if1 .taken))
+returns c = told (c .refused .ensures) (kind-wrong _ _ _ _ _ (sym (c .before .before .is-kind .ensures)
+    ∙ not-true _ (c .before .if1 .taken)))
+
+refused-requires-2 : tie.Need-refused-requires-2
+refused-requires-2 c κs = search needs
 
 returns-2 : tie.Need-returns-2
 unfolding writeTells
-returns-2 c = index-wrong _ _ _ _ _ (kind-ok (c .before)) (index-zero _ (c .if2 .taken))
+returns-2 c =
+    told (c .refused2 .ensures) (index-wrong _ _ _ _ _ (kind-ok (c .before .before))
+    (index-zero _ (c .before .if2 .taken)))
+
+refused-requires-3 : tie.Need-refused-requires-3
+refused-requires-3 c κs = search needs
 
 returns-3 : tie.Need-returns-3
 unfolding writeTells
-returns-3 c = index-wrong _ _ _ _ _ (kind-ok (c .before .before)) (index-above _ (c .before .if2 .left) (c .if3 .taken))
+returns-3 c =
+    told (c .refused3 .ensures) (index-wrong _ _ _ _ _ (kind-ok (c .before .before .before))
+    (index-above _ (c .before .before .if2 .left) (c .before .if3 .taken)))
 
 add-if4 : tie.Need-add-if4
 add-if4 c = search needs
 
+refused-requires-4 : tie.Need-refused-requires-4
+refused-requires-4 c κs = search needs
+
 returns-4 : tie.Need-returns-4
 unfolding writeTells
 returns-4 c =
-    let e = c .before in
-    count-wrong _ _ _ _ _ (kind-ok (e .before .before)) (index-ok e) (c .if4 .taken)
+    let e = c .before .before in
+    told (c .refused4 .ensures) (count-wrong _ _ _ _ _ (kind-ok (e .before .before)) (index-ok e)
+    (c .before .if4 .taken))
 
 height-requires : tie.Need-height-requires
 height-requires c κs = search needs
@@ -78,14 +100,18 @@ height-requires c κs = search needs
 least-width-requires : tie.Need-least-width-requires
 least-width-requires c κs = search needs
 
+refused-requires-5 : tie.Need-refused-requires-5
+refused-requires-5 c κs = search needs
+
 returns-5 : tie.Need-returns-5
 unfolding writeTells
 returns-5 c =
-    let counted = c .before .before .before in
+    let looked = c .before .before in
+    let counted = looked .before .before in
     let e = counted .before in
-    let w = width-made _ _ _ (c .before .before .height .ensures) (c .before .least-width .ensures) in
-    too-low _ _ _ _ _ (kind-ok (e .before .before)) (index-ok e) (counted .if4 .left)
-    (width-none _ (sym w ∙ c .if5 .taken))
+    let w = width-made _ _ _ (looked .before .height .ensures) (looked .least-width .ensures) in
+    told (c .refused5 .ensures) (too-low _ _ _ _ _ (kind-ok (e .before .before)) (index-ok e) (counted .if4 .left)
+    (width-none _ (sym w ∙ c .before .if5 .taken)))
 
 mul-size : tie.Need-mul-size
 mul-size c = omega (arith, small c)
@@ -93,13 +119,18 @@ mul-size c = omega (arith, small c)
 add-size : tie.Need-add-size
 add-size c = omega (arith, small c)
 
+refused-requires-6 : tie.Need-refused-requires-6
+refused-requires-6 c κs = search needs
+
 returns-6 : tie.Need-returns-6
 unfolding writeTells
 returns-6 c =
-    let counted = c .before .before .before .before in
+    let over = c .before .before in
+    let counted = over .before .before .before in
     let e = counted .before in
-    no-room _ _ _ _ _ (kind-ok (e .before .before)) (index-ok e) (counted .if4 .left) (fit (c .before) .within)
-    (omega (arith, whole (c .before)))
+    told (c .refused6 .ensures) (no-room _ _ _ _ _ (kind-ok (e .before .before)) (index-ok e) (counted .if4 .left)
+    (fit over .within)
+    (omega (arith, whole over)))
 
 store-requires : tie.Need-store-requires
 store-requires c κs =
@@ -127,16 +158,22 @@ write-with-spec =
     tie.close
     (tie.spec
     is-kind-requires
+    refused-requires
     returns
+    refused-requires-2
     returns-2
+    refused-requires-3
     returns-3
     add-if4
+    refused-requires-4
     returns-4
     height-requires
     least-width-requires
+    refused-requires-5
     returns-5
     mul-size
     add-size
+    refused-requires-6
     returns-6
     store-requires
     same-length

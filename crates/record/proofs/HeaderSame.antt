@@ -1,0 +1,58 @@
+-- A right header is the header of what stands in it, byte for byte.
+use Prim.Native.Nat.{_+_, _≤_, ℕ}
+use borrow.Author.Tests.{eqb-true}
+use lib.Dec.{eqb}
+use lib.ListN.{length, getD, drop, take, length-drop}
+use lib.Seq.{drop-cons, length-take-le, take-add, drop-drop}
+use mathlib.Core.Bool.{_&&_, Bool, true, true≢false, false}
+use mathlib.Core.List.{_++_, [], _∷_, List}
+use mathlib.Core.Path.{_≡_, refl, ap₂, ap, _∙_, sym}
+use native.Mathlib.Omega.{arith}
+use Rattle.record.specs.Header.{kindIn, headerOf, widthIn, indexIn, countIn, marked}
+use Rattle.record.specs.Numbers.{bytesOf, number}
+use Rattle.record.proofs.Digits.{bytes-take, number-less, Bytes, bytes-drop, bytes-number}
+use Rattle.record.proofs.Headers.{Right}
+
+-- the header's bytes are those of its fields
+four : (bs : List ℕ) → 10 ≤ length bs → take 4 bs ≡ getD bs 0 0 ∷ getD bs 1 0 ∷ getD bs 2 0 ∷ getD bs 3 0 ∷ []
+four bs h =
+    let all : bs ≡ getD bs 0 0 ∷ getD bs 1 0 ∷ getD bs 2 0 ∷ getD bs 3 0 ∷ drop 4 bs =
+    drop-cons bs 0 0 (omega arith) ∙ ap (_∷_ (getD bs 0 0)) (drop-cons bs 1 0 (omega arith)
+    ∙ ap (_∷_ (getD bs 1 0)) (drop-cons bs 2 0 (omega arith)
+    ∙ ap (_∷_ (getD bs 2 0)) (drop-cons bs 3 0 (omega arith)))) in
+    ap (take 4) all
+
+and-both : (a b : Bool) → (a && b) ≡ true → (a ≡ true) × (b ≡ true)
+and-both true b e = (refl, e)
+and-both false b e = absurd (true≢false (sym e))
+
+-- w bytes that stand at a place are those of their number
+part-same : (w at : ℕ) (bs : List ℕ) → at + w ≤ length bs → Bytes bs → bytesOf w (number (take w (drop at bs)))
+    ≡ take w (drop at bs)
+part-same w at bs h p =
+    bytes-number w (take w (drop at bs)) (length-take-le w (drop at bs) (rw length-drop (omega arith)))
+    (bytes-take w (drop at bs) (bytes-drop at bs p))
+
+pub header-same : (bs : List ℕ) → Bytes bs → Right bs → headerOf (kindIn bs) (widthIn bs) (indexIn bs) (countIn bs)
+    ≡ take 10 bs
+unfolding headerOf kindIn widthIn indexIn countIn marked
+header-same bs p r =
+    let h = r .long in
+    let m = and-both (eqb (getD bs 0 0) 0xC9) (eqb (getD bs 1 0) 0x50) (r .mark) in
+    let k = getD bs 2 0 in
+    let w = getD bs 3 0 in
+    let six : take 6 (drop 4 bs) ≡ take 2 (drop 4 bs) ++ take 4 (drop 6 bs) = take-add 2 4 (drop 4 bs)
+    ∙ ap (λ (l : List ℕ). take 2 (drop 4 bs) ++ take 4 l) (drop-drop 2 4 bs) in
+    ap₂ (λ (x y : List ℕ). 0xC9 ∷ 0x50 ∷ k ∷ w ∷ x ++ y) (part-same 2 4 bs (omega arith) p)
+    (part-same 4 6 bs (omega arith) p)
+    ∙ ap₂ (λ (x y : ℕ). x ∷ y ∷ k ∷ w ∷ take 2 (drop 4 bs) ++ take 4 (drop 6 bs))
+    (sym (eqb-true (getD bs 0 0) 0xC9 (m .0)))
+    (sym (eqb-true (getD bs 1 0) 0x50 (m .1)))
+    ∙ sym (take-add 4 6 bs ∙ ap₂ _++_ (four bs h) six)
+
+pub index-small : (bs : List ℕ) → 10 ≤ length bs → Bytes bs → indexIn bs ≤ 65535
+unfolding indexIn
+index-small bs h p =
+    let b = number-less 2 (take 2 (drop 4 bs)) (length-take-le 2 (drop 4 bs) (rw length-drop (omega arith)))
+    (bytes-take 2 (drop 4 bs) (bytes-drop 4 bs p)) in
+    omega arith

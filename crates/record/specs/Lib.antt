@@ -1,0 +1,3 @@
+-- How a record holds numbers, and its header.
+pub mod Numbers
+pub mod Header
