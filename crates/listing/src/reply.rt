@@ -17,6 +17,7 @@ use crate::text::put;
 use crate::text::put_coefficients;
 use crate::text::put_item;
 use answers::Answer;
+use answers::DONE;
 
 fn letter_of(kind: u64) -> u8
     ensures { λ r. ⌜ r ≡ letterOf kind ⌝ }
@@ -56,7 +57,7 @@ fn put_tail(out: &mut [u8], at: usize, a: Answer, entries: &[i64]) -> usize
     ensures { λ r. ⌜ r ≤ at + 22 * length (now (entries .entry)) + 1 ⌝ }
 {
     let code = a.code;
-    if code == 0 {
+    if code == DONE {
         let count = a.degree as usize + 1;
         let p = put_coefficients(out, at, entries, count);
         return put(out, p, b'\n');

@@ -4,9 +4,10 @@ ghost use mathlib.Core.Path.{_≡_};
 ghost use mathlib.Core.List.{List, [], _∷_};
 ghost use Prim.Native.Nat.{ℕ, _+_, _*_, _≤_, _<_};
 ghost use lib.ListN.{length, take};
-ghost use lib.IntN.{pos, natAbs};
+ghost use lib.IntN.{pos};
 ghost use Rattle.listing.specs.Text.{decimal, spaced, sign};
 ghost use Rattle.listing.specs.Puts.{Puts};
+use heights::magnitude;
 
 pub(crate) fn put(out: &mut [u8], at: usize, b: u8) -> usize
     requires { ⌜ at < length (now out) ⌝ }
@@ -47,16 +48,6 @@ pub(crate) fn put_item(out: &mut [u8], at: usize, n: u64) -> usize
 {
     let p = put(out, at, b' ');
     put_number(out, p, n)
-}
-
-// How large a number is, without its sign; of -2^63 too.
-fn magnitude(c: i64) -> u64
-    ensures { λ r. ⌜ r ≡ natAbs c ⌝ }
-{
-    if c < 0 {
-        return (-(c + 1)) as u64 + 1;
-    }
-    c as u64
 }
 
 fn put_sign(out: &mut [u8], at: usize, c: i64) -> usize
