@@ -1,19 +1,50 @@
 // `list` (document 01, 'The listing'): lines of standard input to answers on standard output. What is printed is made
 // by the proved library `listing`; here its pieces are read and written. A run keeps 40 bytes of a line, so memory does
-// not grow with the input.
+// not grow with the input. Where a read or a write fails, one line on standard error says so, and the run ends.
 
 ghost use mathlib.Core.Path.{_≡_};
 ghost use Prim.Native.Nat.{_≤_};
 ghost use lib.ListN.{length};
+ghost use Rattle.io.specs.Counts.{Counts};
 ghost use Rattle.listing.specs.Stream.{MOST};
 use libc::STDIN_FILENO;
 use libc::STDOUT_FILENO;
 use listing::Line;
+use streams::Got;
 
-// The line that is open, and whether all that was made has been written.
+const READING: [u8; 26] = *b"list: reading failed after";
+
+const WRITING: [u8; 26] = *b"list: writing failed after";
+
+// The line that is open, and whether nothing has failed.
 struct Going {
     line: Line,
     on: bool,
+}
+
+// Which of the two failed, and how many input lines were taken by then: each whose newline was read, and a last one
+// without a newline once the input has ended. They count where their answers are not written too.
+fn say_failed(what: &[u8; 26], line: Line) {
+    streams::say(what, std::num::wrapping_sub_u64(line.number, 1), b" input lines\n");
+}
+
+fn read_piece(line: Line, chunk: &mut [u8]) -> Got
+    ensures { λ r. ⌜ Counts (r .count) (now (chunk .exit)) ⌝ }
+{
+    let got = streams::read_some(STDIN_FILENO, chunk);
+    if got.failed {
+        say_failed(&READING, line);
+    }
+    got
+}
+
+// `line` is the one that is open after what was made.
+fn write_made(line: Line, made: &[u8]) -> bool {
+    if streams::write_whole(STDOUT_FILENO, made) {
+        return true;
+    }
+    say_failed(&WRITING, line);
+    false
 }
 
 // Lists a piece of the input, as much of it at a time as there is room for.
@@ -26,7 +57,7 @@ fn list_piece(line: Line, piece: &[u8], out: &mut [u8]) -> Going
         let p = listing::run(s, &piece[from..], out);
         let made = p.made;
         s = p.line;
-        if !io::write_all(STDOUT_FILENO, &out[..made]) {
+        if !write_made(s, &out[..made]) {
             return Going { line: s, on: false };
         }
         from += p.taken;
@@ -42,9 +73,13 @@ fn list_all(chunk: &mut [u8], out: &mut [u8]) -> Going
     let mut s = listing::start();
     let mut turns = u64::MAX;
     while turns > 0 {
-        let n = io::count(libc::read(STDIN_FILENO, chunk), chunk);
+        let got = read_piece(s, chunk);
+        let n = got.count;
         if n == 0 {
-            return Going { line: s, on: true };
+            return Going {
+                line: s,
+                on: !got.failed,
+            };
         }
         let g = list_piece(s, &chunk[..n], out);
         if !g.on {
@@ -78,7 +113,7 @@ fn main() {
     let mut chunk = io::large_buffer();
     let mut out = large();
     let made = listing::heading(&mut out);
-    if !io::write_all(STDOUT_FILENO, &out[..made]) {
+    if !write_made(listing::start(), &out[..made]) {
         return;
     }
     let g = list_all(&mut chunk, &mut out);

@@ -17,47 +17,42 @@ start-requires c κs = tt
 loop-holds : tie.Need-loop-holds Inv-loop μ-loop
 loop-holds c = (refl, refl)
 
-read-requires : tie.Need-read-requires Inv-loop μ-loop
-read-requires c κs = tt
+read-piece-requires : tie.Need-read-piece-requires Inv-loop μ-loop
+read-piece-requires c κs = tt
 
-count-requires : tie.Need-count-requires Inv-loop μ-loop
-count-requires c κs = tt
+-- after a read the chunk, and after a piece the buffer for the output, is as long as it was
+chunk-kept : (c : tie.After-read-piece Inv-loop μ-loop) → length (c .read-piece .last .1 .0)
+    ≡ length (c .before .before .before .before .before .before .before .args .chunk .now)
+chunk-kept c = c .read-piece .kept .1 .0 ∙ c .before .before .before .loop .inv .0
+
+out-kept : (c : tie.After-list-piece Inv-loop μ-loop) → length (c .list-piece .last .1 .1 .0)
+    ≡ length (c .before .before .before .before .before .before .before .before .before .before .before .before .before .args .out .now)
+out-kept c = c .list-piece .kept .1 .1 .0
+    ∙ c .before .before .before .before .before .before .before .before .before .loop .inv .1
 
 same-length : tie.Need-same-length Inv-loop μ-loop
-same-length c = c .before .before .before .before .before .read .kept .1 .0
-    ∙ c .before .before .before .before .before .before .before .before .loop .inv .0
+same-length c = chunk-kept (c .before .before .before .before)
 
 same-length-2 : tie.Need-same-length-2 Inv-loop μ-loop
-same-length-2 c = c .before .before .before .before .before .before .before .before .loop .inv .1
+same-length-2 c = c .before .before .before .before .before .before .before .loop .inv .1
 
 returns : tie.Need-returns Inv-loop μ-loop
 returns c = tt
 
 slice-reshare-prefix-list-piece : tie.Need-slice-reshare-prefix-list-piece Inv-loop μ-loop
-slice-reshare-prefix-list-piece c = c .before .count .ensures .0 .0
+slice-reshare-prefix-list-piece c = c .before .before .before .read-piece .ensures .0
 
 slice-aggregate-list-piece : tie.Need-slice-aggregate-list-piece Inv-loop μ-loop
-slice-aggregate-list-piece c = c .before .before .count .ensures .0 .1
+slice-aggregate-list-piece c = c .before .before .before .before .read-piece .ensures .1
 
 list-piece-requires : tie.Need-list-piece-requires Inv-loop μ-loop
-list-piece-requires c κs =
-    omega (
-      arith,
-      c .before .before .before .before .before .before .before .before .before .before .loop .inv .1,
-      c .before .before .before .before .before .before .before .before .before .before .before .before .before .before
-          .pre,
-    )
+list-piece-requires c κs = omega (arith, c .before .before .before .before .before .before .before .before .loop .inv .1, c .before .before .before .before .before .before .before .before .before .before .before .before .pre)
 
 same-length-3 : tie.Need-same-length-3 Inv-loop μ-loop
-same-length-3 c =
-    c .before .before .before .before .before .before .before .before .before .before .before .before .read .kept .1 .0
-    ∙ c .before .before .before .before .before .before .before .before .before .before .before .before .before .before
-    .before .loop .inv .0
+same-length-3 c = chunk-kept (c .before .before .before .before .before .before .before .before .before .before)
 
 same-length-4 : tie.Need-same-length-4 Inv-loop μ-loop
-same-length-4 c = c .before .before .before .before .list-piece .kept .1 .1 .0
-    ∙ c .before .before .before .before .before .before .before .before .before .before .before .before .before .before
-    .before .loop .inv .1
+same-length-4 c = out-kept (c .before .before .before .before)
 
 returns-2 : tie.Need-returns-2 Inv-loop μ-loop
 returns-2 c = tt
@@ -69,16 +64,7 @@ loop-less : tie.Need-loop-less Inv-loop μ-loop
 loop-less c = omega arith
 
 loop-again : tie.Need-loop-again Inv-loop μ-loop
-loop-again c = (
-  c .before .before .before .before .before .before .before .before .before .before .before .before .before .read
-      .kept .1 .0 ∙
-      c .before .before .before .before .before .before .before .before .before .before .before .before .before .before
-      .before .before .loop .inv .0,
-  c .before .before .before .before .before .list-piece .kept .1 .1 .0
-      ∙ c .before .before .before .before .before .before .before .before .before .before .before .before .before
-      .before
-      .before .before .loop .inv .1,
-)
+loop-again c = (chunk-kept (c .before .before .before .before .before .before .before .before .before .before .before), out-kept (c .before .before .before .before .before))
 
 same-length-5 : tie.Need-same-length-5 Inv-loop μ-loop
 same-length-5 c = c .before .loop .inv .0
@@ -97,8 +83,7 @@ list-all-spec =
     μ-loop
     start-requires
     loop-holds
-    read-requires
-    count-requires
+    read-piece-requires
     same-length
     same-length-2
     returns

@@ -29,12 +29,12 @@ part-run-end c = omega arith
 run-requires : tie.Need-run-requires Inv-loop μ-loop
 run-requires c κs = tt
 
-slice-reshare-prefix-write-all : tie.Need-slice-reshare-prefix-write-all Inv-loop μ-loop
-slice-reshare-prefix-write-all c =
+slice-reshare-prefix-write-made : tie.Need-slice-reshare-prefix-write-made Inv-loop μ-loop
+slice-reshare-prefix-write-made c =
     omega (arith, c .before .before .before .run .ensures .fits, c .before .before .before .run .kept .1 .1 .0)
 
-slice-aggregate-write-all : tie.Need-slice-aggregate-write-all Inv-loop μ-loop
-slice-aggregate-write-all c =
+slice-aggregate-write-made : tie.Need-slice-aggregate-write-made Inv-loop μ-loop
+slice-aggregate-write-made c =
     sym (length-take-le _ _
     (omega (
       arith,
@@ -42,8 +42,8 @@ slice-aggregate-write-all c =
       c .before .before .before .before .run .kept .1 .1 .0,
     )))
 
-write-all-requires : tie.Need-write-all-requires Inv-loop μ-loop
-write-all-requires c κs = tt
+write-made-requires : tie.Need-write-made-requires Inv-loop μ-loop
+write-made-requires c κs = tt
 
 same-length : tie.Need-same-length Inv-loop μ-loop
 same-length c = c .before .before .before .before .before .before .run .kept .1 .1 .0
@@ -111,9 +111,9 @@ list-piece-spec =
     part-run-start
     part-run-end
     run-requires
-    slice-reshare-prefix-write-all
-    slice-aggregate-write-all
-    write-all-requires
+    slice-reshare-prefix-write-made
+    slice-aggregate-write-made
+    write-made-requires
     same-length
     returns
     add-from

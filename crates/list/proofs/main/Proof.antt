@@ -18,16 +18,19 @@ slice-aggregate-heading c = search needs
 heading-requires : tie.Need-heading-requires
 heading-requires c κs = search needs
 
+start-requires : tie.Need-start-requires
+start-requires c κs = search needs
+
 array-share-prefix-out : tie.Need-array-share-prefix-out
 array-share-prefix-out c = search needs
 
-slice-aggregate-write-all : tie.Need-slice-aggregate-write-all
-slice-aggregate-write-all c =
+slice-aggregate-write-made : tie.Need-slice-aggregate-write-made
+slice-aggregate-write-made c =
     sym (length-take-le _ _
-    (omega (arith, c .before .before .heading .ensures .1, c .before .before .heading .kept .0)))
+    (omega (arith, c .before .before .before .heading .ensures .1, c .before .before .before .heading .kept .0)))
 
-write-all-requires : tie.Need-write-all-requires
-write-all-requires c κs = search needs
+write-made-requires : tie.Need-write-made-requires
+write-made-requires c κs = search needs
 
 returns : tie.Need-returns
 returns c = search needs
@@ -61,9 +64,10 @@ main-spec =
     large-requires
     slice-aggregate-heading
     heading-requires
+    start-requires
     array-share-prefix-out
-    slice-aggregate-write-all
-    write-all-requires
+    slice-aggregate-write-made
+    write-made-requires
     returns
     slice-aggregate-list-all
     slice-aggregate-list-all-2
