@@ -5,44 +5,42 @@
 ghost use mathlib.Core.Path.{_≡_};
 ghost use Prim.Native.Nat.{_≤_};
 ghost use lib.ListN.{length};
-ghost use Rattle.io.specs.Counts.{Counts};
 ghost use Rattle.listing.specs.Stream.{MOST};
 use libc::STDIN_FILENO;
 use libc::STDOUT_FILENO;
 use listing::Line;
-use streams::Got;
+use listing::Progress;
 
 const READING: [u8; 26] = *b"list: reading failed after";
 
 const WRITING: [u8; 26] = *b"list: writing failed after";
 
-// The line that is open, and whether nothing has failed.
+// The line that is open, whether there is more to read, and whether the input has ended; neither where something failed.
 struct Going {
     line: Line,
     on: bool,
+    ended: bool,
 }
 
 // Which of the two failed, and how many input lines were taken by then: each whose newline was read, and a last one
 // without a newline once the input has ended. They count where their answers are not written too.
 fn say_failed(what: &[u8; 26], line: Line) {
-    streams::say(what, std::num::wrapping_sub_u64(line.number, 1), b" input lines\n");
+    streams::say(
+        what,
+        std::num::wrapping_sub_u64(line.number, 1),
+        b" input lines\n",
+    );
 }
 
-fn read_piece(line: Line, chunk: &mut [u8]) -> Got
-    ensures { λ r. ⌜ Counts (r .count) (now (chunk .exit)) ⌝ }
+// Writes what a run has made.
+fn write_made(p: Progress, out: &[u8]) -> bool
+    requires { ⌜ p .made ≤ length (now out) ⌝ }
 {
-    let got = streams::read_some(STDIN_FILENO, chunk);
-    if got.failed {
-        say_failed(&READING, line);
-    }
-    got
-}
-
-// `line` is the one that is open after what was made.
-fn write_made(line: Line, made: &[u8]) -> bool {
-    if streams::write_whole(STDOUT_FILENO, made) {
+    let made = p.made;
+    if streams::write_whole(STDOUT_FILENO, &out[..made]) {
         return true;
     }
+    let line = p.line;
     say_failed(&WRITING, line);
     false
 }
@@ -55,14 +53,45 @@ fn list_piece(line: Line, piece: &[u8], out: &mut [u8]) -> Going
     let mut from = 0;
     while from < piece.len() {
         let p = listing::run(s, &piece[from..], out);
-        let made = p.made;
         s = p.line;
-        if !write_made(s, &out[..made]) {
-            return Going { line: s, on: false };
+        if !write_made(p, out) {
+            return Going {
+                line: s,
+                on: false,
+                ended: false,
+            };
         }
         from += p.taken;
     }
-    Going { line: s, on: true }
+    Going {
+        line: s,
+        on: true,
+        ended: false,
+    }
+}
+
+// Reads a piece and lists it.
+fn list_next(line: Line, chunk: &mut [u8], out: &mut [u8]) -> Going
+    requires { ⌜ MOST ≤ length (now out) ⌝ }
+{
+    let got = streams::read_some(STDIN_FILENO, chunk);
+    if got.failed {
+        say_failed(&READING, line);
+        return Going {
+            line: line,
+            on: false,
+            ended: false,
+        };
+    }
+    let n = got.count;
+    if n == 0 {
+        return Going {
+            line: line,
+            on: false,
+            ended: true,
+        };
+    }
+    list_piece(line, &chunk[..n], out)
 }
 
 // Reads and lists to the end of the input. A proved loop has to end, so it counts its turns down, from a number that no
@@ -70,25 +99,17 @@ fn list_piece(line: Line, piece: &[u8], out: &mut [u8]) -> Going
 fn list_all(chunk: &mut [u8], out: &mut [u8]) -> Going
     requires { ⌜ MOST ≤ length (now out) ⌝ }
 {
-    let mut s = listing::start();
+    let mut g = Going {
+        line: listing::start(),
+        on: true,
+        ended: false,
+    };
     let mut turns = u64::MAX;
-    while turns > 0 {
-        let got = read_piece(s, chunk);
-        let n = got.count;
-        if n == 0 {
-            return Going {
-                line: s,
-                on: !got.failed,
-            };
-        }
-        let g = list_piece(s, &chunk[..n], out);
-        if !g.on {
-            return g;
-        }
-        s = g.line;
+    while g.on && turns > 0 {
+        g = list_next(g.line, chunk, out);
         turns -= 1;
     }
-    Going { line: s, on: false }
+    g
 }
 
 // A last line without a newline is listed as if it had one.
@@ -112,12 +133,16 @@ fn large() -> [u8; 131072]
 fn main() {
     let mut chunk = io::large_buffer();
     let mut out = large();
-    let made = listing::heading(&mut out);
-    if !write_made(listing::start(), &out[..made]) {
+    let heading = Progress {
+        line: listing::start(),
+        taken: 0,
+        made: listing::heading(&mut out),
+    };
+    if !write_made(heading, &out) {
         return;
     }
     let g = list_all(&mut chunk, &mut out);
-    if g.on {
+    if g.ended {
         list_last(g.line, &mut out);
     }
 }
