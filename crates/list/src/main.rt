@@ -1,6 +1,6 @@
 // `list` (document 01, 'The listing'): lines of standard input to answers on standard output. What is printed is made
 // by the proved library `listing`; here its pieces are read and written. A run keeps 40 bytes of a line, so memory does
-// not grow with the input.
+// not grow with the input. Where a read or a write fails, one line on standard error says so, and the run ends.
 
 ghost use mathlib.Core.Path.{_≡_};
 ghost use Prim.Native.Nat.{_≤_};
@@ -9,11 +9,40 @@ ghost use Rattle.listing.specs.Stream.{MOST};
 use libc::STDIN_FILENO;
 use libc::STDOUT_FILENO;
 use listing::Line;
+use listing::Progress;
 
-// The line that is open, and whether all that was made has been written.
+const READING: [u8; 26] = *b"list: reading failed after";
+
+const WRITING: [u8; 26] = *b"list: writing failed after";
+
+// The line that is open, whether there is more to read, and whether the input has ended; neither where something failed.
 struct Going {
     line: Line,
     on: bool,
+    ended: bool,
+}
+
+// Which of the two failed, and how many input lines were taken by then: each whose newline was read, and a last one
+// without a newline once the input has ended. They count where their answers are not written too.
+fn say_failed(what: &[u8; 26], line: Line) {
+    streams::say(
+        what,
+        std::num::wrapping_sub_u64(line.number, 1),
+        b" input lines\n",
+    );
+}
+
+// Writes what a run has made.
+fn write_made(p: Progress, out: &[u8]) -> bool
+    requires { ⌜ p .made ≤ length (now out) ⌝ }
+{
+    let made = p.made;
+    if streams::write_whole(STDOUT_FILENO, &out[..made]) {
+        return true;
+    }
+    let line = p.line;
+    say_failed(&WRITING, line);
+    false
 }
 
 // Lists a piece of the input, as much of it at a time as there is room for.
@@ -24,14 +53,45 @@ fn list_piece(line: Line, piece: &[u8], out: &mut [u8]) -> Going
     let mut from = 0;
     while from < piece.len() {
         let p = listing::run(s, &piece[from..], out);
-        let made = p.made;
         s = p.line;
-        if !io::write_all(STDOUT_FILENO, &out[..made]) {
-            return Going { line: s, on: false };
+        if !write_made(p, out) {
+            return Going {
+                line: s,
+                on: false,
+                ended: false,
+            };
         }
         from += p.taken;
     }
-    Going { line: s, on: true }
+    Going {
+        line: s,
+        on: true,
+        ended: false,
+    }
+}
+
+// Reads a piece and lists it.
+fn list_next(line: Line, chunk: &mut [u8], out: &mut [u8]) -> Going
+    requires { ⌜ MOST ≤ length (now out) ⌝ }
+{
+    let got = streams::read_some(STDIN_FILENO, chunk);
+    if got.failed {
+        say_failed(&READING, line);
+        return Going {
+            line: line,
+            on: false,
+            ended: false,
+        };
+    }
+    let n = got.count;
+    if n == 0 {
+        return Going {
+            line: line,
+            on: false,
+            ended: true,
+        };
+    }
+    list_piece(line, &chunk[..n], out)
 }
 
 // Reads and lists to the end of the input. A proved loop has to end, so it counts its turns down, from a number that no
@@ -39,21 +99,17 @@ fn list_piece(line: Line, piece: &[u8], out: &mut [u8]) -> Going
 fn list_all(chunk: &mut [u8], out: &mut [u8]) -> Going
     requires { ⌜ MOST ≤ length (now out) ⌝ }
 {
-    let mut s = listing::start();
+    let mut g = Going {
+        line: listing::start(),
+        on: true,
+        ended: false,
+    };
     let mut turns = u64::MAX;
-    while turns > 0 {
-        let n = io::count(libc::read(STDIN_FILENO, chunk), chunk);
-        if n == 0 {
-            return Going { line: s, on: true };
-        }
-        let g = list_piece(s, &chunk[..n], out);
-        if !g.on {
-            return g;
-        }
-        s = g.line;
+    while g.on && turns > 0 {
+        g = list_next(g.line, chunk, out);
         turns -= 1;
     }
-    Going { line: s, on: false }
+    g
 }
 
 // A last line without a newline is listed as if it had one.
@@ -77,12 +133,16 @@ fn large() -> [u8; 131072]
 fn main() {
     let mut chunk = io::large_buffer();
     let mut out = large();
-    let made = listing::heading(&mut out);
-    if !io::write_all(STDOUT_FILENO, &out[..made]) {
+    let heading = Progress {
+        line: listing::start(),
+        taken: 0,
+        made: listing::heading(&mut out),
+    };
+    if !write_made(heading, &out) {
         return;
     }
     let g = list_all(&mut chunk, &mut out);
-    if g.on {
+    if g.ended {
         list_last(g.line, &mut out);
     }
 }

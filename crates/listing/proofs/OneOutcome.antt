@@ -14,12 +14,6 @@ use Rattle.listing.specs.Ran.{Ran}
 use Rattle.listing.specs.Stream.{after, printed}
 use Rattle.listing.specs.declared.Line.{Line}
 use Rattle.listing.specs.declared.Progress.{Progress}
-use Rattle.listing.proofs.read.read_line
-use Rattle.listing.proofs.read.read_line.Reads as read-line-reads
-use Rattle.listing.proofs.read.read_line.Kinds as read-line-kinds
-use Rattle.listing.proofs.reply.answer_line
-use Rattle.listing.proofs.reply.answer_line.Reads as answer-line-reads
-use Rattle.listing.proofs.reply.answer_line.Kinds as answer-line-kinds
 use Rattle.listing.proofs.stream.heading
 use Rattle.listing.proofs.stream.heading.Reads as heading-reads
 use Rattle.listing.proofs.stream.heading.Kinds as heading-kinds
@@ -30,11 +24,6 @@ use Rattle.listing.proofs.stream.run
 use Rattle.listing.proofs.stream.run.Reads as run-reads
 use Rattle.listing.proofs.stream.run.Kinds as run-kinds
 
-module _ (κs : Lfts 1) (a : ArgsD read_line.signature κs) (z z′ : ResD read_line.signature κs)
-    (e e′ : AtExit (endedOf 1 read-line-kinds.ps read-line-kinds.r) κs) where
-  pub one-request : read-line-reads.Post κs a z e → read-line-reads.Post κs a z′ e′ → z ≡ z′
-  one-request p p′ = p .0 ∙ sym (p′ .0)
-
 module _ (κs : Lfts 0) (a : ArgsD start.signature κs) (z z′ : ResD start.signature κs)
     (e e′ : AtExit (endedOf 0 start-kinds.ps start-kinds.r) κs) where
   pub one-start : start-reads.Post κs a z e → start-reads.Post κs a z′ e′ → z ≡ z′
@@ -44,12 +33,6 @@ module _ (κs : Lfts 1) (a : ArgsD heading.signature κs) (z z′ : ResD heading
     (e e′ : AtExit (endedOf 1 heading-kinds.ps heading-kinds.r) κs) where
   pub one-heading : heading-reads.Post κs a z e → heading-reads.Post κs a z′ e′ → (z ≡ z′) × (now (e .0) ≡ now (e′ .0))
   one-heading p p′ = (p .0 .place ∙ sym (p′ .0 .place), p .0 .leaves ∙ sym (p′ .0 .leaves))
-
-module _ (κs : Lfts 2) (a : ArgsD answer_line.signature κs) (z z′ : ResD answer_line.signature κs)
-    (e e′ : AtExit (endedOf 2 answer-line-kinds.ps answer-line-kinds.r) κs) where
-  pub one-reply : answer-line-reads.Post κs a z e → answer-line-reads.Post κs a z′ e′
-      → (z ≡ z′) × (now (e .1 .1 .0) ≡ now (e′ .1 .1 .0))
-  one-reply p p′ = (p .place ∙ sym (p′ .place), p .leaves ∙ sym (p′ .leaves))
 
 -- two runs over one piece
 module _ {line : Line} {piece l m m′ : List ℕ} {r r′ : Progress} (p : Ran line piece l m r)

@@ -11,13 +11,14 @@ use borrow.Author.Tests.{eq-eqb, ne-eqb, lt-ltb, le-ltb}
 use lib.ListN.{length, getD, take, drop, drop-of-length-le}
 use lib.Seq.{take-suc, drop-cons, length-sets}
 use lib.Dec.{eqb, ltb}
-use Rattle.listing.specs.Text.{NEWLINE}
-use Rattle.listing.specs.Stream.{MOST, pushed, nextLine, closing, step, says, after, printed, taken}
-use Rattle.listing.specs.Puts.{Puts}
+use Rattle.text.specs.Text.{NEWLINE}
+use Rattle.replies.specs.Reply.{MOST}
+use Rattle.listing.specs.Stream.{pushed, nextLine, closing, step, says, after, printed, taken}
+use Rattle.text.specs.Puts.{Puts}
 use Rattle.listing.specs.Ran.{Ran}
 use Rattle.listing.specs.declared.Line.{Line}
 use Rattle.listing.specs.declared.Progress.{Progress}
-use Rattle.listing.proofs.Putting.{then, nothing-put}
+use Rattle.text.proofs.Putting.{then, nothing-put}
 
 pub after-append : (s : Line) (xs ys : List ℕ) → after s (xs ++ ys) ≡ after (after s xs) ys
 unfolding after

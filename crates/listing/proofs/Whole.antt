@@ -9,9 +9,11 @@ use lib.ListN.{length, take, drop, take-append-drop}
 use lib.Seq.{take-all, sets-eq, take-at}
 use lib.Dec.{eqb}
 use Rattle.step_laws.specs.Tests.{by-test}
-use Rattle.listing.specs.Text.{NEWLINE}
-use Rattle.listing.specs.Listing.{reply, lastLine, linesFrom, replies, heading, listing}
-use Rattle.listing.specs.Stream.{MOST, startLine, pushed, nextLine, closing, step, says, after, printed, ending}
+use Rattle.text.specs.Text.{NEWLINE}
+use Rattle.replies.specs.Reply.{reply}
+use Rattle.listing.specs.Listing.{lastLine, linesFrom, replies, heading, listing}
+use Rattle.replies.specs.Reply.{MOST}
+use Rattle.listing.specs.Stream.{startLine, pushed, nextLine, closing, step, says, after, printed, ending}
 use Rattle.listing.specs.Ran.{Ran}
 use Rattle.listing.specs.declared.Line.{Line}
 use Rattle.listing.specs.declared.Progress.{Progress}

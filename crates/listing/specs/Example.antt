@@ -15,10 +15,12 @@ use Rattle.definitions.specs.KeptHalf.{additions}
 use Rattle.definitions.specs.Answer.{coefficients, heightOf, height, gain, additionsFor}
 use Rattle.definitions.specs.Requests.{knownKind, goodIndex, nextDivisor, divisorsDue, overAt, overAmong}
 use Rattle.answers.specs.Polynomial.{code, answered, answer}
-use Rattle.listing.specs.Text.{decimalIn, decimal, sign, signed, spaced}
-use Rattle.listing.specs.Request.{kindOf, between, digits, valueFrom, valueOf, digitsAt, numberAt, isGoodWith}
-use Rattle.listing.specs.Request.{placeOfLimit, isGood, wrong, readLine}
-use Rattle.listing.specs.Listing.{letterOf, headOf, tailOf, goodLine, wrongLine, replyTo, reply, lastLine}
+use Rattle.text.specs.Text.{decimalIn, decimal, sign, signed, spaced}
+use Rattle.replies.specs.Request.{kindOf, isGoodWith}
+use Rattle.text.specs.Digits.{between, digits, valueFrom, valueOf, digitsAt, numberAt}
+use Rattle.replies.specs.Request.{placeOfLimit, isGood, wrong, readLine}
+use Rattle.replies.specs.Reply.{letterOf, headOf, tailOf, goodLine, wrongLine, replyTo, reply}
+use Rattle.listing.specs.Listing.{lastLine}
 use Rattle.listing.specs.Listing.{linesFrom, replies, heading, listing}
 
 -- `F 6 1`, `I 006 1`, an empty line, `F 6 -1` and `F 0 0`, the last with no newline

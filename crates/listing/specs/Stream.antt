@@ -6,8 +6,9 @@ use mathlib.Core.Bool.{cond, _&&_}
 use mathlib.Core.List.{List, [], _∷_, _++_}
 use lib.ListN.{length, take, set, replicate}
 use lib.Dec.{eqb, ltb, leb}
-use Rattle.listing.specs.Text.{NEWLINE}
-use Rattle.listing.specs.Listing.{reply, wrongLine}
+use Rattle.text.specs.Text.{NEWLINE}
+use Rattle.replies.specs.Reply.{reply, wrongLine}
+pub use Rattle.replies.specs.Reply.{MOST}
 use Rattle.listing.specs.declared.Line.{Line}
 
 abbrev pub KEPT : ℕ
@@ -51,11 +52,6 @@ printed s (b ∷ bs) = says s b ++ printed (step s b) bs
 -- what the end of the input prints: a line only if it isn't empty
 unfoldable pub ending : Line → List ℕ
 ending s = cond (eqb (s .length) 0) [] (closing s)
-
--- a line's bytes are never more: letter, six numbers of at most 21 bytes with their spaces, colon, coefficients of at
--- most 22, newline
-abbrev pub MOST : ℕ
-MOST = 90242
 
 -- how many bytes of input are taken where there is room for so many bytes of output: all before the first newline whose
 -- line may not fit

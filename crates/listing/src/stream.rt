@@ -7,16 +7,17 @@ ghost use mathlib.Core.List.{[]};
 ghost use Prim.Native.Nat.{_+_, _≤_};
 ghost use lib.ListN.{length};
 ghost use lib.Dec.{ltb};
-ghost use Rattle.listing.specs.Puts.{Puts};
-ghost use Rattle.listing.specs.Listing.{LENT};
+ghost use Rattle.text.specs.Puts.{Puts};
+ghost use Rattle.replies.specs.Reply.{LENT};
 ghost use Rattle.listing.specs.Listing.{heading as theHeading};
-ghost use Rattle.listing.specs.Stream.{MOST as Most, startLine, pushed, nextLine, closing};
+ghost use Rattle.replies.specs.Reply.{MOST as Most};
+ghost use Rattle.listing.specs.Stream.{startLine, pushed, nextLine, closing};
 ghost use Rattle.listing.specs.Ran.{Ran};
 use crate::Line;
-use crate::MOST;
 use crate::Progress;
-use crate::reply::put_reply;
-use crate::reply::put_wrong;
+use replies::MOST;
+use replies::put_reply;
+use replies::put_wrong;
 
 const HEADING: [u8; 12] = *b"polynomials\n";
 

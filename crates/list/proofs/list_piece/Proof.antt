@@ -1,9 +1,8 @@
 -- `list::list_piece` is safe and ends: each run takes something, since there is room for a line (`takes`).
 use Prim.Native.Nat.{_-_, _≤_, _<_}
-use mathlib.Core.Path.{_≡_, refl, sym, _∙_}
+use mathlib.Core.Path.{_≡_, refl, _∙_}
 use native.Mathlib.Omega.{arith}
 use lib.ListN.{length, drop, length-take, length-drop}
-use lib.Seq.{length-take-le}
 use Rattle.listing.proofs.Streaming.{takes}
 use Rattle.list.proofs.list_piece.Statement.{statement}
 use Rattle.list.proofs.list_piece.Tie as tie
@@ -29,70 +28,53 @@ part-run-end c = omega arith
 run-requires : tie.Need-run-requires Inv-loop μ-loop
 run-requires c κs = tt
 
-slice-reshare-prefix-write-all : tie.Need-slice-reshare-prefix-write-all Inv-loop μ-loop
-slice-reshare-prefix-write-all c =
-    omega (arith, c .before .before .before .run .ensures .fits, c .before .before .before .run .kept .1 .1 .0)
+-- a run leaves the buffer as long as it was; what it took lies within what was left, and is something
+kept : (c : tie.After-run Inv-loop μ-loop) → length (c .run .last .1 .1 .0)
+    ≡ length (c .before .before .before .before .before .before .before .args .out .now)
+kept c = c .run .kept .1 .1 .0 ∙ c .before .before .before .before .loop .inv .1
 
-slice-aggregate-write-all : tie.Need-slice-aggregate-write-all Inv-loop μ-loop
-slice-aggregate-write-all c =
-    sym (length-take-le _ _
+within : (c : tie.After-run Inv-loop μ-loop) → c .run .result .taken
+    ≤ length (c .before .before .before .before .before .before .before .args .piece .now) - c .before .before .before .before .loop .from
+within c =
+    let l = c .before .before .before .before .before .before .before .args .piece .now in
+    let from = c .before .before .before .before .loop .from in
+    omega (arith, c .run .ensures .within, length-take (length l - from) (drop from l))
+
+some : (c : tie.After-run Inv-loop μ-loop) → 0 < c .run .result .taken
+some c =
+    let l = c .before .before .before .before .before .before .before .args .piece .now in
+    let from = c .before .before .before .before .loop .from in
+    takes (c .run .ensures)
+    (omega (arith, c .before .before .before .before .loop .inv .1, c .before .before .before .before .before .before .before .pre))
     (omega (
       arith,
-      c .before .before .before .before .run .ensures .fits,
-      c .before .before .before .before .run .kept .1 .1 .0,
-    )))
+      length-take (length l - from) (drop from l),
+      length-drop from l,
+      c .before .before .before .loop-test .taken,
+    ))
 
-write-all-requires : tie.Need-write-all-requires Inv-loop μ-loop
-write-all-requires c κs = tt
+write-made-requires : tie.Need-write-made-requires Inv-loop μ-loop
+write-made-requires c κs =
+    omega (arith, c .before .before .before .before .run .ensures .fits, c .before .before .before .before .run .kept .1 .1 .0)
 
 same-length : tie.Need-same-length Inv-loop μ-loop
-same-length c = c .before .before .before .before .before .before .run .kept .1 .1 .0
-    ∙ c .before .before .before .before .before .before .before .before .before .before .loop .inv .1
+same-length c = kept (c .before .before .before .before .before .before)
 
 returns : tie.Need-returns Inv-loop μ-loop
 returns c = tt
 
--- what was taken is within the piece, and it is something
-w : (c : tie.After-struct-known Inv-loop μ-loop)
-    → c .before .before .before .before .before .before .before .run .result .taken
-    ≤ length (c .before .before .before .before .before .before .before .before .before .before .before .before .before
-    .before .args .piece .now)
-    - c .before .before .before .before .before .before .before .before .before .before .before .loop .from
-w c =
-    let t = c .before .before .before .before .before .before .before .before .before .before .before in
-    omega (
-      arith,
-      c .before .before .before .before .before .before .before .run .ensures .within,
-      length-take (length (t .before .before .before .args .piece .now) - t .loop .from)
-          (drop (t .loop .from) (t .before .before .before .args .piece .now)),
-    )
-
-some : (c : tie.After-struct-known Inv-loop μ-loop)
-    → 0 < c .before .before .before .before .before .before .before .run .result .taken
-some c =
-    let t = c .before .before .before .before .before .before .before .before .before .before .before in
-    let l = t .before .before .before .args .piece .now in
-    takes (c .before .before .before .before .before .before .before .run .ensures)
-    (omega (arith, t .loop .inv .1, t .before .before .before .pre))
-    (omega (
-      arith,
-      length-take (length l - t .loop .from) (drop (t .loop .from) l),
-      length-drop (t .loop .from) l,
-      c .before .before .before .before .before .before .before .before .before .before .loop-test .taken,
-    ))
-
 add-from : tie.Need-add-from Inv-loop μ-loop
-add-from c = omega (arith, w c)
+add-from c = omega (arith, within (c .before .before .before .before .before .before .before))
 
 loop-less : tie.Need-loop-less Inv-loop μ-loop
-loop-less c = omega (arith, w c, some c)
+loop-less c =
+    let ran = c .before .before .before .before .before .before .before in
+    omega (arith, within ran, some ran)
 
 loop-again : tie.Need-loop-again Inv-loop μ-loop
-loop-again c = (
-  omega (arith, w c),
-  c .before .before .before .before .before .before .before .run .kept .1 .1 .0
-      ∙ c .before .before .before .before .before .before .before .before .before .before .before .loop .inv .1,
-)
+loop-again c =
+    let ran = c .before .before .before .before .before .before .before in
+    (omega (arith, within ran), kept ran)
 
 same-length-2 : tie.Need-same-length-2 Inv-loop μ-loop
 same-length-2 c = c .before .loop .inv .1
@@ -111,9 +93,7 @@ list-piece-spec =
     part-run-start
     part-run-end
     run-requires
-    slice-reshare-prefix-write-all
-    slice-aggregate-write-all
-    write-all-requires
+    write-made-requires
     same-length
     returns
     add-from

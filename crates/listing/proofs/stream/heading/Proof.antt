@@ -6,9 +6,9 @@ use lib.Seq.{take-suc}
 use native.Mathlib.Omega.{arith}
 use borrow.Author.Tests.{lt-ltb, le-ltb}
 use lib.ListN.{length, take, length-set}
-use Rattle.listing.specs.Puts.{Puts}
+use Rattle.text.specs.Puts.{Puts}
 use Rattle.listing.specs.Listing.{heading}
-use Rattle.listing.proofs.Putting.{nothing-put, then}
+use Rattle.text.proofs.Putting.{nothing-put, then}
 use Rattle.listing.proofs.stream.heading.Statement.{statement}
 use Rattle.listing.proofs.stream.heading.Tie as tie
 

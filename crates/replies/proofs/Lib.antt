@@ -1,0 +1,5 @@
+-- What several proofs of `replies` share, and what `listing` cites.
+pub mod Reading
+pub mod Head
+pub mod Replying
+pub mod OneOutcome
