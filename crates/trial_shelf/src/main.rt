@@ -219,7 +219,7 @@ fn room_for(p: u64, count: usize) -> usize
 
 // All cases at a kind and an index, with one coefficient too many and one too few at the end.
 fn run_kind(kind: u64, n: u64) {
-    let degree = polynomial::degree_of(kind, n);
+    let degree = index::degree_of(kind, n);
     if 17 < degree {
         return;
     }
