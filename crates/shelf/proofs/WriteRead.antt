@@ -18,8 +18,8 @@ use Rattle.record.proofs.Least.{Fitting, width-none, width-some}
 use Rattle.record.proofs.Digits.{coefficients-body}
 use Rattle.record.proofs.Headers.{length-header, header-right}
 use Rattle.record.proofs.HeaderTrips.{marked-back, kind-back, width-back, index-back, count-back}
-use Rattle.shelf.specs.Format.{recordOf, size, writeCode, writeLeaves, degreeIn, coefficientsIn, sizeIn, readTells}
-use Rattle.shelf.specs.Format.{readAnswer, readLeaves}
+use Rattle.shelf.specs.Format.{recordOf, size, writeCode, writeLeaves, degreeIn, coefficientsIn, sizeIn}
+use Rattle.shelf.specs.Format.{readTells, readAnswer, readLeaves}
 use Rattle.shelf.proofs.Writing.{length-record}
 use Rattle.shelf.proofs.Reading.{filled}
 use Rattle.shelf.proofs.Done.{written-right}
