@@ -6,4 +6,4 @@ pub mod Lowest
 pub mod Passes
 pub mod Digits
 pub mod Headers
-pub mod HeaderSame
+pub mod HeaderTrips

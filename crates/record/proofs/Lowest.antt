@@ -44,19 +44,19 @@ entry-height [] i = omega arith
 entry-height (c ∷ cs) zero = omega arith
 entry-height (c ∷ cs) (suc i) = omega (arith, entry-height cs i)
 
+lowest-over : (cs : List ℤ) → HasLowest cs → ltb largest (heightOf cs) ≡ true
+lowest-over cs h = lt-ltb largest (heightOf cs) (omega (arith, ap natAbs (h .2), entry-height cs (h .0)))
+
 pub over-means : (cs : List ℤ) → ((i : ℕ) → mag (getD cs i (pos 0)) < 2 ^ 63)
     → (ltb largest (heightOf cs) ≡ true) ↔ HasLowest cs
 over-means cs fits = (
   λ t. over→lowest cs fits (ltb-true largest (heightOf cs) t),
-  λ h. lt-ltb largest (heightOf cs) (omega (arith, ap natAbs (h .2), entry-height cs (h .0))),
+  lowest-over cs,
 )
 
 pub lowest-no-width : (cs : List ℤ) → HasLowest cs → width cs ≡ 0
 lowest-no-width cs h = go (eqb (width cs) 0) refl
   where
-    above : ltb largest (heightOf cs) ≡ true
-    above = lt-ltb largest (heightOf cs) (omega (arith, ap natAbs (h .2), entry-height cs (h .0)))
-
     go : (b : Bool) → eqb (width cs) 0 ≡ b → width cs ≡ 0
     go true e = eqb-true (width cs) 0 e
-    go false e = absurd (true≢false (sym above ∙ width-some cs (eqb-false (width cs) 0 e) .within))
+    go false e = absurd (true≢false (sym (lowest-over cs h) ∙ width-some cs (eqb-false (width cs) 0 e) .within))

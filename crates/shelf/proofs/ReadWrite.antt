@@ -11,7 +11,7 @@ use Rattle.record.specs.Numbers.{body, coefficientsAt, width}
 use Rattle.record.specs.Header.{headerOf, kindIn, widthIn, indexIn, countIn}
 use Rattle.record.proofs.Least.{width-bounds, width-some}
 use Rattle.record.proofs.Headers.{right}
-use Rattle.record.proofs.HeaderSame.{header-same, index-small}
+use Rattle.record.proofs.HeaderTrips.{header-same, index-small}
 use Rattle.record.proofs.Passes.{length-at}
 use Rattle.record.proofs.Digits.{Bytes, bytes-drop, body-coefficients}
 use Rattle.shelf.specs.Format.{recordOf, size, writeTells, writeAnswer, writeLeaves, coefficientsIn, sizeIn}

@@ -21,7 +21,7 @@ use Rattle.shelf.proofs.Writing.{length-record}
 use Rattle.shelf.proofs.Reading.{length-all}
 use Rattle.shelf.proofs.Degrees.{degree-le}
 use Rattle.shelf.proofs.Done.{written-right}
-use Rattle.shelf.proofs.WriteRead.{left-written, degree-back, write-read-record}
+use Rattle.shelf.proofs.WriteRead.{laid, degree-back, left-written, write-read-record}
 use Rattle.shelf.proofs.ReadWrite.{entries-read, read-write-record}
 
 -- what `write` and `read` promise
@@ -48,8 +48,8 @@ module _ (kind n : ℕ) (cs : List ℤ) (b : List ℕ) (out : List ℤ) where
       let d = degree kind n in
       let g = written-right d kind n cs (length b) done in
       let small : d ≤ 65535 = omega (arith, degree-le kind n, g .high) in
-      let bs = recordOf kind n cs ++ drop (size cs) b in
-      let same : degreeIn bs ≡ d = degree-back kind n cs (drop (size cs) b) (g .high) in
+      let rest = drop (size cs) b in
+      let same : degreeIn (laid kind n cs rest) ≡ d = degree-back kind n cs rest (g .high) in
       rw (left-written d kind n cs b small done, same, done) (write-read-record d kind n cs b small done out room)
 
 -- Read well, then rewritten with all that was read, in a buffer with enough bytes.

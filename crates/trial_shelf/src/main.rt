@@ -5,36 +5,35 @@ ghost use mathlib.Core.Path.{_≡_};
 ghost use Prim.Native.Nat.{_≤_};
 ghost use lib.ListN.{length, take};
 
-// The edges of each width; -2^63 has none.
-fn value(k: u64) -> i64 {
-    match k {
-        0 => 0,
-        1 => 1,
-        2 => -1,
-        3 => 127,
-        4 => -127,
-        5 => 128,
-        6 => -128,
-        7 => 255,
-        8 => -256,
-        9 => 32767,
-        10 => -32767,
-        11 => 32768,
-        12 => -32768,
-        13 => 65536,
-        14 => 2147483647,
-        15 => -2147483647,
-        16 => 2147483648,
-        17 => -2147483648,
-        18 => 4294967296,
-        19 => 9223372036854775807,
-        20 => -9223372036854775807,
-        _ => -9223372036854775808,
-    }
-}
+// The edges of each width; -2^63 has none, and stands twice.
+const VALUES: [i64; 23] = [
+    0,
+    1,
+    -1,
+    127,
+    -127,
+    128,
+    -128,
+    255,
+    -256,
+    32767,
+    -32767,
+    32768,
+    -32768,
+    65536,
+    2147483647,
+    -2147483647,
+    2147483648,
+    -2147483648,
+    4294967296,
+    9223372036854775807,
+    -9223372036854775807,
+    -9223372036854775808,
+    -9223372036854775808,
+];
 
 // The first of `count` coefficients is value p, and the others are among the values to p.
-fn set_values(coeffs: &mut [i64], count: usize, p: u64) {
+fn set_values(coeffs: &mut [i64], count: usize, p: usize) {
     if coeffs.len() < count {
         return;
     }
@@ -43,15 +42,9 @@ fn set_values(coeffs: &mut [i64], count: usize, p: u64) {
     }
     let mut i = 0;
     while i < count {
-        set_value(coeffs, i, (p + 5 * (i as u64)) % (p + 1));
-        i += 1;
-    }
-}
-
-fn set_value(coeffs: &mut [i64], i: usize, k: u64) {
-    if i < coeffs.len() {
-        let c = value(k);
+        let c = VALUES[(p + 5 * i) % (p + 1)];
         coeffs[i] = c;
+        i += 1;
     }
 }
 
@@ -60,21 +53,13 @@ fn say(n: u64) {
     io::print_decimal(STDOUT_FILENO, n);
 }
 
-fn wide(b: u8) -> u64 {
-    b as u64
-}
-
 fn show(bytes: &[u8]) {
     io::write_all(STDOUT_FILENO, b" : ");
     let mut i = 0;
     while i < bytes.len() {
-        io::print_hex(STDOUT_FILENO, wide(bytes[i]), 2);
+        io::print_hex(STDOUT_FILENO, bytes[i] as u64, 2);
         i += 1;
     }
-}
-
-fn end_line() {
-    io::write_all(STDOUT_FILENO, b"\n");
 }
 
 // How many entries are still as they were lent.
@@ -101,7 +86,7 @@ fn write_one(kind: u64, n: u64, coeffs: &[i64], bytes: &mut [u8]) {
     say(told.degree);
     say(told.used);
     show(bytes);
-    end_line();
+    io::write_all(STDOUT_FILENO, b"\n");
 }
 
 fn read_one(bytes: &[u8], entries: &mut [i64]) -> shelf::Record {
@@ -113,7 +98,7 @@ fn read_one(bytes: &[u8], entries: &mut [i64]) -> shelf::Record {
     say(told.kind);
     say(told.n);
     say(untouched(entries));
-    end_line();
+    io::write_all(STDOUT_FILENO, b"\n");
     told
 }
 
@@ -178,19 +163,14 @@ fn damage_all(bytes: &mut [u8], room: usize, v: u8) {
     }
 }
 
-// The bytes to lend.
-fn lent() -> [u8; 180] {
-    [170u8; 180]
-}
-
 // Coefficients written in `room` bytes, read back into one entry more, and rewritten where they read well.
-fn run_case(kind: u64, n: u64, p: u64, count: usize, room: usize)
+fn run_case(kind: u64, n: u64, p: usize, count: usize, room: usize)
     requires { ⌜ count ≤ 19 ⌝ }
 {
     let mut coeffs = [0i64; 20];
-    let mut bytes = lent();
+    let mut bytes = [170u8; 180];
     let mut entries = [77i64; 20];
-    let mut again = lent();
+    let mut again = [170u8; 180];
     set_values(&mut coeffs, count, p);
     write_part(kind, n, &coeffs, count, &mut bytes, room);
     let told = read_part(&bytes, room, &mut entries, count + 1);
@@ -206,7 +186,7 @@ fn run_case(kind: u64, n: u64, p: u64, count: usize, room: usize)
 }
 
 // Too much room, just enough for the widest, one byte less, and one byte less than the narrowest takes.
-fn room_for(p: u64, count: usize) -> usize
+fn room_for(p: usize, count: usize) -> usize
     requires { ⌜ count ≤ 19 ⌝ }
 {
     match p % 4 {
@@ -224,7 +204,7 @@ fn run_kind(kind: u64, n: u64) {
         return;
     }
     let count = degree as usize + 1;
-    let mut p: u64 = 0;
+    let mut p = 0;
     while p <= 22 {
         run_case(kind, n, p, count, room_for(p, count));
         p += 1;

@@ -1,6 +1,8 @@
--- `set_values` keeps the slice its length.
-use Prim.Native.Nat.{_-_, _≤_}
+-- `set_values` keeps the slice its length, and within the table: a remainder by p + 1 is at most p.
+use Prim.Native.Nat.{ℕ, _+_, _*_, _-_, _%_, _<_, _≤_}
 use mathlib.Core.Path.{_≡_}
+use native.Mathlib.Omega.{arith}
+use native.Mathlib.Nat.{mod-lt}
 use borrow.Author.Needs.{needs}
 use lib.ListN.{length}
 use Rattle.trial_shelf.proofs.set_values.Statement.{statement}
@@ -12,6 +14,10 @@ Inv-loop coeffs₀ count p i₀ coeffs i = (i ≤ count) × (length coeffs ≡ l
 abbrev μ-loop : tie.MeasureT-loop
 μ-loop coeffs₀ count p i₀ coeffs i = count - i
 
+-- the place in the table
+inside : (p i : ℕ) → p ≤ 22 → (p + 5 * i) % (p + 1) < 23
+inside p i h = omega (arith, mod-lt (p + 5 * i) {m = p + 1} (omega arith))
+
 returns : tie.Need-returns Inv-loop μ-loop
 returns c = search needs
 
@@ -21,20 +27,29 @@ returns-2 c = search needs
 loop-holds : tie.Need-loop-holds Inv-loop μ-loop
 loop-holds c = search needs
 
-mul-set-value : tie.Need-mul-set-value Inv-loop μ-loop
-mul-set-value c = search needs
+mul-c : tie.Need-mul-c Inv-loop μ-loop
+mul-c c = search needs
 
-add-set-value : tie.Need-add-set-value Inv-loop μ-loop
-add-set-value c = search needs
+add-c : tie.Need-add-c Inv-loop μ-loop
+add-c c = search needs
 
-add-set-value-2 : tie.Need-add-set-value-2 Inv-loop μ-loop
-add-set-value-2 c = search needs
+add-c-2 : tie.Need-add-c-2 Inv-loop μ-loop
+add-c-2 c = search needs
 
-rem-set-value : tie.Need-rem-set-value Inv-loop μ-loop
-rem-set-value c = search needs
+rem-c : tie.Need-rem-c Inv-loop μ-loop
+rem-c c = search needs
 
-set-value-requires : tie.Need-set-value-requires Inv-loop μ-loop
-set-value-requires c κs = search needs
+mul-c-2 : tie.Need-mul-c-2 Inv-loop μ-loop
+mul-c-2 c = omega (arith, inside _ (c .before .loop .i) (c .before .before .if2 .left))
+
+array-copy-out-c : tie.Need-array-copy-out-c Inv-loop μ-loop
+array-copy-out-c c = inside _ (c .before .loop .i) (c .before .before .if2 .left)
+
+mul-c-3 : tie.Need-mul-c-3 Inv-loop μ-loop
+mul-c-3 c = search needs
+
+slice-set-from-c : tie.Need-slice-set-from-c Inv-loop μ-loop
+slice-set-from-c c = search needs
 
 add-i : tie.Need-add-i Inv-loop μ-loop
 add-i c = search needs
@@ -60,11 +75,14 @@ set-values-spec =
     returns
     returns-2
     loop-holds
-    mul-set-value
-    add-set-value
-    add-set-value-2
-    rem-set-value
-    set-value-requires
+    mul-c
+    add-c
+    add-c-2
+    rem-c
+    mul-c-2
+    array-copy-out-c
+    mul-c-3
+    slice-set-from-c
     add-i
     loop-less
     loop-again

@@ -12,33 +12,26 @@ Inv-loop bytes at w v₀ left₀ v left = Got bytes at w left v × (left ≤ w)
 abbrev μ-loop : tie.MeasureT-loop
 μ-loop bytes at w v₀ left₀ v left = left
 
--- src/bytes.rt:46:5
 loop-holds : tie.Need-loop-holds Inv-loop μ-loop
 loop-holds c = (got-none _ _ _, omega arith)
 
--- src/bytes.rt:47:9
 sub-left : tie.Need-sub-left Inv-loop μ-loop
 sub-left c = omega arith
 
--- src/bytes.rt:48:13
 mul-v : tie.Need-mul-v Inv-loop μ-loop
 mul-v c =
     let start = c .before .before in
     omega (arith, got-room _ _ _ _ _ (c .loop-test .taken) (start .before .pre .1) (c .before .loop .inv .0))
 
--- src/bytes.rt:48:34
 add-wide : tie.Need-add-wide Inv-loop μ-loop
 add-wide c = omega arith
 
--- src/bytes.rt:48:28
 shared-slice-read-wide : tie.Need-shared-slice-read-wide Inv-loop μ-loop
 shared-slice-read-wide c = omega arith
 
--- src/bytes.rt:48:23
 wide-requires : tie.Need-wide-requires Inv-loop μ-loop
 wide-requires c κs = search needs
 
--- src/bytes.rt:48:13
 add-v : tie.Need-add-v Inv-loop μ-loop
 add-v c =
     let loop = c .before .before .before in
@@ -48,11 +41,9 @@ add-v c =
       c .before .shared-slice-known2 .given (loop .before .before .args .at + (loop .loop .left - 1)),
     )
 
--- src/bytes.rt:46:5
 loop-less : tie.Need-loop-less Inv-loop μ-loop
 loop-less c = omega arith
 
--- src/bytes.rt:46:5
 loop-again : tie.Need-loop-again Inv-loop μ-loop
 loop-again c =
     let loop = c .before .before .before in (
@@ -66,7 +57,6 @@ loop-again c =
       omega arith,
     )
 
--- src/bytes.rt:40:1
 returns : tie.Need-returns Inv-loop μ-loop
 returns c = got-all _ _ _ _ _ (omega arith) (c .before .loop .inv .0)
 

@@ -17,31 +17,24 @@ Inv-loop bytes₀ at w v i₀ left₀ rest₀ bytes i left rest =
 abbrev μ-loop : tie.MeasureT-loop
 μ-loop bytes₀ at w v i₀ left₀ rest₀ bytes i left rest = left
 
--- src/bytes.rt:31:5
 loop-holds : tie.Need-loop-holds Inv-loop μ-loop
 loop-holds c = (refl, refl, refl)
 
--- src/bytes.rt:32:20
 cast-bytes : tie.Need-cast-bytes Inv-loop μ-loop
 cast-bytes c = omega arith
 
--- src/bytes.rt:32:9
 slice-write-bytes : tie.Need-slice-write-bytes Inv-loop μ-loop
 slice-write-bytes c = omega arith
 
--- src/bytes.rt:34:9
 add-i : tie.Need-add-i Inv-loop μ-loop
 add-i c = omega arith
 
--- src/bytes.rt:35:9
 sub-left : tie.Need-sub-left Inv-loop μ-loop
 sub-left c = omega arith
 
--- src/bytes.rt:31:5
 loop-less : tie.Need-loop-less Inv-loop μ-loop
 loop-less c = omega arith
 
--- src/bytes.rt:31:5
 loop-again : tie.Need-loop-again Inv-loop μ-loop
 loop-again c = (
   put-turn _ _ _ _ (c .loop-test .taken) ∙ c .before .loop .inv .0,
@@ -49,11 +42,9 @@ loop-again c = (
   simp length-set (c .before .loop .inv .2),
 )
 
--- src/bytes.rt:24:1
 same-length : tie.Need-same-length Inv-loop μ-loop
 same-length c = c .before .loop .inv .2
 
--- src/bytes.rt:24:1
 returns : tie.Need-returns Inv-loop μ-loop
 returns c = sym (put-none _ _ _ _ (c .loop-test .left)) ∙ c .before .loop .inv .0
 

@@ -1,8 +1,10 @@
 -- `signed_of`: above top w, 2^(8w) - (v + 1) is top w - (v - top w - 1) (Widths).
+use Prim.Native.Nat.{_<_, _^_}
 use mathlib.Core.Path.{_∙_}
 use borrow.Author.Needs.{needs}
 use native.Mathlib.Omega.{arith}
 use Rattle.heights.proofs.Signs.{passed}
+use Rattle.record.specs.Numbers.{top}
 use Rattle.record.proofs.Widths.{full, top-small, signed-low, signed-high}
 use Rattle.record.proofs.numbers.signed_of.Statement.{statement}
 use Rattle.record.proofs.numbers.signed_of.Tie as tie
@@ -10,10 +12,12 @@ use Rattle.record.proofs.numbers.signed_of.Tie as tie
 top-of-requires : tie.Need-top-of-requires
 top-of-requires c κs = search needs
 
+-- the heights that fit
+small : (start : tie.Start) → top (start .args .w) < 2 ^ 63
+small start = top-small (start .args .w) (start .pre .0) (start .pre .1)
+
 whole-of-requires : tie.Need-whole-of-requires
-whole-of-requires c κs =
-    let start = c .before .before in
-    omega (arith, top-small (start .args .w) (start .pre .0) (start .pre .1))
+whole-of-requires c κs = omega (arith, small (c .before .before))
 
 sub-whole-of : tie.Need-sub-whole-of
 sub-whole-of c = search needs
@@ -25,9 +29,7 @@ sub-whole-of-3 : tie.Need-sub-whole-of-3
 sub-whole-of-3 c = omega (arith, full (c .before .before .args .w) (c .before .before .pre .0))
 
 whole-of-requires-2 : tie.Need-whole-of-requires-2
-whole-of-requires-2 c κs =
-    let start = c .before .before in
-    omega (arith, top-small (start .args .w) (start .pre .0) (start .pre .1))
+whole-of-requires-2 c κs = omega (arith, small (c .before .before))
 
 returns : tie.Need-returns
 returns c =

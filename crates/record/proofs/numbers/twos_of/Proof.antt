@@ -1,9 +1,11 @@
 -- `twos_of`: below 0, 2^(8w) - (n + 1) is (top w - n) + top w + 1, which no sum on the way passes 2^64 (Signs, Widths).
+use Prim.Native.Nat.{_<_, _^_}
 use mathlib.Core.Path.{_∙_, ap, sym}
 use borrow.Author.Needs.{needs}
 use native.Mathlib.Omega.{arith}
 use lib.IntN.{natAbs}
 use Rattle.heights.proofs.Signs.{casts, turned, natAbs-below, plain}
+use Rattle.record.specs.Numbers.{top}
 use Rattle.record.proofs.Signs.{twos-below, twos-above}
 use Rattle.record.proofs.Widths.{full, top-small}
 use Rattle.record.proofs.numbers.twos_of.Statement.{statement}
@@ -23,15 +25,15 @@ sub-result c =
     let fit = c .before .before .fits .x in
     omega (arith, ap natAbs (turned x fit (c .if1 .taken)), natAbs-below x fit (c .if1 .taken))
 
+-- the heights that fit
+small : (start : tie.Start) → top (start .args .w) < 2 ^ 63
+small start = top-small (start .args .w) (start .pre .0) (start .pre .1)
+
 add-result : tie.Need-add-result
-add-result c =
-    let start = c .before .before in
-    omega (arith, top-small (start .args .w) (start .pre .0) (start .pre .1))
+add-result c = omega (arith, small (c .before .before))
 
 add-result-2 : tie.Need-add-result-2
-add-result-2 c =
-    let start = c .before .before in
-    omega (arith, top-small (start .args .w) (start .pre .0) (start .pre .1))
+add-result-2 c = omega (arith, small (c .before .before))
 
 cast-result-2 : tie.Need-cast-result-2
 cast-result-2 c =

@@ -1,4 +1,5 @@
--- A right header is the header of what stands in it, byte for byte.
+-- The header there and back: what stands in a header is what it was made of, and a right header is the header of what
+-- stands in it, byte for byte.
 use Prim.Native.Nat.{_+_, _≤_, ℕ}
 use borrow.Author.Tests.{eqb-true}
 use lib.Dec.{eqb}
@@ -10,10 +11,32 @@ use mathlib.Core.Path.{_≡_, refl, ap₂, ap, _∙_, sym}
 use native.Mathlib.Omega.{arith}
 use Rattle.record.specs.Header.{kindIn, headerOf, widthIn, indexIn, countIn, marked}
 use Rattle.record.specs.Numbers.{bytesOf, number}
-use Rattle.record.proofs.Digits.{bytes-take, number-less, Bytes, bytes-drop, bytes-number}
+use Rattle.record.proofs.Digits.{Bytes, bytes-take, bytes-drop, number-bytes, number-less, bytes-number}
 use Rattle.record.proofs.Headers.{Right}
 
--- the header's bytes are those of its fields
+-- what stands in a header, whatever comes after it
+module _ (kind w n count : ℕ) (rest : List ℕ) where
+  pub marked-back : marked (headerOf kind w n count ++ rest) ≡ true
+  unfolding marked headerOf
+  marked-back = refl
+
+  pub kind-back : kindIn (headerOf kind w n count ++ rest) ≡ kind
+  unfolding kindIn headerOf
+  kind-back = refl
+
+  pub width-back : widthIn (headerOf kind w n count ++ rest) ≡ w
+  unfolding widthIn headerOf
+  width-back = refl
+
+  pub index-back : n ≤ 65535 → indexIn (headerOf kind w n count ++ rest) ≡ n
+  unfolding indexIn headerOf bytesOf number
+  index-back h = number-bytes 2 n (omega arith)
+
+  pub count-back : count ≤ 65536 → countIn (headerOf kind w n count ++ rest) ≡ count
+  unfolding countIn headerOf bytesOf number
+  count-back h = number-bytes 4 count (omega arith)
+
+-- and the other way: the header's bytes are those of its fields
 four : (bs : List ℕ) → 10 ≤ length bs → take 4 bs ≡ getD bs 0 0 ∷ getD bs 1 0 ∷ getD bs 2 0 ∷ getD bs 3 0 ∷ []
 four bs h =
     let all : bs ≡ getD bs 0 0 ∷ getD bs 1 0 ∷ getD bs 2 0 ∷ getD bs 3 0 ∷ drop 4 bs =
