@@ -8,9 +8,9 @@ use lib.IntN.{ℤ}
 use Rattle.definitions.specs.Integers.{0ℤ}
 use Rattle.definitions.specs.Series.{Series}
 use Rattle.definitions.specs.Steps.{Sort, stepped, entries}
-use Rattle.passes.specs.Passes.{newEntry, setFour, placeOfFour, earlier, FoursApart, PassedTo}
+use Rattle.passes.specs.Passes.{newEntry, setFour, place, earlier, FoursApart, PassedTo}
 use Rattle.passes.proofs.Split.{getD-set-by}
-use Rattle.passes.proofs.Places.{four-from, four-below, earlier-four, only-four}
+use Rattle.passes.proofs.Places.{place-from, place-below, earlier-at, only-at}
 use Rattle.passes.proofs.PassedTo.{new-is, further}
 
 module _ (l : List ℤ) (k : ℕ) (v : Series) where
@@ -46,18 +46,18 @@ module _ (l : List ℤ) (k : ℕ) (v : Series) where
 
 -- the step's values at the four places that are taken after t others: the pass has got four places further
 module _ {s : Sort} {d : ℕ} {l m : List ℤ} {t : ℕ} (p : PassedTo s d l m t) (h : t + 4 + d ≤ length l) {k : ℕ}
-    (e : k ≡ placeOfFour s d (length m) t) where
-  here : k ≡ placeOfFour s d (length l) t
-  here = e ∙ ap (λ n. placeOfFour s d n t) (p .len)
+    (e : k ≡ place s 4 d (length m) t) where
+  here : k ≡ place s 4 d (length l) t
+  here = e ∙ ap (λ n. place s 4 d n t) (p .len)
 
   pub fours-from : d ≤ k
-  fours-from = omega (arith, here, four-from d (length l) t h s)
+  fours-from = omega (arith, here, place-from 4 d (length l) t h s)
 
   pub fours-below : k + 4 ≤ length m
-  fours-below = omega (arith, here, p .len, four-below d (length l) t h s)
+  fours-below = omega (arith, here, p .len, place-below 4 d (length l) t h s)
 
   after : (x : ℕ) → k ≤ x → x < k + 4 → (t ≤ earlier s d (length l) x) × (earlier s d (length l) x < t + 4)
-  after x low high = earlier-four d (length l) t h x s (omega (arith, here)) (omega (arith, here))
+  after x low high = earlier-at 4 d (length l) t h x s (omega (arith, here)) (omega (arith, here))
 
   module _ (one : 1 ≤ d) (apart : FoursApart s d) where
     pub fours-are : (x : ℕ) → k ≤ x → x < k + 4 → newEntry s d m x ≡ stepped s d (entries l) x
@@ -79,6 +79,6 @@ module _ {s : Sort} {d : ℕ} {l m : List ℤ} {t : ℕ} (p : PassedTo s d l m t
         p
         (omega arith)
         (λ x from below low high.
-        let r = only-four d (length l) t h x s from below low high in
+        let r = only-at 4 d (length l) t h x s from below low high in
         four-by m k v fours-below x (stepped s d (entries l) x) (fours-are x)
         (λ out. absurd (out (omega (arith, here, r .0)) (omega (arith, here, r .1)))))

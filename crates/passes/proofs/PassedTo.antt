@@ -17,8 +17,7 @@ use Rattle.step_laws.specs.Signed.{sub-add, add-sub}
 use Rattle.step_laws.specs.Summed.{accumulated-from, accumulated-below}
 use Rattle.step_laws.specs.Step.{combed-from, stepped-below}
 use Rattle.passes.specs.Passes.{newValue, newEntry, opposite, place, earlier, Near, PassedTo}
-use Rattle.passes.proofs.Places.{only-place, earlier-place, earlier-most, place-from, place-below}
-use Rattle.passes.proofs.Places.{near}
+use Rattle.passes.proofs.Places.{place-from, place-below, earlier-at, only-at, earlier-most, near}
 
 -- what a step adds or takes away: the new entry, or the old one
 neighbour : Sort → ℕ → Series → Series
@@ -94,24 +93,26 @@ module _ (s : Sort) (d : ℕ) (l m m′ : List ℤ) (t u : ℕ) (up : t ≤ u) (
       }
 
 -- the place k that is taken after t others, and one store there
-module _ (s : Sort) (d : ℕ) (l m : List ℤ) (t : ℕ) (len : length m ≡ length l) (h : t + d < length l) (k : ℕ)
-    (e : k ≡ place s d (length m) t) where
-  here : k ≡ place s d (length l) t
-  here = e ∙ ap (λ n. place s d n t) len
+module _ (s : Sort) (d : ℕ) (l m : List ℤ) (t : ℕ) (len : length m ≡ length l) (h : t + 1 + d ≤ length l) (k : ℕ)
+    (e : k ≡ place s 1 d (length m) t) where
+  here : k ≡ place s 1 d (length l) t
+  here = e ∙ ap (λ n. place s 1 d n t) len
 
   taken-from : d ≤ k
-  taken-from = omega (arith, here, place-from d (length l) t h s)
+  taken-from = omega (arith, here, place-from 1 d (length l) t h s)
 
   taken-below : k < length m
-  taken-below = omega (arith, here, len, place-below d (length l) t h s)
+  taken-below = omega (arith, here, len, place-below 1 d (length l) t h s)
 
   taken-after : earlier s d (length l) k ≡ t
-  taken-after = ap (earlier s d (length l)) here ∙ earlier-place d (length l) t h s
+  taken-after =
+      let r = earlier-at 1 d (length l) t h k s (omega (arith, here)) (omega (arith, here)) in
+      omega (arith, r .0, r .1)
 
   pub only : (x : ℕ) → d ≤ x → x < length l → t ≤ earlier s d (length l) x → earlier s d (length l) x < t + 1 → x ≡ k
   only x from below low high =
-      let q : earlier s d (length l) x ≡ t = omega arith in
-      only-place d (length l) x from below s ∙ ap (place s d (length l)) q ∙ sym here
+      let r = only-at 1 d (length l) t h x s from below low high in
+      omega (arith, here, r .0, r .1)
 
   module _ (v : ℤ) where
     others : (x : ℕ) → x < length l
@@ -127,9 +128,9 @@ module _ (s : Sort) (d : ℕ) (l m : List ℤ) (t : ℕ) (len : length m ≡ len
     stored f r x q = ap (λ y. getD (set m k v) y 0ℤ) q ∙ getD-set-same m k v 0ℤ taken-below ∙ r ∙ ap f (sym q)
 
 -- the next place
-module _ {s : Sort} {d : ℕ} {l m : List ℤ} {t : ℕ} (p : PassedTo s d l m t) (h : t + d < length l) {k : ℕ}
-    (e : k ≡ place s d (length m) t) where
-  pub next-place : k ≡ place s d (length l) t
+module _ {s : Sort} {d : ℕ} {l m : List ℤ} {t : ℕ} (p : PassedTo s d l m t) (h : t + 1 + d ≤ length l) {k : ℕ}
+    (e : k ≡ place s 1 d (length m) t) where
+  pub next-place : k ≡ place s 1 d (length l) t
   next-place = here s d l m t (p .len) h k e
 
   pub next-from : d ≤ k
@@ -159,8 +160,8 @@ module _ {s : Sort} {d : ℕ} {l m : List ℤ} {t : ℕ} (p : PassedTo s d l m t
 
 -- the last place that was taken
 module _ {s : Sort} {d : ℕ} {l m : List ℤ} (t : ℕ) (p : PassedTo s d l m (t + 1)) {k : ℕ}
-    (e : k ≡ place s d (length m) t) where
-  left : t + d < length l
+    (e : k ≡ place s 1 d (length m) t) where
+  left : t + 1 + d ≤ length l
   left = omega (arith, p .most)
 
   pub last-from : d ≤ k
@@ -203,4 +204,4 @@ module _ {s : Sort} {d : ℕ} {l m : List ℤ} where
       is-firsts (length l) (stepped s d (entries l)) m (p .len)
       (λ k b.
       by-order k d (λ low. p .old k b (λ h. absurd (clash low h)) ∙ sym (stepped-below d (entries l) s k low))
-      (λ h. p .new k h b (omega (arith, earlier-most d (length l) k h b s))))
+      (λ h. p .new k h b (omega (arith, earlier-most s d (length l) k h b))))

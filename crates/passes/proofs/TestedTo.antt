@@ -27,8 +27,8 @@ tested-start s d l h =
     }
 
 -- the next place: what holds of each place taken and of this one holds of one more
-module _ {s : Sort} {d : ℕ} {l m : List ℤ} {t : ℕ} (p : TestedTo s d l m t) (h : t + d < length l) {k : ℕ}
-    (e : k ≡ place s d (length m) t) where
+module _ {s : Sort} {d : ℕ} {l m : List ℤ} {t : ℕ} (p : TestedTo s d l m t) (h : t + 1 + d ≤ length l) {k : ℕ}
+    (e : k ≡ place s 1 d (length m) t) where
   and-next : (P : ℕ → Type 0) → Each s d l t P → P k → Each s d l (t + 1) P
   and-next P all this x from below taken =
       by-order (earlier s d (length l) x) t (all x from below)
@@ -48,7 +48,7 @@ module _ {s : Sort} {d : ℕ} {l m : List ℤ} {t : ℕ} (p : TestedTo s d l m t
 
 -- the last one
 module _ {s : Sort} {d : ℕ} {l m : List ℤ} (t : ℕ) (p : TestedTo s d l m (t + 1)) {k : ℕ}
-    (e : k ≡ place s d (length m) t) (one : 1 ≤ d) where
+    (e : k ≡ place s 1 d (length m) t) (one : 1 ≤ d) where
   pub tested-last : TestedTo s d l (set m k (newEntry (opposite s) d m k)) t
   tested-last =
       record {
@@ -69,19 +69,20 @@ module _ {s : Sort} {d : ℕ} {l : List ℤ} where
   whole p e =
       record {
         over = not-over-all s d l largest
-            (λ k from below. p .inside k from below (omega (arith, earlier-most d (length l) k from below s)));
+            (λ k from below. p .inside k from below (omega (arith, earlier-most s d (length l) k from below)));
         leaves = ended (p .passed) e;
       }
 
-  pub undone : (t : ℕ) → t + d < length l → inRange largest (stepped s d (entries l) (place s d (length l) t)) ≡ false
+  pub undone : (t : ℕ) → t + 1 + d ≤ length l → inRange largest (stepped s d (entries l) (place s 1 d (length l) t))
+      ≡ false
       → SteppedOrUndone s d l l false
   undone t h out =
       record {
         over = over-is s d l largest
             (record {
-              at = place s d (length l) t;
-              from = place-from d (length l) t h s;
-              below = place-below d (length l) t h s;
+              at = place s 1 d (length l) t;
+              from = place-from 1 d (length l) t h s;
+              below = omega (arith, place-below 1 d (length l) t h s);
               outside = out;
             });
         leaves = refl;

@@ -25,15 +25,11 @@ abbrev pub opposite : Sort → Sort
 opposite comb = accumulate
 opposite accumulate = comb
 
--- the place that is taken after t others, in a list of n entries; the lowest of the four that are; and how many are
--- taken before the place k
-abbrev pub place : Sort → ℕ → ℕ → ℕ → ℕ
-place comb d n t = n - 1 - t
-place accumulate d n t = d + t
-
-abbrev pub placeOfFour : Sort → ℕ → ℕ → ℕ → ℕ
-placeOfFour comb d n t = n - 4 - t
-placeOfFour accumulate d n t = d + t
+-- the place that is taken after t others, in a list of n entries, or with c = 4 the lowest of the four that are; and
+-- how many are taken before the place k
+abbrev pub place : Sort → ℕ → ℕ → ℕ → ℕ → ℕ
+place comb c d n t = n - c - t
+place accumulate c d n t = d + t
 
 abbrev pub earlier : Sort → ℕ → ℕ → ℕ → ℕ
 earlier comb d n k = n - 1 - k

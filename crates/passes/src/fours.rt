@@ -11,7 +11,7 @@ ghost use Rattle.passes.specs.Passes.{newEntry, Fit, setFour, FoursApart
 use crate::Sort;
 use crate::entry::new_entry;
 use crate::entry::put;
-use crate::order::place_of_four;
+use crate::order::place;
 
 // The step at the four places from k on, at once.
 fn step_four_entries(sort: Sort, a: &mut [i64], k: usize, d: usize)
@@ -54,7 +54,7 @@ pub(crate) fn take_fours(sort: Sort, a: &mut [i64], d: usize) -> usize
         return t;
     }
     while 4 <= turns - t {
-        let k = place_of_four(sort, t, d, a.len());
+        let k = place(sort, 4, t, d, a.len());
         step_four_entries(sort, a, k, d);
         t += 4;
     }

@@ -22,13 +22,13 @@ fn take_tested(sort: Sort, a: &mut [i64], d: usize) -> usize
     ensures { λ r. ⌜ TestedTo (sortMeans sort) d (now (a .entry)) (now (a .exit)) r ⌝ }
     ensures { λ r.
         ⌜ (r + d < length (now (a .entry)) → inRange largest
-        (stepped (sortMeans sort) d (entries (now (a .entry))) (place (sortMeans sort) d (length (now (a .entry))) r))
+        (stepped (sortMeans sort) d (entries (now (a .entry))) (place (sortMeans sort) 1 d (length (now (a .entry))) r))
         ≡ false) ⌝ }
 {
     let turns = a.len() - d;
     let mut t = 0;
     while t < turns {
-        let k = place(sort, t, d, a.len());
+        let k = place(sort, 1, t, d, a.len());
         if !new_entry_fits(sort, a, k, d) {
             return t;
         }
@@ -46,7 +46,7 @@ fn undo(sort: Sort, a: &mut [i64], d: usize, turns: usize)
     let mut t = turns;
     while 0 < t {
         t -= 1;
-        let k = place(sort, t, d, a.len());
+        let k = place(sort, 1, t, d, a.len());
         step_entry(opposite(sort), a, k, d);
     }
 }

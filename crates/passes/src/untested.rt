@@ -28,7 +28,7 @@ fn take_rest(sort: Sort, a: &mut [i64], d: usize, from: usize)
     let turns = a.len() - d;
     let mut t = from;
     while t < turns {
-        let k = place(sort, t, d, a.len());
+        let k = place(sort, 1, t, d, a.len());
         step_entry(sort, a, k, d);
         t += 1;
     }

@@ -45,8 +45,8 @@ apart : (c : tie.Else1 Inv-loop μ-loop)
     → FoursApart (sortMeans (c .before .before .args .sort)) (c .before .before .args .d)
 apart c = c .before .fours-apart .ensures (not-false _ (c .if1 .left))
 
-place-of-four-requires : tie.Need-place-of-four-requires Inv-loop μ-loop
-place-of-four-requires c κs = omega (arith, left c, c .before .loop .inv .len)
+place-requires : tie.Need-place-requires Inv-loop μ-loop
+place-requires c κs = omega (arith, left c, c .before .loop .inv .len)
 
 step-four-entries-requires : tie.Need-step-four-entries-requires Inv-loop μ-loop
 step-four-entries-requires c κs =
@@ -54,7 +54,7 @@ step-four-entries-requires c κs =
     let g = q .before .before in
     let p = g .loop .inv in
     let h = left (q .before) in
-    let e = q .place-of-four .ensures in
+    let e = q .place .ensures in
     let r = g .before .before .before .pre in (
       fours-from p h e,
       fours-below p h e,
@@ -74,7 +74,7 @@ loop-again c =
     let q = c .before .before .before in
     let g = q .before .before in
     rw (c .before .step-four-entries .ensures)
-    (fours-next (g .loop .inv) (left (q .before)) (q .place-of-four .ensures) (g .before .before .before .pre .0)
+    (fours-next (g .loop .inv) (left (q .before)) (q .place .ensures) (g .before .before .before .pre .0)
     (apart (g .before)))
 
 same-length : tie.Need-same-length Inv-loop μ-loop
@@ -94,7 +94,7 @@ take-fours-spec =
     returns
     loop-holds
     sub-loop
-    place-of-four-requires
+    place-requires
     step-four-entries-requires
     add-t
     loop-less

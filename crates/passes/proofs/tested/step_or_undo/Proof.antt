@@ -35,7 +35,7 @@ returns-2 c =
     let p = t .ensures .0 in
     let short : t .result + q .args .d < length (q .args .a .now) =
     omega (arith, p .passed .most, p .passed .len, r .if1 .left) in
-    rw (c .before .undo .ensures (q .args .a .now) p) (undone (t .result) short (t .ensures .1 short))
+    rw (c .before .undo .ensures (q .args .a .now) p) (undone (t .result) (omega arith) (t .ensures .1 short))
 
 pub step-or-undo-spec : {M : Type 1} → statement M
 step-or-undo-spec =

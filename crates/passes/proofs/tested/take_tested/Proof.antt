@@ -1,7 +1,7 @@
 -- `passes::tested::take_tested` meets its contract, which is the loop's invariant: t places are taken and tested.
 use mathlib.Core.Path.{_≡_, sym, _∙_, ap}
 use mathlib.Core.Bool.{true}
-use Prim.Native.Nat.{_+_, _-_, _<_}
+use Prim.Native.Nat.{_+_, _-_, _<_, _≤_}
 use native.Mathlib.Omega.{arith}
 use borrow.Author.Tests.{not-true, not-false}
 use lib.ListN.{length}
@@ -27,8 +27,8 @@ loop-holds : tie.Need-loop-holds Inv-loop μ-loop
 loop-holds c = tested-start _ (c .args .d) (c .args .a .now) (c .pre .1)
 
 -- a place is left
-left : (c : tie.In-loop Inv-loop μ-loop) → c .before .loop .t + c .before .before .args .d
-    < length (c .before .before .args .a .now)
+left : (c : tie.In-loop Inv-loop μ-loop) → c .before .loop .t + 1 + c .before .before .args .d
+    ≤ length (c .before .before .args .a .now)
 left c = omega arith
 
 place-requires : tie.Need-place-requires Inv-loop μ-loop

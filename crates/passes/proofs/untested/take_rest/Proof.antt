@@ -1,7 +1,7 @@
 -- `passes::untested::take_rest` meets its contract. The invariant: of whatever list `from` places were taken, t are.
 use mathlib.Core.Path.{sym, _∙_}
 use mathlib.Core.List.{List}
-use Prim.Native.Nat.{_+_, _-_, _<_}
+use Prim.Native.Nat.{_+_, _-_, _≤_}
 use native.Mathlib.Omega.{arith}
 use lib.ListN.{length}
 use lib.IntN.{ℤ}
@@ -28,7 +28,7 @@ loop-holds c = λ l p. p
 left : (c : tie.In-loop Inv-loop μ-loop) (l : List ℤ)
     → PassedTo (sortMeans (c .before .before .args .sort)) (c .before .before .args .d) l
     (c .before .before .args .a .now) (c .before .before .args .from)
-    → c .before .loop .t + c .before .before .args .d < length l
+    → c .before .loop .t + 1 + c .before .before .args .d ≤ length l
 left c l p = omega (arith, p .len)
 
 -- of the list that the contract knows
