@@ -14,7 +14,7 @@ use Rattle.definitions.specs.Steps.{Sort, comb, accumulate, accumulated, steppe
 use Rattle.step_laws.specs.Tests.{by-order}
 use Rattle.step_laws.specs.Firsts.{is-firsts, firsts-entries}
 use Rattle.step_laws.specs.Signed.{sub-add, add-sub}
-use Rattle.step_laws.specs.Summed.{accumulated-from, accumulated-below}
+use Rattle.step_laws.specs.Accumulated.{accumulated-from, accumulated-below}
 use Rattle.step_laws.specs.Step.{combed-from, stepped-below}
 use Rattle.passes.specs.Passes.{newValue, newEntry, opposite, place, earlier, Near, PassedTo}
 use Rattle.passes.proofs.Places.{place-from, place-below, earlier-at, only-at, earlier-most, near}

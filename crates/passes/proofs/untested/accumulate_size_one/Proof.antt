@@ -11,7 +11,7 @@ use mir.Val.{SFits, toZ}
 use Rattle.definitions.specs.Integers.{_⊕_}
 use Rattle.definitions.specs.Steps.{accumulated, entries}
 use Rattle.step_laws.specs.Machine.{seen, handed}
-use Rattle.step_laws.specs.Summed.{accumulated-from, accumulated-below}
+use Rattle.step_laws.specs.Accumulated.{accumulated-from, accumulated-below}
 use Rattle.passes.specs.Passes.{Split}
 use Rattle.passes.proofs.Split.{moved-up, all-below}
 use Rattle.passes.proofs.untested.accumulate_size_one.Statement.{statement}
