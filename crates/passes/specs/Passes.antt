@@ -50,13 +50,14 @@ pub record PassedTo (s : Sort) (d : ℕ) (l m : List ℤ) (t : ℕ) : Type 0 whe
 abbrev pub Each : Sort → ℕ → List ℤ → ℕ → (ℕ → Type 0) → Type 0
 Each s d l t P = (k : ℕ) → d ≤ k → k < length l → earlier s d (length l) k < t → P k
 
--- the same of a tested pass: each new value is in range, and each old one, which was read, fits, so that it can be put
--- back
+-- a tested pass that has got so far: each new value is in range, and each old one, which was read, fits, so that it can
+-- be put back
 pub record TestedTo (s : Sort) (d : ℕ) (l m : List ℤ) (t : ℕ) : Type 0 where
   pub passed : PassedTo s d l m t
   pub inside : Each s d l t (λ k. inRange largest (stepped s d (entries l) k) ≡ true)
   pub fit : Each s d l t (λ k. SFits w64 (entries l k))
 
+-- m is what such a pass left of some list
 pub record Undoable (s : Sort) (d : ℕ) (m : List ℤ) (t : ℕ) : Type 0 where
   pub before : List ℤ
   pub tested : TestedTo s d before m t
@@ -65,7 +66,7 @@ pub record Undoable (s : Sort) (d : ℕ) (m : List ℤ) (t : ℕ) : Type 0 where
 abbrev pub Fit : ℕ → ℕ → Series → Type 0
 Fit i n f = (k : ℕ) → i ≤ k → k < n → SFits w64 (f k)
 
--- a pass of which every value fits
+-- m is what a pass left of some list whose new values all fit
 pub record Fitting (s : Sort) (d : ℕ) (m : List ℤ) (t : ℕ) : Type 0 where
   pub before : List ℤ
   pub passed : PassedTo s d before m t

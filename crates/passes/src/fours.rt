@@ -48,12 +48,12 @@ pub(crate) fn take_fours(sort: Sort, a: &mut [i64], d: usize) -> usize
         × Fit d (length (now a)) (stepped (sortMeans sort) d (entries (now a))) ⌝ }
     ensures { λ r. ⌜ PassedTo (sortMeans sort) d (now (a .entry)) (now (a .exit)) r ⌝ }
 {
-    let turns = a.len() - d;
+    let places = a.len() - d;
     let mut t = 0;
     if !fours_apart(sort, d) {
         return t;
     }
-    while 4 <= turns - t {
+    while 4 <= places - t {
         let k = place(sort, 4, t, d, a.len());
         step_four_entries(sort, a, k, d);
         t += 4;

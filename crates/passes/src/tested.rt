@@ -25,9 +25,9 @@ fn take_tested(sort: Sort, a: &mut [i64], d: usize) -> usize
         (stepped (sortMeans sort) d (entries (now (a .entry))) (place (sortMeans sort) 1 d (length (now (a .entry))) r))
         ≡ false) ⌝ }
 {
-    let turns = a.len() - d;
+    let places = a.len() - d;
     let mut t = 0;
-    while t < turns {
+    while t < places {
         let k = place(sort, 1, t, d, a.len());
         if !new_entry_fits(sort, a, k, d) {
             return t;
@@ -38,12 +38,12 @@ fn take_tested(sort: Sort, a: &mut [i64], d: usize) -> usize
     t
 }
 
-// Takes back the last place first, and puts the old entries back.
-fn undo(sort: Sort, a: &mut [i64], d: usize, turns: usize)
-    requires { ⌜ (1 ≤ d) × Undoable (sortMeans sort) d (now a) turns ⌝ }
-    ensures { λ _. ⌜ ((l : List ℤ) → TestedTo (sortMeans sort) d l (now (a .entry)) turns → now (a .exit) ≡ l) ⌝ }
+// Takes back the places that were taken, the last one first: each old entry is put back.
+fn undo(sort: Sort, a: &mut [i64], d: usize, taken: usize)
+    requires { ⌜ (1 ≤ d) × Undoable (sortMeans sort) d (now a) taken ⌝ }
+    ensures { λ _. ⌜ ((l : List ℤ) → TestedTo (sortMeans sort) d l (now (a .entry)) taken → now (a .exit) ≡ l) ⌝ }
 {
-    let mut t = turns;
+    let mut t = taken;
     while 0 < t {
         t -= 1;
         let k = place(sort, 1, t, d, a.len());

@@ -25,9 +25,9 @@ fn take_rest(sort: Sort, a: &mut [i64], d: usize, from: usize)
         ⌜ ((l : List ℤ) → PassedTo (sortMeans sort) d l (now (a .entry)) from
         → now (a .exit) ≡ stepList (sortMeans sort) d l) ⌝ }
 {
-    let turns = a.len() - d;
+    let places = a.len() - d;
     let mut t = from;
-    while t < turns {
+    while t < places {
         let k = place(sort, 1, t, d, a.len());
         step_entry(sort, a, k, d);
         t += 1;

@@ -12,13 +12,13 @@ use Rattle.passes.proofs.fours.take_fours.Statement.{statement}
 use Rattle.passes.proofs.fours.take_fours.Tie as tie
 
 abbrev Inv-loop : tie.InvT-loop
-Inv-loop sort a₀ d turns t₀ a t = PassedTo (sortMeans sort) d a₀ a t
+Inv-loop sort a₀ d places t₀ a t = PassedTo (sortMeans sort) d a₀ a t
 
 abbrev μ-loop : tie.MeasureT-loop
-μ-loop sort a₀ d turns t₀ a t = length a₀ - t
+μ-loop sort a₀ d places t₀ a t = length a₀ - t
 
-sub-turns : tie.Need-sub-turns Inv-loop μ-loop
-sub-turns c = c .pre .1
+sub-places : tie.Need-sub-places Inv-loop μ-loop
+sub-places c = c .pre .1
 
 fours-apart-requires : tie.Need-fours-apart-requires Inv-loop μ-loop
 fours-apart-requires c κs = tt
@@ -89,7 +89,7 @@ take-fours-spec =
     (tie.spec
     Inv-loop
     μ-loop
-    sub-turns
+    sub-places
     fours-apart-requires
     returns
     loop-holds

@@ -15,13 +15,13 @@ use Rattle.passes.proofs.tested.take_tested.Statement.{statement}
 use Rattle.passes.proofs.tested.take_tested.Tie as tie
 
 abbrev Inv-loop : tie.InvT-loop
-Inv-loop sort a₀ d turns t₀ a t = TestedTo (sortMeans sort) d a₀ a t
+Inv-loop sort a₀ d places t₀ a t = TestedTo (sortMeans sort) d a₀ a t
 
 abbrev μ-loop : tie.MeasureT-loop
-μ-loop sort a₀ d turns t₀ a t = length a₀ - t
+μ-loop sort a₀ d places t₀ a t = length a₀ - t
 
-sub-turns : tie.Need-sub-turns Inv-loop μ-loop
-sub-turns c = c .pre .1
+sub-places : tie.Need-sub-places Inv-loop μ-loop
+sub-places c = c .pre .1
 
 loop-holds : tie.Need-loop-holds Inv-loop μ-loop
 loop-holds c = tested-start _ (c .args .d) (c .args .a .now) (c .pre .1)
@@ -105,7 +105,7 @@ take-tested-spec =
     (tie.spec
     Inv-loop
     μ-loop
-    sub-turns
+    sub-places
     loop-holds
     place-requires
     new-entry-fits-requires

@@ -1,4 +1,4 @@
--- `passes::tested::undo` meets its contract. The invariant: of whatever list t₀ places were taken, t are taken still.
+-- `passes::tested::undo` meets its contract. The invariant: of whatever list so many places were taken, t still are.
 use mathlib.Core.Path.{_≡_, sym, _∙_, subst}
 use mathlib.Core.List.{List}
 use Prim.Native.Nat.{_+_, _-_}
@@ -12,11 +12,11 @@ use Rattle.passes.proofs.tested.undo.Statement.{statement}
 use Rattle.passes.proofs.tested.undo.Tie as tie
 
 abbrev Inv-loop : tie.InvT-loop
-Inv-loop sort a₀ d turns t₀ a t =
-    (l : List ℤ) → TestedTo (sortMeans sort) d l a₀ turns → TestedTo (sortMeans sort) d l a t
+Inv-loop sort a₀ d taken t₀ a t =
+    (l : List ℤ) → TestedTo (sortMeans sort) d l a₀ taken → TestedTo (sortMeans sort) d l a t
 
 abbrev μ-loop : tie.MeasureT-loop
-μ-loop sort a₀ d turns t₀ a t = t
+μ-loop sort a₀ d taken t₀ a t = t
 
 loop-holds : tie.Need-loop-holds Inv-loop μ-loop
 loop-holds c = λ l p. p
@@ -27,7 +27,7 @@ sub-t c = omega arith
 -- before a place is taken back
 at-last : (c : tie.In-loop Inv-loop μ-loop) → (l : List ℤ)
     → TestedTo (sortMeans (c .before .before .args .sort)) (c .before .before .args .d) l
-    (c .before .before .args .a .now) (c .before .before .args .turns)
+    (c .before .before .args .a .now) (c .before .before .args .taken)
     → TestedTo (sortMeans (c .before .before .args .sort)) (c .before .before .args .d) l (c .before .loop .a)
     (c .before .loop .t - 1 + 1)
 at-last c l p =

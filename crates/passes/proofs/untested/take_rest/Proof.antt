@@ -12,14 +12,14 @@ use Rattle.passes.proofs.untested.take_rest.Statement.{statement}
 use Rattle.passes.proofs.untested.take_rest.Tie as tie
 
 abbrev Inv-loop : tie.InvT-loop
-Inv-loop sort a₀ d from turns t₀ a t =
+Inv-loop sort a₀ d from places t₀ a t =
     (l : List ℤ) → PassedTo (sortMeans sort) d l a₀ from → PassedTo (sortMeans sort) d l a t
 
 abbrev μ-loop : tie.MeasureT-loop
-μ-loop sort a₀ d from turns t₀ a t = length a₀ - t
+μ-loop sort a₀ d from places t₀ a t = length a₀ - t
 
-sub-turns : tie.Need-sub-turns Inv-loop μ-loop
-sub-turns c = omega (arith, c .pre .1 .passed .most, c .pre .1 .passed .len)
+sub-places : tie.Need-sub-places Inv-loop μ-loop
+sub-places c = omega (arith, c .pre .1 .passed .most, c .pre .1 .passed .len)
 
 loop-holds : tie.Need-loop-holds Inv-loop μ-loop
 loop-holds c = λ l p. p
@@ -80,7 +80,7 @@ take-rest-spec =
     (tie.spec
     Inv-loop
     μ-loop
-    sub-turns
+    sub-places
     loop-holds
     place-requires
     step-entry-requires
