@@ -29,7 +29,7 @@ use Rattle.numbers.specs.Phi.{phi-pos, phi-lt}
 use Rattle.step_laws.specs.Firsts.{length-firsts, getD-firsts, firsts-same}
 use Rattle.step_laws.specs.Signed.{add-sub}
 use Rattle.step_laws.specs.Step.{combed-from, stepped-below}
-use Rattle.step_laws.specs.Summed.{accumulated-from, accumulated-below}
+use Rattle.step_laws.specs.Accumulated.{accumulated-from, accumulated-below}
 use Rattle.cyclotomic.specs.Family.{last-divisor, only-inverse}
 use Rattle.cyclotomic.specs.OnePrime.{divisors-both}
 use Rattle.cyclotomic.specs.Terms.{other, comb-below, comb-from, inverse-terms, unit-term, terms, all-terms}

@@ -1,4 +1,4 @@
--- Four entries at once: what stands in the list after four stores, and how far they move a split.
+-- Four entries at once: what stands in the list after four stores, and that a pass has then got four places further.
 use mathlib.Core.Path.{_≡_, refl, sym, _∙_, ap}
 use mathlib.Core.List.{List}
 use Prim.Native.Nat.{ℕ, _+_, _<_, _≤_}
@@ -7,9 +7,11 @@ use lib.ListN.{length, getD, set, length-set}
 use lib.IntN.{ℤ}
 use Rattle.definitions.specs.Integers.{0ℤ}
 use Rattle.definitions.specs.Series.{Series}
-use Rattle.step_laws.specs.Tests.{by-order}
-use Rattle.passes.specs.Passes.{Split, setFour}
+use Rattle.definitions.specs.Steps.{Sort, stepped, entries}
+use Rattle.passes.specs.Passes.{newEntry, setFour, place, earlier, FoursApart, PassedTo}
 use Rattle.passes.proofs.Split.{getD-set-by}
+use Rattle.passes.proofs.Places.{place-from, place-below, earlier-at, only-at}
+use Rattle.passes.proofs.PassedTo.{new-is, further}
 
 module _ (l : List ℤ) (k : ℕ) (v : Series) where
   length-four : length (setFour l k v) ≡ length l
@@ -42,30 +44,41 @@ module _ (l : List ℤ) (k : ℕ) (v : Series) where
       → m₄ ≡ setFour l k v
   four-is p₁ p₂ p₃ p₄ e₀ e₁ e₂ e₃ = cc
 
-module _ {l : List ℤ} {n i : ℕ} {f g : Series} (s : Split l n i f g) (k : ℕ) (b : k + 4 ≤ n) (v : Series) where
-  -- four of f's values move it up, four of g's down
-  pub fours-up : k ≡ i → ((x : ℕ) → k ≤ x → x < k + 4 → v x ≡ f x) → Split (setFour l k v) n (k + 4) f g
-  fours-up here e =
-      record {
-        len = length-four l k v ∙ s .len;
-        below = λ x h m. four-by l k v (omega (arith, s .len)) x (f x) (e x)
-            (λ out. s .below x (by-order x k (λ low. omega arith) (λ low. absurd (out low h))) m);
-        above = λ x h m. four-by l k v (omega (arith, s .len)) x (g x) (λ low high. absurd (never h high))
-            (λ out. s .above x (omega arith) m);
-      }
-    where
-      never : {x : ℕ} → k + 4 ≤ x → x < k + 4 → ⊥
-      never h high = omega arith
+-- the step's values at the four places that are taken after t others: the pass has got four places further
+module _ {s : Sort} {d : ℕ} {l m : List ℤ} {t : ℕ} (p : PassedTo s d l m t) (h : t + 4 + d ≤ length l) {k : ℕ}
+    (e : k ≡ place s 4 d (length m) t) where
+  here : k ≡ place s 4 d (length l) t
+  here = e ∙ ap (λ n. place s 4 d n t) (p .len)
 
-  pub fours-down : i ≡ k + 4 → ((x : ℕ) → k ≤ x → x < k + 4 → v x ≡ g x) → Split (setFour l k v) n k f g
-  fours-down here e =
-      record {
-        len = length-four l k v ∙ s .len;
-        below = λ x h m. four-by l k v (omega (arith, s .len)) x (f x) (λ low high. absurd (never h low))
-            (λ out. s .below x (omega arith) m);
-        above = λ x h m. four-by l k v (omega (arith, s .len)) x (g x) (e x)
-            (λ out. s .above x (by-order x (k + 4) (λ high. absurd (out h high)) (λ high. omega arith)) m);
-      }
-    where
-      never : {x : ℕ} → x < k → k ≤ x → ⊥
-      never h low = omega arith
+  pub fours-from : d ≤ k
+  fours-from = omega (arith, here, place-from 4 d (length l) t h s)
+
+  pub fours-below : k + 4 ≤ length m
+  fours-below = omega (arith, here, p .len, place-below 4 d (length l) t h s)
+
+  after : (x : ℕ) → k ≤ x → x < k + 4 → (t ≤ earlier s d (length l) x) × (earlier s d (length l) x < t + 4)
+  after x low high = earlier-at 4 d (length l) t h x s (omega (arith, here)) (omega (arith, here))
+
+  module _ (one : 1 ≤ d) (apart : FoursApart s d) where
+    pub fours-are : (x : ℕ) → k ≤ x → x < k + 4 → newEntry s d m x ≡ stepped s d (entries l) x
+    fours-are x low high =
+        let r = after x low high in
+        new-is s p one x (omega (arith, fours-from)) (omega (arith, fours-below, p .len))
+        (apart t (earlier s d (length l) x) (r .0) (r .1))
+        (r .0)
+
+    pub fours-next : PassedTo s d l (setFour m k (newEntry s d m)) (t + 4)
+    fours-next =
+        let v = newEntry s d m in
+        further s d l m (setFour m k v) t (t + 4) (omega arith) (length-four m k v)
+        (λ x below out.
+        four-by m k v fours-below x (getD m x 0ℤ)
+        (λ low high.
+        absurd (out (omega (arith, fours-from)) (after x low high .0) (after x low high .1)))
+        (λ _. refl))
+        p
+        (omega arith)
+        (λ x from below low high.
+        let r = only-at 4 d (length l) t h x s from below low high in
+        four-by m k v fours-below x (stepped s d (entries l) x) (fours-are x)
+        (λ out. absurd (out (omega (arith, here, r .0)) (omega (arith, here, r .1)))))

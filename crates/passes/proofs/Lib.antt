@@ -1,7 +1,7 @@
 -- Laws that the functions' proofs share.
 pub mod Split
-pub mod Below
-pub mod ByEntry
-pub mod Whole
+pub mod Places
+pub mod PassedTo
+pub mod TestedTo
 pub mod FourEntries
-pub mod Rest
+pub mod Fitting

@@ -1,18 +1,16 @@
--- How far a pass has got. `Split l n i f g`: the list l has n entries, those below i are f's and the others g's. An
--- upward pass has the new entries below, a downward pass the old ones.
+-- What a pass does to a list, place by place, and how far it has got. A comb takes its places from the top down, so
+-- that the entry d before is still the old one; an accumulate from the bottom up, so that it is already the new one.
 use Prim.Native.Nat.{ℕ, _+_, _-_, _<_, _≤_}
 use mathlib.Core.Bool.{Bool, true, cond, not}
 use mathlib.Core.Path.{_≡_}
 use mathlib.Core.List.{List}
 use lib.ListN.{length, getD, set}
 use lib.IntN.{ℤ}
-use lib.Dec.{ltb}
 use mir.Syntax.{w64}
 use mir.Val.{SFits}
 use Rattle.definitions.specs.Integers.{_⊕_, _⊝_, 0ℤ}
 use Rattle.definitions.specs.Series.{Series}
-use Rattle.definitions.specs.Steps.{Sort, comb, accumulate, combed, accumulated, inRange, largest, entries, stepOver}
-use Rattle.definitions.specs.Steps.{stepList}
+use Rattle.definitions.specs.Steps.{Sort, comb, accumulate, stepped, inRange, largest, entries, stepOver, stepList}
 
 -- what a step makes of an entry x and the one y that stands d before it, and of the entry at i of a list
 abbrev pub newValue : Sort → ℤ → ℤ → ℤ
@@ -22,6 +20,74 @@ newValue accumulate x y = x ⊕ y
 abbrev pub newEntry : Sort → ℕ → List ℤ → ℕ → ℤ
 newEntry s d l i = newValue s (getD l i 0ℤ) (getD l (i - d) 0ℤ)
 
+-- the sort that undoes a step
+abbrev pub opposite : Sort → Sort
+opposite comb = accumulate
+opposite accumulate = comb
+
+-- the place that is taken after t others, in a list of n entries, or with c = 4 the lowest of the four that are; and
+-- how many are taken before the place k
+abbrev pub place : Sort → ℕ → ℕ → ℕ → ℕ → ℕ
+place comb c d n t = n - c - t
+place accumulate c d n t = d + t
+
+abbrev pub earlier : Sort → ℕ → ℕ → ℕ → ℕ
+earlier comb d n k = n - 1 - k
+earlier accumulate d n k = k - d
+
+-- four values v put into their places, from k on
+abbrev pub setFour : List ℤ → ℕ → Series → List ℤ
+setFour l k v = set (set (set (set l k (v k)) (k + 1) (v (k + 1))) (k + 2) (v (k + 2))) (k + 3) (v (k + 3))
+
+-- t places were taken of l, which left m: these hold the step's values, and all others are as they were
+pub record PassedTo (s : Sort) (d : ℕ) (l m : List ℤ) (t : ℕ) : Type 0 where
+  pub most : t + d ≤ length l
+  pub len : length m ≡ length l
+  pub new : (k : ℕ) → d ≤ k → k < length l → earlier s d (length l) k < t → getD m k 0ℤ ≡ stepped s d (entries l) k
+  pub old : (k : ℕ) → k < length l → (d ≤ k → t ≤ earlier s d (length l) k) → getD m k 0ℤ ≡ entries l k
+
+-- a property of each place taken
+abbrev pub Each : Sort → ℕ → List ℤ → ℕ → (ℕ → Type 0) → Type 0
+Each s d l t P = (k : ℕ) → d ≤ k → k < length l → earlier s d (length l) k < t → P k
+
+-- a tested pass that has got so far: each new value is in range, and each old one, which was read, fits, so that it can
+-- be put back
+pub record TestedTo (s : Sort) (d : ℕ) (l m : List ℤ) (t : ℕ) : Type 0 where
+  pub passed : PassedTo s d l m t
+  pub inside : Each s d l t (λ k. inRange largest (stepped s d (entries l) k) ≡ true)
+  pub fit : Each s d l t (λ k. SFits w64 (entries l k))
+
+-- m is what such a pass left of some list
+pub record Undoable (s : Sort) (d : ℕ) (m : List ℤ) (t : ℕ) : Type 0 where
+  pub before : List ℤ
+  pub tested : TestedTo s d before m t
+
+-- all the values of f from i on and below n fit a machine number
+abbrev pub Fit : ℕ → ℕ → Series → Type 0
+Fit i n f = (k : ℕ) → i ≤ k → k < n → SFits w64 (f k)
+
+-- m is what a pass left of some list whose new values all fit
+pub record Fitting (s : Sort) (d : ℕ) (m : List ℤ) (t : ℕ) : Type 0 where
+  pub before : List ℤ
+  pub passed : PassedTo s d before m t
+  pub fit : Fit d (length before) (stepped s d (entries before))
+
+-- the entry d before a place that is taken after u others is as the step needs it, once t places are taken
+abbrev pub Near : Sort → ℕ → ℕ → ℕ → Type 0
+Near comb d t u = t ≤ u + d
+Near accumulate d t u = u < t + d
+
+-- none of four places taken at once needs what another makes
+abbrev pub FoursApart : Sort → ℕ → Type 0
+FoursApart s d = (t u : ℕ) → t ≤ u → u < t + 4 → Near s d t u
+
+-- a step on l left m: all of it where `done`, and nothing where a value would be out of range
+pub record SteppedOrUndone (s : Sort) (d : ℕ) (l m : List ℤ) (done : Bool) : Type 0 where
+  pub over : stepOver largest s d l ≡ not done
+  pub leaves : m ≡ cond done (stepList s d l) l
+
+-- A pass whose new entries need no others. `Split l n i f g`: the list l has n entries, those below i are f's and the
+-- others g's.
 pub record Split (l : List ℤ) (n i : ℕ) (f g : Series) : Type 0 where
   pub len : length l ≡ n
   pub below : (k : ℕ) → k < i → k < n → getD l k 0ℤ ≡ f k
@@ -30,40 +96,3 @@ pub record Split (l : List ℤ) (n i : ℕ) (f g : Series) : Type 0 where
 -- the entries of l are f's
 abbrev pub All : List ℤ → ℕ → Series → Type 0
 All l n f = Split l n 0 f f
-
--- all the values of f from i on and below n fit a machine number; or are in range
-abbrev pub Fit : ℕ → ℕ → Series → Type 0
-Fit i n f = (k : ℕ) → i ≤ k → k < n → SFits w64 (f k)
-
-abbrev pub Inside : ℕ → ℕ → Series → Type 0
-Inside i n f = (k : ℕ) → i ≤ k → k < n → inRange largest (f k) ≡ true
-
--- four values v put into their places, from k on
-abbrev pub setFour : List ℤ → ℕ → Series → List ℤ
-setFour l k v = set (set (set (set l k (v k)) (k + 1) (v (k + 1))) (k + 2) (v (k + 2))) (k + 3) (v (k + 3))
-
--- the entries from d on and below `end`, each with the old one d before it taken away: a comb that starts early
-unfoldable pub combedBelow : ℕ → ℕ → Series → Series
-combedBelow d end a k = cond (ltb k end) (combed d a k) (a k)
-
--- a comb of l that came down to r and left m; what is done is in range, and what was read fits, so that it can be put
--- back
-pub record CombedTo (d : ℕ) (l m : List ℤ) (r : ℕ) : Type 0 where
-  pub from : d ≤ r
-  pub to : r ≤ length l
-  pub split : Split m (length l) r (entries l) (combed d (entries l))
-  pub inside : Inside r (length l) (combed d (entries l))
-  pub fit : Fit r (length l) (entries l)
-
--- an accumulate of l that came up to r and left m
-pub record AccumulatedTo (d : ℕ) (l m : List ℤ) (r : ℕ) : Type 0 where
-  pub from : d ≤ r
-  pub to : r ≤ length l
-  pub split : Split m (length l) r (accumulated d (entries l)) (entries l)
-  pub inside : Inside d r (accumulated d (entries l))
-  pub fit : Fit d r (entries l)
-
--- a step on l left m: all of it where `done`, and nothing where a value would be out of range
-pub record SteppedOrUndone (s : Sort) (d : ℕ) (l m : List ℤ) (done : Bool) : Type 0 where
-  pub over : stepOver largest s d l ≡ not done
-  pub leaves : m ≡ cond done (stepList s d l) l

@@ -9,13 +9,20 @@ ghost use Rattle.definitions.specs.Steps.{entries, inRange, largest};
 ghost use Rattle.passes.specs.Sorts.{sortMeans};
 ghost use Rattle.passes.specs.Passes.{newValue, newEntry};
 use crate::Sort;
-use crate::range::difference_fits;
-use crate::range::sum_fits;
+use range::difference_fits;
+use range::small;
+use range::sum_fits;
 
-// What a step makes of an entry x and the one y that stands d before it: whether it is in range, and the value.
+// What a step makes of an entry x and the one y that stands d before it: whether it is in range, and the value. Of two
+// small numbers it is.
 fn new_value_fits(sort: Sort, x: i64, y: i64) -> bool
     ensures { λ r. ⌜ r ≡ inRange largest (newValue (sortMeans sort) x y) ⌝ }
 {
+    if small(x) {
+        if small(y) {
+            return true;
+        }
+    }
     match sort {
         Sort::Comb => difference_fits(x, y),
         Sort::Accumulate => sum_fits(x, y),

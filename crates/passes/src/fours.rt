@@ -2,14 +2,16 @@
 // vectors.
 
 ghost use mathlib.Core.Path.{_≡_};
+ghost use mathlib.Core.Bool.{true};
 ghost use Prim.Native.Nat.{_+_, _≤_};
 ghost use lib.ListN.{length};
-ghost use Rattle.definitions.specs.Steps.{combed, accumulated, entries};
+ghost use Rattle.definitions.specs.Steps.{stepped, entries};
 ghost use Rattle.passes.specs.Sorts.{sortMeans};
-ghost use Rattle.passes.specs.Passes.{newEntry, Fit, Split, setFour};
+ghost use Rattle.passes.specs.Passes.{newEntry, Fit, setFour, FoursApart, PassedTo};
 use crate::Sort;
 use crate::entry::new_entry;
 use crate::entry::put;
+use crate::order::place;
 
 // The step at the four places from k on, at once.
 fn step_four_entries(sort: Sort, a: &mut [i64], k: usize, d: usize)
@@ -29,38 +31,32 @@ fn step_four_entries(sort: Sort, a: &mut [i64], k: usize, d: usize)
     put(a, k3, v3);
 }
 
-// A comb by fours, from the top down to less than four entries above d; answers how far down it came.
-pub(crate) fn comb_by_fours(a: &mut [i64], d: usize) -> usize
-    requires { ⌜ (1 ≤ d) × (d ≤ length (now a)) × Fit d (length (now a)) (combed d (entries (now a))) ⌝ }
-    ensures { λ r. ⌜ (d ≤ r) × (r ≤ length (now (a .entry))) ⌝ }
-    ensures { λ r.
-        ⌜ Split (now (a .exit)) (length (now (a .entry))) r (entries (now (a .entry)))
-        (combed d (entries (now (a .entry)))) ⌝ }
+// Whether four places can be taken at once. In an accumulate whose size is below four, one of them needs what another
+// makes; and up to some thirty it needs what has only just been written, for which the processor waits.
+fn fours_apart(sort: Sort, d: usize) -> bool
+    ensures { λ r. ⌜ (r ≡ true → FoursApart (sortMeans sort) d) ⌝ }
 {
-    let mut i = a.len();
-    while 4 <= i - d {
-        i -= 4;
-        step_four_entries(Sort::Comb, a, i, d);
+    match sort {
+        Sort::Comb => true,
+        Sort::Accumulate => 32 <= d,
     }
-    i
 }
 
-// An accumulate by fours, from d up. Where d is below four, one of the four needs what another makes; and up to
-// some thirty it needs what has only just been written, for which the processor waits. There none are taken.
-pub(crate) fn accumulate_by_fours(a: &mut [i64], d: usize) -> usize
-    requires { ⌜ (1 ≤ d) × (d ≤ length (now a)) × Fit d (length (now a)) (accumulated d (entries (now a))) ⌝ }
-    ensures { λ r. ⌜ (d ≤ r) × (r ≤ length (now (a .entry))) ⌝ }
-    ensures { λ r.
-        ⌜ Split (now (a .exit)) (length (now (a .entry))) r (accumulated d (entries (now (a .entry))))
-        (entries (now (a .entry))) ⌝ }
+// Takes places by fours while there are four, or none; answers how many.
+pub(crate) fn take_fours(sort: Sort, a: &mut [i64], d: usize) -> usize
+    requires { ⌜ (1 ≤ d) × (d ≤ length (now a))
+        × Fit d (length (now a)) (stepped (sortMeans sort) d (entries (now a))) ⌝ }
+    ensures { λ r. ⌜ PassedTo (sortMeans sort) d (now (a .entry)) (now (a .exit)) r ⌝ }
 {
-    let mut i = d;
-    if d < 32 {
-        return i;
+    let places = a.len() - d;
+    let mut t = 0;
+    if !fours_apart(sort, d) {
+        return t;
     }
-    while 4 <= a.len() - i {
-        step_four_entries(Sort::Accumulate, a, i, d);
-        i += 4;
+    while 4 <= places - t {
+        let k = place(sort, 4, t, d, a.len());
+        step_four_entries(sort, a, k, d);
+        t += 4;
     }
-    i
+    t
 }

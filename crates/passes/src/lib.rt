@@ -1,10 +1,10 @@
 // Inner: nothing here but `Sort` is offered to callers; each `requires` is shown by the callers `steps` and
-// `polynomial`. The passes of a step over a slice: the tested ones, whole or not at all, and the untested ones.
+// `polynomial`. The passes of a step over a slice, of either sort: the tested one, whole or not at all, and the
+// untested one. The loops are written over the sort, which the compiler takes out of them.
 
 mod entry;
 mod fours;
-mod one_by_one;
-mod range;
+mod order;
 mod tested;
 mod untested;
 

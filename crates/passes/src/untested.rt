@@ -3,19 +3,36 @@
 
 ghost use mathlib.Core.Path.{_≡_};
 ghost use mathlib.Core.Bool.{false};
-ghost use Prim.Native.Nat.{_≤_};
+ghost use mathlib.Core.List.{List};
+ghost use Prim.Native.Nat.{_≤_, _<_};
 ghost use lib.ListN.{length};
+ghost use lib.IntN.{ℤ};
 ghost use Rattle.definitions.specs.Steps.{comb, accumulate, accumulated, entries, largest, stepOver, stepList};
 ghost use Rattle.passes.specs.Sorts.{sortMeans};
-ghost use Rattle.passes.specs.Passes.{All, Fit};
+ghost use Rattle.passes.specs.Passes.{All, Fit, PassedTo, Fitting};
 use crate::Sort;
 use crate::entry::new_value;
 use crate::entry::put;
 use crate::entry::read_entry;
-use crate::fours::accumulate_by_fours;
-use crate::fours::comb_by_fours;
-use crate::one_by_one::add_from;
-use crate::one_by_one::subtract_below;
+use crate::entry::step_entry;
+use crate::fours::take_fours;
+use crate::order::place;
+
+// Takes the places that are left after `from` others, one by one.
+fn take_rest(sort: Sort, a: &mut [i64], d: usize, from: usize)
+    requires { ⌜ (1 ≤ d) × Fitting (sortMeans sort) d (now a) from ⌝ }
+    ensures { λ _.
+        ⌜ ((l : List ℤ) → PassedTo (sortMeans sort) d l (now (a .entry)) from
+        → now (a .exit) ≡ stepList (sortMeans sort) d l) ⌝ }
+{
+    let places = a.len() - d;
+    let mut t = from;
+    while t < places {
+        let k = place(sort, 1, t, d, a.len());
+        step_entry(sort, a, k, d);
+        t += 1;
+    }
+}
 
 // An accumulate of size 1: the sum so far stays in a register, where a pass would read back what it has just written.
 fn accumulate_size_one(a: &mut [i64])
@@ -32,32 +49,25 @@ fn accumulate_size_one(a: &mut [i64])
     }
 }
 
-// A comb of which it is known that no value leaves the range.
+// The two sorts apart, so that each loop is compiled for its own.
 fn untested_comb(a: &mut [i64], d: usize)
-    requires { ⌜ (1 ≤ d) × (stepOver largest comb d (now a) ≡ false) ⌝ }
+    requires { ⌜ (1 ≤ d) × (d < length (now a)) × (stepOver largest comb d (now a) ≡ false) ⌝ }
     ensures { λ _. ⌜ now (a .exit) ≡ stepList comb d (now (a .entry)) ⌝ }
 {
-    if a.len() <= d {
-        return;
-    }
-    let r = comb_by_fours(a, d);
-    subtract_below(a, d, r);
+    let t = take_fours(Sort::Comb, a, d);
+    take_rest(Sort::Comb, a, d, t);
 }
 
-// An accumulate, likewise.
 fn untested_accumulate(a: &mut [i64], d: usize)
-    requires { ⌜ (1 ≤ d) × (stepOver largest accumulate d (now a) ≡ false) ⌝ }
+    requires { ⌜ (1 ≤ d) × (d < length (now a)) × (stepOver largest accumulate d (now a) ≡ false) ⌝ }
     ensures { λ _. ⌜ now (a .exit) ≡ stepList accumulate d (now (a .entry)) ⌝ }
 {
-    if a.len() <= d {
-        return;
-    }
     if d == 1 {
         accumulate_size_one(a);
         return;
     }
-    let r = accumulate_by_fours(a, d);
-    add_from(a, d, r);
+    let t = take_fours(Sort::Accumulate, a, d);
+    take_rest(Sort::Accumulate, a, d, t);
 }
 
 // The step of either sort, of which it is known that no value leaves the range.
@@ -65,6 +75,9 @@ pub fn untested_step(sort: Sort, a: &mut [i64], d: usize)
     requires { ⌜ (1 ≤ d) × (stepOver largest (sortMeans sort) d (now a) ≡ false) ⌝ }
     ensures { λ _. ⌜ now (a .exit) ≡ stepList (sortMeans sort) d (now (a .entry)) ⌝ }
 {
+    if a.len() <= d {
+        return;
+    }
     match sort {
         Sort::Comb => untested_comb(a, d),
         Sort::Accumulate => untested_accumulate(a, d),

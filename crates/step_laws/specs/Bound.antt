@@ -15,7 +15,7 @@ use Rattle.definitions.specs.Steps.{Sort, comb, accumulate, combed, accumulated
 use Rattle.definitions.specs.Steps.{stepList}
 use Rattle.step_laws.specs.Tests.{by-order}
 use Rattle.step_laws.specs.Signed.{abs-⊕, abs-⊝, in-range}
-use Rattle.step_laws.specs.Summed.{accumulated-from, accumulated-below}
+use Rattle.step_laws.specs.Accumulated.{accumulated-from, accumulated-below}
 use Rattle.step_laws.specs.Step.{combed-from, stepped-below, getD-stepList, length-stepList, not-over-all}
 
 -- no value of a is larger than b

@@ -2,7 +2,7 @@
 pub mod Tests
 pub mod Firsts
 pub mod Outside
-pub mod Summed
+pub mod Accumulated
 pub mod Step
 pub mod Told
 pub mod Signed

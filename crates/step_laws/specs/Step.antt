@@ -12,7 +12,7 @@ use lib.IntN.{ℤ}
 use Rattle.definitions.specs.Integers.{_⊕_, _⊝_, 0ℤ}
 use Rattle.definitions.specs.Series.{Series}
 use Rattle.definitions.specs.Steps.{Sort, comb, accumulate, combed, stepped, inRange, entries, stepOver, stepList}
-use Rattle.step_laws.specs.Summed.{accumulated-from, accumulated-below}
+use Rattle.step_laws.specs.Accumulated.{accumulated-from, accumulated-below}
 use Rattle.step_laws.specs.Firsts.{length-firsts, getD-firsts, firsts-same, firsts-entries}
 use Rattle.step_laws.specs.Outside.{OutsideAt, outside-found, outside-is, inside-each, inside-all}
 

@@ -1,11 +1,36 @@
--- `passes::entry::new_value_fits` meets its contract: each arm tests the value of its own sort.
-use mathlib.Core.Path.{_∙_, ap}
-use Rattle.definitions.specs.Integers.{_⊕_, _⊝_}
-use Rattle.definitions.specs.Steps.{inRange, largest}
-use Rattle.step_laws.specs.Machine.{seen-both}
+-- `passes::entry::new_value_fits` meets its contract: the value of two small numbers is in range, and else each arm
+-- tests that of its own sort.
+use mathlib.Core.Path.{sym, _∙_, ap}
+use native.Mathlib.Omega.{arith}
 use borrow.Author.Needs.{needs}
+use Prim.Native.Nat.{_+_, _≤_}
+use lib.IntN.{ℤ, natAbs}
+use Rattle.definitions.specs.Integers.{_⊕_, _⊝_}
+use Rattle.definitions.specs.Steps.{Sort, comb, accumulate, inRange, largest}
+use Rattle.step_laws.specs.Signed.{abs-⊕, abs-⊝, in-range}
+use Rattle.step_laws.specs.Machine.{seen-both, within}
+use Rattle.passes.specs.Sorts.{sortMeans}
+use Rattle.passes.specs.Passes.{newValue}
 use Rattle.passes.proofs.entry.new_value_fits.Statement.{statement}
 use Rattle.passes.proofs.entry.new_value_fits.Tie as tie
+
+small-requires : tie.Need-small-requires
+small-requires c κs = search needs
+
+small-requires-2 : tie.Need-small-requires-2
+small-requires-2 c κs = search needs
+
+most : (s : Sort) (x y : ℤ) → natAbs (newValue s x y) ≤ natAbs x + natAbs y
+most comb x y = abs-⊝ x y
+most accumulate x y = abs-⊕ x y
+
+returns : tie.Need-returns
+returns c =
+    let s = c .before .before .before .before in
+    let hx = within 4611686018427387903 (s .args .x) (s .fits .x) (c .before .before .before .small .ensures)
+    (c .before .before .if1 .taken) in
+    let hy = within 4611686018427387903 (s .args .y) (s .fits .y) (c .before .small2 .ensures) (c .if2 .taken) in
+    sym (in-range largest _ (omega (arith, most (sortMeans (s .args .sort)) (s .args .x) (s .args .y))))
 
 enum-told : tie.Need-enum-told
 enum-told c = search needs
@@ -19,18 +44,28 @@ enum-told-2 c = search needs
 sum-fits-requires : tie.Need-sum-fits-requires
 sum-fits-requires c κs = search needs
 
-returns : tie.Need-returns
-returns c = rw (c .before .enum-told .given .1)
-    (c .difference-fits .ensures
-    ∙ ap (inRange largest) (seen-both (c .before .before .before .fits .x) (c .before .before .before .fits .y) _⊝_))
-
 returns-2 : tie.Need-returns-2
 returns-2 c =
+    let q = c .before .before .before .before .before in
+    rw (c .before .enum-told .given .1)
+    (c .difference-fits .ensures ∙ ap (inRange largest) (seen-both (q .fits .x) (q .fits .y) _⊝_))
+
+returns-3 : tie.Need-returns-3
+returns-3 c =
+    let q = c .before .before .before .before .before in
     rw (c .before .enum-told2 .given .1)
-    (c .sum-fits .ensures
-    ∙ ap (inRange largest) (seen-both (c .before .before .before .fits .x) (c .before .before .before .fits .y) _⊕_))
+    (c .sum-fits .ensures ∙ ap (inRange largest) (seen-both (q .fits .x) (q .fits .y) _⊕_))
 
 pub new-value-fits-spec : {M : Type 1} → statement M
 new-value-fits-spec =
     tie.close
-    (tie.spec enum-told difference-fits-requires enum-told-2 sum-fits-requires returns returns-2)
+    (tie.spec
+    small-requires
+    small-requires-2
+    returns
+    enum-told
+    difference-fits-requires
+    enum-told-2
+    sum-fits-requires
+    returns-2
+    returns-3)

@@ -1,18 +1,19 @@
 -- `passes::untested::accumulate_size_one` meets its contract: the invariant is the split at i, and that s is the new
 -- entry before it.
 use mathlib.Core.Path.{_≡_, refl, sym, _∙_, ap, ap₂}
+use mathlib.Core.List.{List}
 use Prim.Native.Nat.{_+_, _-_, _≤_}
 use native.Mathlib.Omega.{arith}
 use lib.ListN.{length}
+use lib.IntN.{ℤ}
 use mir.Syntax.{w64}
 use mir.Val.{SFits, toZ}
 use Rattle.definitions.specs.Integers.{_⊕_}
 use Rattle.definitions.specs.Steps.{accumulated, entries}
 use Rattle.step_laws.specs.Machine.{seen, handed}
-use Rattle.step_laws.specs.Summed.{accumulated-from, accumulated-below}
+use Rattle.step_laws.specs.Accumulated.{accumulated-from, accumulated-below}
 use Rattle.passes.specs.Passes.{Split}
 use Rattle.passes.proofs.Split.{moved-up, all-below}
-use Rattle.passes.proofs.ByEntry.{split-up}
 use Rattle.passes.proofs.untested.accumulate_size_one.Statement.{statement}
 use Rattle.passes.proofs.untested.accumulate_size_one.Tie as tie
 
@@ -26,6 +27,16 @@ Inv-loop a₀ s₀ i₀ a s i =
 abbrev μ-loop : tie.MeasureT-loop
 μ-loop a₀ s₀ i₀ a s i = length a₀ - i
 
+-- before the first sum
+begun : (l : List ℤ) → Split l (length l) 1 (accumulated 1 (entries l)) (entries l)
+unfolding entries
+begun l =
+    record {
+      len = refl;
+      below = λ k b s. sym (accumulated-below 1 (entries l) k b);
+      above = λ k b s. refl;
+    }
+
 read-entry-requires : tie.Need-read-entry-requires Inv-loop μ-loop
 read-entry-requires c κs = omega arith
 
@@ -36,7 +47,7 @@ loop-holds c =
       c .before .before .pre .0,
       handed (c .read-entry .ensures .1) (c .read-entry .ensures .0)
           ∙ sym (accumulated-below 1 (entries l) 0 (omega arith)),
-      split-up 1 l 1 refl,
+      begun l,
     )
 
 read-entry-requires-2 : tie.Need-read-entry-requires-2 Inv-loop μ-loop

@@ -1,8 +1,8 @@
--- `passes::range::small` meets its contract: the lower test, and where it holds the upper one.
+-- `range::small` meets its contract: the lower test, and where it holds the upper one.
 use mir.Facts.{toZ-ofZ}
 use Rattle.step_laws.specs.Signed.{above-test, below-test}
-use Rattle.passes.proofs.range.small.Statement.{statement}
-use Rattle.passes.proofs.range.small.Tie as tie
+use Rattle.range.proofs.small.Statement.{statement}
+use Rattle.range.proofs.small.Tie as tie
 
 returns : tie.Need-returns
 returns c = rw (toZ-ofZ (c .before .fits .x))

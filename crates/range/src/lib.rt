@@ -1,4 +1,5 @@
-// Whether a sum or a difference lies in the range of a step, from -(2^63 - 1) to 2^63 - 1, without taking it.
+// Inner: only `passes` uses it, and nothing is asked. Whether a sum or a difference lies in the range of a step, from
+// -(2^63 - 1) to 2^63 - 1, without taking it.
 
 ghost use mathlib.Core.Path.{_≡_};
 ghost use Rattle.definitions.specs.Integers.{_⊕_, _⊝_};
@@ -9,21 +10,16 @@ const MOST: i64 = 9223372036854775807;
 const LEAST: i64 = -9223372036854775807;
 
 // Is x at most 2^62 - 1 in magnitude? The sum and the difference of two such numbers are in range.
-fn small(x: i64) -> bool
+pub fn small(x: i64) -> bool
     ensures { λ r. ⌜ r ≡ inRange 4611686018427387903 x ⌝ }
 {
     -4611686018427387903 <= x && x <= 4611686018427387903
 }
 
-// Is a + b in range? Of two small numbers it is, and else the sign of b says which end of the range can be passed.
-pub(crate) fn sum_fits(a: i64, b: i64) -> bool
+// Is a + b in range? The sign of b says which end of the range can be passed.
+pub fn sum_fits(a: i64, b: i64) -> bool
     ensures { λ r. ⌜ r ≡ inRange largest (a ⊕ b) ⌝ }
 {
-    if small(a) {
-        if small(b) {
-            return true;
-        }
-    }
     if 0 < b {
         return a <= MOST - b;
     }
@@ -31,14 +27,9 @@ pub(crate) fn sum_fits(a: i64, b: i64) -> bool
 }
 
 // The same of a - b.
-pub(crate) fn difference_fits(a: i64, b: i64) -> bool
+pub fn difference_fits(a: i64, b: i64) -> bool
     ensures { λ r. ⌜ r ≡ inRange largest (a ⊝ b) ⌝ }
 {
-    if small(a) {
-        if small(b) {
-            return true;
-        }
-    }
     if b < 0 {
         return a <= MOST + b;
     }
