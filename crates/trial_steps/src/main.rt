@@ -29,7 +29,7 @@ fn show(sort: Sort, size: u64, a: &mut [i64]) {
     io::write_all(1, b" ");
     io::print_decimal(1, told.count);
     io::write_all(1, b" :");
-    lines::entries(b" ", a, b"");
+    printing::entries(b" ", a, b"");
 }
 
 // Both sorts, each on the first n entries of a.

@@ -1,6 +1,6 @@
 // What the trial programs share: one request on a buffer that holds a pattern first, printed as a line of numbers. The
 // line has what was asked, what came back, how many entries were written, and a checksum over those.
-use lines::item;
+use printing::item;
 
 fn print_answer(a: answers::Answer) {
     item(a.code);
@@ -19,30 +19,30 @@ fn print_stop(a: answers::Stop) {
 
 // A polynomial request over the first `asked` entries.
 pub fn polynomial(kind: u64, n: u64, h: i64, asked: usize, buf: &mut [i64]) {
-    lines::fill(buf);
-    let room = lines::within(asked, buf);
+    printing::fill(buf);
+    let room = printing::within(asked, buf);
     item(kind);
     item(n);
-    lines::signed_item(h);
+    printing::signed_item(h);
     item(room as u64);
     print_answer(polynomial::polynomial(kind, n, h, &mut buf[..room]));
-    lines::close(buf);
+    printing::close(buf);
 }
 
 // A partial request over the first `asked` entries.
 pub fn partial(kind: u64, n: u64, j: u64, asked: usize, buf: &mut [i64]) {
-    lines::fill(buf);
-    let room = lines::within(asked, buf);
+    printing::fill(buf);
+    let room = printing::within(asked, buf);
     item(kind);
     item(n);
     item(j);
     item(room as u64);
     print_stop(kept::partial(kind, n, j, &mut buf[..room]));
-    lines::close(buf);
+    printing::close(buf);
 }
 
 // The entries that a polynomial request leaves in the buffer, on a line.
 pub fn coefficients(kind: u64, n: u64, h: i64, buf: &mut [i64]) {
     polynomial::polynomial(kind, n, h, buf);
-    lines::entries(b"", buf, b" ");
+    printing::entries(b"", buf, b" ");
 }

@@ -1,9 +1,9 @@
--- `lines::checksum` is safe and ends: the sum stays below its modulus, so the next one does not wrap.
+-- `printing::checksum` is safe and ends: the sum stays below its modulus, so the next one does not wrap.
 use borrow.Author.Needs.{needs}
 use Prim.Native.Nat.{_-_, _<_}
 use lib.ListN.{length}
-use Rattle.lines.proofs.checksum.Statement.{statement}
-use Rattle.lines.proofs.checksum.Tie as tie
+use Rattle.printing.proofs.checksum.Statement.{statement}
+use Rattle.printing.proofs.checksum.Tie as tie
 
 abbrev Inv-loop : tie.InvT-loop
 Inv-loop a sum₀ i₀ sum i = sum < 1000000007

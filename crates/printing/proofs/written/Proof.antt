@@ -1,9 +1,9 @@
--- `lines::written` is safe and ends: the place falls.
+-- `printing::written` is safe and ends: the place falls.
 use borrow.Author.Needs.{needs}
 use Prim.Native.Nat.{_≤_}
 use lib.ListN.{length}
-use Rattle.lines.proofs.written.Statement.{statement}
-use Rattle.lines.proofs.written.Tie as tie
+use Rattle.printing.proofs.written.Statement.{statement}
+use Rattle.printing.proofs.written.Tie as tie
 
 abbrev Inv-loop : tie.InvT-loop
 Inv-loop a i₀ i = i ≤ length a

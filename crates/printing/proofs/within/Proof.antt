@@ -1,8 +1,8 @@
--- `lines::within` meets its contract: so many first entries, where there are so many, are so many.
+-- `printing::within` meets its contract: so many first entries, where there are so many, are so many.
 use native.Mathlib.Omega.{arith}
 use lib.ListN.{length-take}
-use Rattle.lines.proofs.within.Statement.{statement}
-use Rattle.lines.proofs.within.Tie as tie
+use Rattle.printing.proofs.within.Statement.{statement}
+use Rattle.printing.proofs.within.Tie as tie
 
 returns : tie.Need-returns
 returns c = (omega arith, rw length-take (omega arith))

@@ -1,10 +1,10 @@
--- `lines::fill` is safe and ends: the place stays within the slice, whose length stays.
+-- `printing::fill` is safe and ends: the place stays within the slice, whose length stays.
 use borrow.Author.Needs.{needs}
 use Prim.Native.Nat.{_-_, _≤_}
 use mathlib.Core.Path.{_≡_}
 use lib.ListN.{length}
-use Rattle.lines.proofs.fill.Statement.{statement}
-use Rattle.lines.proofs.fill.Tie as tie
+use Rattle.printing.proofs.fill.Statement.{statement}
+use Rattle.printing.proofs.fill.Tie as tie
 
 abbrev Inv-loop : tie.InvT-loop
 Inv-loop a₀ i₀ a i = (i ≤ length a₀) × (length a ≡ length a₀)

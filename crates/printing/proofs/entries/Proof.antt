@@ -1,10 +1,10 @@
--- `lines::entries` is safe and ends: the place stays within the slice.
+-- `printing::entries` is safe and ends: the place stays within the slice.
 use Prim.Native.Nat.{_-_, _≤_}
 use native.Mathlib.Omega.{arith}
 use borrow.Author.Needs.{needs}
 use lib.ListN.{length}
-use Rattle.lines.proofs.entries.Statement.{statement}
-use Rattle.lines.proofs.entries.Tie as tie
+use Rattle.printing.proofs.entries.Statement.{statement}
+use Rattle.printing.proofs.entries.Tie as tie
 
 abbrev Inv-loop : tie.InvT-loop
 Inv-loop before a after i₀ t5 i = i ≤ length a
