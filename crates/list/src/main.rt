@@ -61,8 +61,8 @@ fn list_piece(line: Line, piece: &[u8], out: &mut [u8]) -> Going
     Going { line: s, on: true }
 }
 
-// Where a read gave nothing: it failed, or the input has ended, and a last line without a newline is listed as if it had
-// one.
+// Where a read gave nothing: it failed, or the input has ended, and a last line without a newline is listed as if it
+// had one.
 fn list_end(line: Line, failed: bool, out: &mut [u8]) -> Going
     requires { ⌜ MOST ≤ length (now out) ⌝ }
 {
