@@ -15,11 +15,10 @@ const READING: [u8; 26] = *b"list: reading failed after";
 
 const WRITING: [u8; 26] = *b"list: writing failed after";
 
-// The line that is open, whether there is more to read, and whether the input has ended; neither where something failed.
+// The line that is open, and whether there is more to read.
 struct Going {
     line: Line,
     on: bool,
-    ended: bool,
 }
 
 // Which of the two failed, and how many input lines were taken by then: each whose newline was read, and a last one
@@ -55,18 +54,27 @@ fn list_piece(line: Line, piece: &[u8], out: &mut [u8]) -> Going
         let p = listing::run(s, &piece[from..], out);
         s = p.line;
         if !write_made(p, out) {
-            return Going {
-                line: s,
-                on: false,
-                ended: false,
-            };
+            return Going { line: s, on: false };
         }
         from += p.taken;
     }
+    Going { line: s, on: true }
+}
+
+// Where a read gave nothing: it failed, or the input has ended, and a last line without a newline is listed as if it
+// had one.
+fn list_end(line: Line, failed: bool, out: &mut [u8]) -> Going
+    requires { ⌜ MOST ≤ length (now out) ⌝ }
+{
+    let n = line.length;
+    if failed {
+        say_failed(&READING, line);
+    } else if n != 0 {
+        list_piece(line, b"\n", out);
+    }
     Going {
-        line: s,
-        on: true,
-        ended: false,
+        line: line,
+        on: false,
     }
 }
 
@@ -75,50 +83,26 @@ fn list_next(line: Line, chunk: &mut [u8], out: &mut [u8]) -> Going
     requires { ⌜ MOST ≤ length (now out) ⌝ }
 {
     let got = streams::read_some(STDIN_FILENO, chunk);
-    if got.failed {
-        say_failed(&READING, line);
-        return Going {
-            line: line,
-            on: false,
-            ended: false,
-        };
-    }
     let n = got.count;
     if n == 0 {
-        return Going {
-            line: line,
-            on: false,
-            ended: true,
-        };
+        return list_end(line, got.failed, out);
     }
     list_piece(line, &chunk[..n], out)
 }
 
 // Reads and lists to the end of the input. A proved loop has to end, so it counts its turns down, from a number that no
 // run uses up.
-fn list_all(chunk: &mut [u8], out: &mut [u8]) -> Going
+fn list_all(chunk: &mut [u8], out: &mut [u8])
     requires { ⌜ MOST ≤ length (now out) ⌝ }
 {
     let mut g = Going {
         line: listing::start(),
         on: true,
-        ended: false,
     };
     let mut turns = u64::MAX;
     while g.on && turns > 0 {
         g = list_next(g.line, chunk, out);
         turns -= 1;
-    }
-    g
-}
-
-// A last line without a newline is listed as if it had one.
-fn list_last(line: Line, out: &mut [u8])
-    requires { ⌜ MOST ≤ length (now out) ⌝ }
-{
-    let n = line.length;
-    if n != 0 {
-        list_piece(line, b"\n", out);
     }
 }
 
@@ -138,11 +122,7 @@ fn main() {
         taken: 0,
         made: listing::heading(&mut out),
     };
-    if !write_made(heading, &out) {
-        return;
-    }
-    let g = list_all(&mut chunk, &mut out);
-    if g.ended {
-        list_last(g.line, &mut out);
+    if write_made(heading, &out) {
+        list_all(&mut chunk, &mut out);
     }
 }

@@ -10,11 +10,11 @@ use borrow.Author.Tests.{le-leb, lt-leb, lt-ltb, le-ltb}
 use lib.ListN.{length, take, length-append, length-set, length-replicate}
 use lib.Seq.{take-suc-set}
 use Rattle.step_laws.specs.Tests.{by-test, by-order}
-use Rattle.replies.specs.Request.{isGood}
+use Rattle.lines.specs.Request.{isGood}
 use Rattle.replies.specs.Reply.{wrongLine, reply}
 use Rattle.listing.specs.Stream.{KEPT, startLine, pushed, nextLine, closing}
 use Rattle.listing.specs.declared.Line.{Line}
-use Rattle.replies.proofs.Reading.{good-short, reads-wrong}
+use Rattle.lines.proofs.Reading.{good-short, reads-wrong}
 use Rattle.replies.proofs.Replying.{replied-wrong}
 
 -- s is what is kept of the line `current`, which has the number k

@@ -16,9 +16,9 @@ use Rattle.definitions.specs.Answer.{coefficients, heightOf, height, gain, addi
 use Rattle.definitions.specs.Requests.{knownKind, goodIndex, nextDivisor, divisorsDue, overAt, overAmong}
 use Rattle.answers.specs.Polynomial.{code, answered, answer}
 use Rattle.text.specs.Text.{decimalIn, decimal, sign, signed, spaced}
-use Rattle.replies.specs.Request.{kindOf, isGoodWith}
+use Rattle.lines.specs.Request.{kindOf, isGoodWith}
 use Rattle.text.specs.Digits.{between, digits, valueFrom, valueOf, digitsAt, numberAt}
-use Rattle.replies.specs.Request.{placeOfLimit, isGood, wrong, readLine}
+use Rattle.lines.specs.Request.{placeOfLimit, isGood, wrong, readLine}
 use Rattle.replies.specs.Reply.{letterOf, headOf, tailOf, goodLine, wrongLine, replyTo, reply}
 use Rattle.listing.specs.Listing.{lastLine}
 use Rattle.listing.specs.Listing.{linesFrom, replies, heading, listing}

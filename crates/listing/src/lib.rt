@@ -1,12 +1,12 @@
-// The listing (document 01, 'The listing'): bytes of lines in, bytes of answers out. `replies` answers one line, and
-// `stream` goes through an input that comes in pieces.
+// The listing (document 01, 'The listing'): bytes of lines in, bytes of answers out. `lines` and `replies` answer one
+// line, and `stream` goes through an input that comes in pieces.
 
 mod stream;
 
+pub use lines::Request;
+pub use lines::read_line;
 pub use replies::MOST;
-pub use replies::Request;
 pub use replies::answer_line;
-pub use replies::read_line;
 pub use stream::heading;
 pub use stream::run;
 pub use stream::start;

@@ -18,6 +18,7 @@ use crate::Progress;
 use replies::MOST;
 use replies::put_reply;
 use replies::put_wrong;
+use text::put_text;
 
 const HEADING: [u8; 12] = *b"polynomials\n";
 
@@ -30,12 +31,7 @@ pub fn heading(out: &mut [u8]) -> usize
     if out.len() < 12 {
         return 0;
     }
-    let mut i = 0;
-    while i < 12 {
-        out[i] = HEADING[i];
-        i += 1;
-    }
-    12
+    put_text(out, 0, &HEADING)
 }
 
 // Before the first byte of the input.

@@ -1,5 +1,4 @@
 -- What several proofs of `replies` share, and what `listing` cites.
-pub mod Reading
 pub mod Head
 pub mod Replying
 pub mod OneOutcome

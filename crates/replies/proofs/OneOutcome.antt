@@ -6,17 +6,9 @@ use borrow.Fn.Kinds.{endedOf}
 use borrow.Fn.World.{ArgsD, ResD}
 use denote.Triple.Clauses.{AtExit}
 use denote.Ref.{now}
-use Rattle.replies.proofs.read.read_line
-use Rattle.replies.proofs.read.read_line.Reads as read-line-reads
-use Rattle.replies.proofs.read.read_line.Kinds as read-line-kinds
 use Rattle.replies.proofs.reply.answer_line
 use Rattle.replies.proofs.reply.answer_line.Reads as answer-line-reads
 use Rattle.replies.proofs.reply.answer_line.Kinds as answer-line-kinds
-
-module _ (κs : Lfts 1) (a : ArgsD read_line.signature κs) (z z′ : ResD read_line.signature κs)
-    (e e′ : AtExit (endedOf 1 read-line-kinds.ps read-line-kinds.r) κs) where
-  pub one-request : read-line-reads.Post κs a z e → read-line-reads.Post κs a z′ e′ → z ≡ z′
-  one-request p p′ = p .0 ∙ sym (p′ .0)
 
 module _ (κs : Lfts 2) (a : ArgsD answer_line.signature κs) (z z′ : ResD answer_line.signature κs)
     (e e′ : AtExit (endedOf 2 answer-line-kinds.ps answer-line-kinds.r) κs) where

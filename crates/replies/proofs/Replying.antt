@@ -20,9 +20,9 @@ use Rattle.step_laws.specs.Firsts.{length-firsts}
 use Rattle.answers.specs.Polynomial.{code, answered, answer, left, leaves}
 use Rattle.answers.specs.declared.Answer.{Answer}
 use Rattle.text.specs.Text.{NEWLINE, spaced}
-use Rattle.replies.specs.Request.{readLine}
+use Rattle.lines.specs.Request.{readLine}
 use Rattle.replies.specs.Reply.{LENT, headOf, tailOf, goodLine, wrongLine, replyTo, reply}
-use Rattle.replies.specs.declared.Request.{Request}
+use Rattle.lines.specs.declared.Request.{Request}
 
 -- a refusal that was not given
 not-given : (b : Bool) (k x : ℕ) → cond b (suc k) x ≡ 0 → (b ≡ false) × (x ≡ 0)

@@ -1,3 +1,2 @@
--- What a line asks for, and what is printed for it (document 01, 'The listing'), over bytes.
-pub mod Request
+-- What is printed for a line (document 01, 'The listing'), over bytes.
 pub mod Reply

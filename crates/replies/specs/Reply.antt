@@ -11,8 +11,8 @@ use Rattle.definitions.specs.Answer.{coefficients}
 use Rattle.answers.specs.Polynomial.{answer}
 use Rattle.answers.specs.declared.Answer.{Answer}
 use Rattle.text.specs.Text.{NEWLINE, SPACE, COLON, QUERY, spaced}
-use Rattle.replies.specs.Request.{readLine}
-use Rattle.replies.specs.declared.Request.{Request}
+use Rattle.lines.specs.Request.{readLine}
+use Rattle.lines.specs.declared.Request.{Request}
 
 -- the entries that are lent for each polynomial
 abbrev pub LENT : ℕ

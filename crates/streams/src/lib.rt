@@ -1,5 +1,5 @@
-// An inner crate: the standard streams of our own programs. A call that a signal interrupts is tried again, a write that
-// takes a part goes on with the rest, and what failed can be said in one line. No contract can say what is read or
+// An inner crate: the standard streams of our own programs. A call that a signal interrupts is tried again, a write
+// that takes a part goes on with the rest, and what failed can be said in one line. No contract can say what is read or
 // written; each function is safe and ends.
 
 ghost use mathlib.Core.List.{[], _∷_, _++_};

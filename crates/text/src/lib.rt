@@ -1,5 +1,5 @@
-// An inner crate: numbers as text in byte buffers, for our own programs alone. `write` puts them at a place of a buffer,
-// and asks that there is room; `read` counts digits and takes the number that they say.
+// An inner crate: numbers as text in byte buffers, for our own programs alone. `write` puts them at a place of a
+// buffer, and asks that there is room; `read` counts digits and takes the number that they say.
 
 mod read;
 mod write;

@@ -1,8 +1,7 @@
 // Writing numbers into a byte buffer at a place. Each function answers the next place; the caller sees to the room.
 
-ghost use mathlib.Core.Path.{_≡_};
-ghost use mathlib.Core.List.{List, [], _∷_};
-ghost use Prim.Native.Nat.{ℕ, _+_, _*_, _≤_, _<_};
+ghost use mathlib.Core.List.{[], _∷_};
+ghost use Prim.Native.Nat.{_+_, _*_, _≤_, _<_};
 ghost use lib.ListN.{length, take};
 ghost use lib.IntN.{pos};
 ghost use Rattle.text.specs.Text.{decimal, spaced, sign};

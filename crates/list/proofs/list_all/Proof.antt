@@ -19,7 +19,12 @@ loop-holds : tie.Need-loop-holds Inv-loop μ-loop
 loop-holds c = (refl, refl)
 
 list-next-requires : tie.Need-list-next-requires Inv-loop μ-loop
-list-next-requires c κs = omega (arith, c .before .before .before .before .loop .inv .1, c .before .before .before .before .before .before .before .before .pre)
+list-next-requires c κs =
+    omega (
+      arith,
+      c .before .before .before .before .loop .inv .1,
+      c .before .before .before .before .before .before .before .before .pre,
+    )
 
 sub-turns : tie.Need-sub-turns Inv-loop μ-loop
 sub-turns c = omega (arith, ltb-true)

@@ -34,7 +34,8 @@ kept : (c : tie.After-run Inv-loop μ-loop) → length (c .run .last .1 .1 .0)
 kept c = c .run .kept .1 .1 .0 ∙ c .before .before .before .before .loop .inv .1
 
 within : (c : tie.After-run Inv-loop μ-loop) → c .run .result .taken
-    ≤ length (c .before .before .before .before .before .before .before .args .piece .now) - c .before .before .before .before .loop .from
+    ≤ length (c .before .before .before .before .before .before .before .args .piece .now)
+    - c .before .before .before .before .loop .from
 within c =
     let l = c .before .before .before .before .before .before .before .args .piece .now in
     let from = c .before .before .before .before .loop .from in
@@ -45,7 +46,11 @@ some c =
     let l = c .before .before .before .before .before .before .before .args .piece .now in
     let from = c .before .before .before .before .loop .from in
     takes (c .run .ensures)
-    (omega (arith, c .before .before .before .before .loop .inv .1, c .before .before .before .before .before .before .before .pre))
+    (omega (
+      arith,
+      c .before .before .before .before .loop .inv .1,
+      c .before .before .before .before .before .before .before .pre,
+    ))
     (omega (
       arith,
       length-take (length l - from) (drop from l),
@@ -55,7 +60,11 @@ some c =
 
 write-made-requires : tie.Need-write-made-requires Inv-loop μ-loop
 write-made-requires c κs =
-    omega (arith, c .before .before .before .before .run .ensures .fits, c .before .before .before .before .run .kept .1 .1 .0)
+    omega (
+      arith,
+      c .before .before .before .before .run .ensures .fits,
+      c .before .before .before .before .run .kept .1 .1 .0,
+    )
 
 same-length : tie.Need-same-length Inv-loop μ-loop
 same-length c = kept (c .before .before .before .before .before .before)

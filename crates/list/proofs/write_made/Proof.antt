@@ -1,6 +1,5 @@
 -- `list::write_made` is safe and ends: what was made lies in the buffer.
 use mathlib.Core.Path.{sym}
-use native.Mathlib.Omega.{arith}
 use lib.Seq.{length-take-le}
 use borrow.Author.Needs.{needs}
 use Rattle.list.proofs.write_made.Statement.{statement}

@@ -23,7 +23,14 @@ returns c =
     let number = c .before .before .before .before .before .before .put-item .ensures in
     let last = c .before .before .put-text2 .ensures in (
       then first (then (number .0) last),
-      omega (arith, first .place, number .1, last .place, c .before .before .before .before .before .before .before .before .before .before .before .before .before .before .before .pre),
+      omega (
+        arith,
+        first .place,
+        number .1,
+        last .place,
+        c .before .before .before .before .before .before .before .before .before .before .before .before .before
+            .before .before .pre,
+      ),
     )
 
 pub put-line-spec : {M : Type 1} → statement M

@@ -37,7 +37,8 @@ within c =
     omega (
       arith,
       c .write-some .ensures,
-      length-take (length bytes - c .before .before .before .loop .done) (drop (c .before .before .before .loop .done) bytes),
+      length-take (length bytes - c .before .before .before .loop .done)
+          (drop (c .before .before .before .loop .done) bytes),
     )
 
 add-done : tie.Need-add-done Inv-loop μ-loop

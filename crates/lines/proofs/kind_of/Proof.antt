@@ -1,8 +1,8 @@
--- `replies::read::kind_of` meets its contract, letter by letter.
+-- `lines::kind_of` meets its contract, letter by letter.
 use borrow.Author.Tests.{eq-eqb, ne-eqb}
-use Rattle.replies.specs.Request.{kindOf}
-use Rattle.replies.proofs.read.kind_of.Statement.{statement}
-use Rattle.replies.proofs.read.kind_of.Tie as tie
+use Rattle.lines.specs.Request.{kindOf}
+use Rattle.lines.proofs.kind_of.Statement.{statement}
+use Rattle.lines.proofs.kind_of.Tie as tie
 
 returns : tie.Need-returns
 unfolding kindOf

@@ -1,14 +1,21 @@
-// Reading a line.
+// A line of the listing taken apart (document 01, 'The listing').
 
 ghost use mathlib.Core.Path.{_≡_};
 ghost use Prim.Native.Nat.{_<_};
 ghost use lib.ListN.{getD};
-ghost use Rattle.replies.specs.Request.{kindOf, isGoodWith, readLine};
-use crate::Request;
+ghost use Rattle.lines.specs.Request.{kindOf, isGoodWith, readLine};
 use text::between;
 use text::byte_at;
 use text::digits_at;
 use text::number_at;
+
+// What a line asks for: a kind, an index and a height limit; or it is not good, and all three are 0.
+pub struct Request {
+    pub good: bool,
+    pub kind: u64,
+    pub n: u64,
+    pub h: u64,
+}
 
 fn kind_of(letter: u8) -> u64
     ensures { λ r. ⌜ r ≡ kindOf letter ⌝ }

@@ -1,12 +1,12 @@
--- `replies::read::read_line` meets its contract: the numbers of digits that it counts are those of the definition
+-- `lines::read_line` meets its contract: the numbers of digits that it counts are those of the definition
 -- (`Reading`).
 use mathlib.Core.Path.{_≡_, sym, _∙_, ap}
 use lib.Dec.{lit<}
-use Rattle.replies.specs.Request.{kindOf, isGood}
-use Rattle.replies.proofs.Reading.{most-nine, good-as, too-many-good, limit, reads-good, reads-wrong}
+use Rattle.lines.specs.Request.{kindOf, isGood}
+use Rattle.lines.proofs.Reading.{most-nine, good-as, too-many-good, limit, reads-good, reads-wrong}
 use borrow.Author.Needs.{needs}
-use Rattle.replies.proofs.read.read_line.Statement.{statement}
-use Rattle.replies.proofs.read.read_line.Tie as tie
+use Rattle.lines.proofs.read_line.Statement.{statement}
+use Rattle.lines.proofs.read_line.Tie as tie
 
 byte-at-requires : tie.Need-byte-at-requires
 byte-at-requires c κs = search needs

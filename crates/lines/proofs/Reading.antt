@@ -10,10 +10,10 @@ use lib.Dec.{eqb}
 use Rattle.step_laws.specs.Tests.{by-test}
 use Rattle.definitions.specs.Requests.{knownKind}
 use Rattle.text.specs.Text.{SPACE}
-use Rattle.replies.specs.Request.{kindOf, isGoodWith, placeOfLimit}
+use Rattle.lines.specs.Request.{kindOf, isGoodWith, placeOfLimit}
 use Rattle.text.specs.Digits.{between, digitsAt, numberAt, oneToNine}
-use Rattle.replies.specs.Request.{isGood, wrong, readLine}
-use Rattle.replies.specs.declared.Request.{Request}
+use Rattle.lines.specs.Request.{isGood, wrong, readLine}
+use Rattle.lines.specs.declared.Request.{Request}
 use Rattle.text.proofs.Digits.{nine-range}
 
 -- a letter that has a kind

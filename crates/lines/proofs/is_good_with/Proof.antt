@@ -1,16 +1,16 @@
--- `replies::read::is_good_with` meets its contract: the first test that fails makes the conjunction false.
+-- `lines::is_good_with` meets its contract: the first test that fails makes the conjunction false.
 use mathlib.Core.Path.{sym, _∙_, ap}
 use mathlib.Core.Bool.{and-false}
 use native.Mathlib.Omega.{arith}
 use borrow.Author.Tests.{not-true, not-false, eq-eqb, ne-eqb}
 use lib.ListN.{getD}
 use lib.Dec.{eqb}
-use Rattle.replies.specs.Request.{isGoodWith}
+use Rattle.lines.specs.Request.{isGoodWith}
 use Rattle.text.proofs.Digits.{nine-range}
-use Rattle.replies.proofs.Reading.{known, unknown}
+use Rattle.lines.proofs.Reading.{known, unknown}
 use borrow.Author.Needs.{needs}
-use Rattle.replies.proofs.read.is_good_with.Statement.{statement}
-use Rattle.replies.proofs.read.is_good_with.Tie as tie
+use Rattle.lines.proofs.is_good_with.Statement.{statement}
+use Rattle.lines.proofs.is_good_with.Tie as tie
 
 returns : tie.Need-returns
 unfolding isGoodWith
