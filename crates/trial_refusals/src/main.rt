@@ -19,10 +19,9 @@ fn ask(request: Request, buf: &mut [i64]) {
 }
 
 fn ask_all(buf: &mut [i64]) {
-    let table = TABLE;
     let mut i = 0;
     while i < COUNT {
-        ask(table[i], buf);
+        ask(TABLE[i], buf);
         i += 1;
     }
 }

@@ -26,10 +26,9 @@ fn small() {
 fn chosen() {
     let mut space = [0i64; 65536];
     let buf: &mut [i64] = &mut space;
-    let table = CHOICE;
     let mut i = 0;
     while i < CHOSEN {
-        both(table[i], 65536, buf);
+        both(CHOICE[i], 65536, buf);
         i += 1;
     }
 }

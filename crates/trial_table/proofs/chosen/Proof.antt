@@ -1,16 +1,14 @@
 -- `trial_table::chosen` is safe and ends: the place stays within the table.
 use borrow.Author.Needs.{needs}
 use Prim.Native.Nat.{_-_, _≤_}
-use lib.ListN.{length}
-use mathlib.Core.Path.{_≡_}
 use Rattle.trial_table.proofs.chosen.Statement.{statement}
 use Rattle.trial_table.proofs.chosen.Tie as tie
 
 abbrev Inv-loop : tie.InvT-loop
-Inv-loop buf₀ table i₀ buf i = (i ≤ 165) × (length table ≡ 165)
+Inv-loop buf₀ i₀ buf i = i ≤ 165
 
 abbrev μ-loop : tie.MeasureT-loop
-μ-loop buf₀ table i₀ buf i = 165 - i
+μ-loop buf₀ i₀ buf i = 165 - i
 
 slice-aggregate-buf : tie.Need-slice-aggregate-buf Inv-loop μ-loop
 slice-aggregate-buf c = search needs
