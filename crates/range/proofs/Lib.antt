@@ -1,0 +1,2 @@
+-- What is proved of the tests as a whole.
+pub mod OneOutcome
