@@ -21,8 +21,8 @@ struct Going {
     on: bool,
 }
 
-// Which of the two failed, and how many input lines were taken by then: each whose newline was read, and a last one
-// without a newline once the input has ended. They count where their answers are not written too.
+// Which of the two failed, and how many input lines were taken by then: each whose newline a run has passed, and a last
+// line without one once the input has ended and it is listed. They count whether or not their answers were written.
 fn say_failed(what: &[u8; 26], line: Line) {
     streams::say(
         what,
