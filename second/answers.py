@@ -1,4 +1,4 @@
-"""What each request answers and writes, refusals too, read off document 01.
+"""What each request answers and writes, refusals too, read off docs/RULES.md.
 
 A request gives its answer and the list of entries that it writes at the start of the buffer;
 an empty list is an untouched buffer.

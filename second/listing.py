@@ -1,4 +1,4 @@
-"""What the listing program must print: python3 second/listing.py < input (document 01, 'The listing')."""
+"""What the listing program must print: python3 second/listing.py < input (docs/RULES.md, 'The listing')."""
 
 import re
 import sys

@@ -1,4 +1,4 @@
-"""Requests at the edges of document 01's table: each refusal, the order of refusals, and the figures of 'Run and compared'."""
+"""Requests at the edges of docs/RULES.md, 'The codes': each refusal, the order of refusals, and the figures of 'The worked polynomials'."""
 
 ROOM = 33000
 TOP = 2**64 - 1

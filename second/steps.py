@@ -1,5 +1,5 @@
 #!/usr/bin/env python3
-"""What crates/trial_steps must print, from document 01's definition of a step and Python's whole numbers.
+"""What crates/trial_steps must print, from the definition of a step in docs/RULES.md and Python's whole numbers.
 
 A comb's new entry is a(i) - a(i - d). An accumulate's is the sum of a(i), a(i - d), a(i - 2 d), ..: no pass, no order of
 places, no undoing. Run it from the repository: second/steps.py > crates/trial_steps/stdout

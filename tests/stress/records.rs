@@ -1,4 +1,4 @@
-//! Shelf records: written, read back, damaged, made up; against document 01's rules written out anew.
+//! Shelf records: written, read back, damaged, made up; against the rules of docs/RULES.md written out anew.
 
 use crate::library::{self, Record, Written};
 use crate::random::Random;

@@ -1,5 +1,5 @@
--- The partial request (document 01, 'The steps on the lower half'): kind, index n, a number j of divisors, and a buffer
--- of so many entries.
+-- The partial request (docs/RULES.md, 'The kept half and the partial request'): kind, index n, a number j of divisors,
+-- and a buffer of so many entries.
 use Prim.Native.Nat.{ℕ, _+_, _-_}
 use mathlib.Core.Bool.{cond, not, _||_}
 use mathlib.Core.List.{List}

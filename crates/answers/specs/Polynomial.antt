@@ -1,5 +1,5 @@
--- The polynomial request (document 01, 'What comes back'): kind, index n, height limit h, and a buffer of so many
--- entries.
+-- The polynomial request (docs/RULES.md, 'The polynomial request'): kind, index n, height limit h, and a buffer of so
+-- many entries.
 use Prim.Native.Nat.{ℕ, suc}
 use mathlib.Core.Bool.{cond, not, _||_}
 use mathlib.Core.List.{List}

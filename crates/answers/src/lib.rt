@@ -1,5 +1,5 @@
-// What the requests answer, one struct each, with document 01's codes. Every number is 64 bits; the order of the fields
-// is that of the C library.
+// What the requests answer, one struct each, with the codes (docs/RULES.md, 'The codes'). Every number is 64 bits; the
+// order of the fields is that of the C library.
 
 ghost use mathlib.Core.Path.{_≡_};
 

@@ -1,6 +1,6 @@
--- How a polynomial is made from that of r (document 01, 'How n is taken apart'): F(1), F(2), I(1), I(2) as printed; for
--- odd squarefree r > 1, F(2r) is F(r) with -z for z and I(2r) is I(r), so negated, times 1 - z^r, the two copies never
--- overlapping; and F(n), I(n) are those of m with z^t for z.
+-- How a polynomial is made from that of r (docs/RULES.md, 'How n is taken apart'): F(1), F(2), I(1), I(2) as printed;
+-- for odd squarefree r > 1, F(2r) is F(r) with -z for z and I(2r) is I(r), so negated, times 1 - z^r, the two copies
+-- never overlapping; and F(n), I(n) are those of m with z^t for z.
 use Prim.Native.Nat.{ℕ, zero, suc, _+_, _*_, _-_, _%_, _≤_, _<_, _∣_}
 use mathlib.Core.Path.{_≡_, refl, sym, _∙_, ap, ap₂}
 use mathlib.Core.Bool.{Bool, true, false, cond}

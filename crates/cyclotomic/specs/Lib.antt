@@ -1,5 +1,5 @@
--- The cyclotomic polynomials and the inverse ones: that they exist, are the only ones, and are what document 01 says of
--- them.
+-- The cyclotomic polynomials and the inverse ones: that they exist, are the only ones, and are what docs/RULES.md says
+-- of them.
 pub mod Family
 pub mod OnePrime
 pub mod Finite

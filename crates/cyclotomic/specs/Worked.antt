@@ -1,4 +1,4 @@
--- The fourteen worked polynomials of document 01 with their additions, checked against the definitions by one theorem
+-- The worked polynomials of docs/RULES.md with their additions, checked against the definitions by one theorem
 -- over their list (`worked-right`): it computes. Among them is I(6) = -1 -1 0 1 1, from the definition with z^n - 1;
 -- with the printed slip z^n + 1 it would start with 1.
 use Prim.Native.Nat.{ℕ}

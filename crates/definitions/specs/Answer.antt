@@ -1,5 +1,4 @@
--- Height and gain (document 01, 'What comes back'), and the fourteen worked polynomials (document 01, 'Worked
--- polynomials').
+-- Height and gain (docs/RULES.md, 'The polynomial request').
 use Prim.Native.Nat.{ℕ, suc, max}
 use mathlib.Core.Bool.{cond}
 use mathlib.Core.List.{List, [], _∷_}

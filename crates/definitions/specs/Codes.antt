@@ -1,4 +1,4 @@
--- The codes of document 01's table; 0 is no refusal.
+-- The codes (docs/RULES.md, 'The codes'); 0 is no refusal.
 use Prim.Native.Nat.{ℕ}
 
 abbrev pub DONE : ℕ

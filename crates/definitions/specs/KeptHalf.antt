@@ -1,4 +1,4 @@
--- The kept half (document 01, 'The steps on the lower half'; demand 3). D is half the degree for r, rounded down. The
+-- The kept half (docs/RULES.md, 'The kept half and the partial request'). D is half the degree for r, rounded down. The
 -- divisors d of r below r are taken in ascending order; for F a step is a comb where mu(r/d) is +1, else an accumulate,
 -- and for I the other way round. A divisor's term is 1 - z^d where its step is a comb, and 1 + z^d + z^(2d) + .. where
 -- it is an accumulate. After j divisors the kept half is the product of their terms, negated for I, as a power series

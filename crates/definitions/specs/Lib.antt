@@ -1,4 +1,4 @@
--- What a reader has to believe: document 01's definitions, in its words and its order. Nothing is proved here.
+-- What a reader has to believe: the rules of docs/RULES.md as definitions, in its order. Nothing is proved here.
 pub mod Integers
 pub mod Series
 pub mod Numbers

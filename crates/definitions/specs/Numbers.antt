@@ -1,4 +1,4 @@
--- Divisors, primes, phi, and how n is taken apart (document 01, 'Covered ground' and 'How n is taken apart').
+-- Divisors, primes, phi, and how n is taken apart (docs/RULES.md, 'F and I' and 'How n is taken apart').
 -- Each is a walk over 1, 2, .., k that asks a question of every number on the way. At n = 0: phi, r, k and the list of
 -- divisors are those of an empty walk (0, 1, 0, none), m is 2 and t is 0; no request asks for them.
 use Prim.Native.Nat.{ℕ, zero, suc, _+_, _*_, _-_, _/_, _%_}

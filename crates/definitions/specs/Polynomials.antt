@@ -1,4 +1,4 @@
--- F(n) and I(n) (document 01, 'Covered ground'): the product of F(d) over all divisors d of n is z^n - 1, for every n,
+-- F(n) and I(n) (docs/RULES.md, 'F and I'): the product of F(d) over all divisors d of n is z^n - 1, for every n,
 -- and F(n) I(n) = z^n - 1. So F(n) is z^n - 1 divided by the product of F(d) over the divisors d < n, and I(n) is z^n -
 -- 1 divided by F(n). At n = 0, which has no polynomial, they are 1 and 0.
 -- A kind is 1 for F and 2 for I; what a definition gives for kind 2 it gives for every number but 1, and requests

@@ -1,4 +1,4 @@
--- What the requests have in common (document 01, 'What comes back' and 'The steps on the lower half').
+-- What the requests have in common (docs/RULES.md, 'The kept half and the partial request' and 'The codes').
 use Prim.Native.Nat.{ℕ, zero, suc}
 use mathlib.Core.Bool.{Bool, true, false, cond, not, _&&_, _||_}
 use mathlib.Core.List.{List, _++_}

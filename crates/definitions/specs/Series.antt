@@ -56,7 +56,7 @@ spread t f i = cond (eqb (i % t) 0) (f (i / t)) 0ℤ
 unfoldable pub alternate : Series → Series
 alternate f i = cond (eqb (i % 2) 0) (f i) (⊖ (f i))
 
--- f with nothing above degree d, as the list of its coefficients, lowest degree first
+-- the first n coefficients, those at degrees 0 to n - 1, lowest degree first
 unfoldable pub firsts : ℕ → Series → List ℤ
 firsts zero f = []
 firsts (suc n) f = f zero ∷ firsts n (tail f)

@@ -1,4 +1,4 @@
--- The two steps (document 01, 'The steps on the lower half'), on a slice a of L entries, each with a size d. A comb
+-- The two steps (docs/RULES.md, 'The steps'), on a slice a of L entries, each with a size d. A comb
 -- makes a(i) into old a(i) - old a(i-d) for i >= d; an accumulate makes a(i) into old a(i) + new a(i-d) for i >= d.
 -- Entries below d stay. A step on L entries counts L - d additions, or 0 where d >= L.
 use Prim.Native.Nat.{ℕ, zero, suc, _-_}

@@ -1,4 +1,5 @@
--- What a caller knows of n taken apart: its fields, by document 01's names, and the degree of a kind as it is computed.
+-- What a caller knows of n taken apart: its fields, by the names of docs/RULES.md, and the degree of a kind as it is
+-- computed.
 use Prim.Native.Nat.{ℕ, _-_, _<_, _≤_}
 use mathlib.Core.Path.{_≡_, refl, sym, _∙_, ap}
 use mathlib.Core.Bool.{Bool, true, false, cond}

@@ -1,5 +1,5 @@
--- n taken apart (document 01, 'How n is taken apart'), as the code holds it: the odd primes of n in ascending order in
--- five places, with zeros after the last; k, r, m, t, phi(r) and phi(n).
+-- n taken apart (docs/RULES.md, 'How n is taken apart'), as the code holds it: the odd primes of n in ascending order
+-- in five places, with zeros after the last; k, r, m, t, phi(r) and phi(n).
 use Prim.Native.Nat.{ℕ, _-_}
 use mathlib.Core.Bool.{cond}
 use mathlib.Core.List.{List, _++_}

@@ -1,2 +1,2 @@
--- What a line of the listing asks for (document 01, 'The listing'), over bytes.
+-- What a line of the listing asks for (docs/RULES.md, 'The listing'), over bytes.
 pub mod Request

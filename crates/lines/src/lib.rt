@@ -1,4 +1,4 @@
-// A line of the listing taken apart (document 01, 'The listing').
+// A line of the listing taken apart (docs/RULES.md, 'The listing').
 
 ghost use mathlib.Core.Path.{_≡_};
 ghost use Prim.Native.Nat.{_<_};

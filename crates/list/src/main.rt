@@ -1,4 +1,4 @@
-// `list` (document 01, 'The listing'): lines of standard input to answers on standard output. What is printed is made
+// `list` (docs/RULES.md, 'The listing'): lines of standard input to answers on standard output. What is printed is made
 // by the proved library `listing`; here its pieces are read and written. A run keeps 40 bytes of a line, so memory does
 // not grow with the input. Where a read or a write fails, one line on standard error says so, and the run ends.
 

@@ -1,5 +1,6 @@
--- Document 01's example, computed from the definitions: from bytes to bytes. Its first two lines, with three that are
--- not in it, from nothing; its third from the answer, since F(105) takes long from its definition.
+-- The example of docs/RULES.md ('The listing'), computed from the definitions: from bytes to bytes. Its first two
+-- lines, with three that are not in it, from nothing; its third from the answer, since F(105) takes long from its
+-- definition.
 use Prim.Native.Nat.{ℕ}
 use mathlib.Core.Path.{_≡_, refl}
 use mathlib.Core.List.{List, [], _∷_}

@@ -1,4 +1,4 @@
--- What is printed for any input (document 01, 'The listing'), over bytes; and what a streaming reader of it does with
+-- What is printed for any input (docs/RULES.md, 'The listing'), over bytes; and what a streaming reader of it does with
 -- its pieces.
 pub mod Listing
 pub mod Example

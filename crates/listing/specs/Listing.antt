@@ -1,5 +1,5 @@
--- What is printed (document 01, 'The listing'): `polynomials`, then for each line its reply; a line that is not good is
--- told by its number, counted from 1.
+-- What is printed (docs/RULES.md, 'The listing'): `polynomials`, then for each line its reply; a line that is not good
+-- is told by its number, counted from 1.
 use Prim.Native.Nat.{ℕ, suc}
 use mathlib.Core.Bool.{cond}
 use mathlib.Core.List.{List, [], _∷_, _++_}

@@ -1,4 +1,4 @@
-// The listing (document 01, 'The listing'): bytes of lines in, bytes of answers out. `lines` and `replies` answer one
+// The listing (docs/RULES.md, 'The listing'): bytes of lines in, bytes of answers out. `lines` and `replies` answer one
 // line, and `stream` goes through an input that comes in pieces.
 
 mod stream;

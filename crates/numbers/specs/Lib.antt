@@ -1,4 +1,4 @@
--- The laws of the numbers that document 01 speaks of: divisors, primes, phi, and how n is taken apart. All is proved
+-- The laws of the numbers that docs/RULES.md speaks of: divisors, primes, phi, and how n is taken apart. All is proved
 -- from the definitions of crate `definitions`; there is no code here.
 pub mod Tests
 pub mod Euclid

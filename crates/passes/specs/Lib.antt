@@ -1,3 +1,3 @@
--- What the contracts of `passes` cite beside document 01's definitions.
+-- What the contracts of `passes` cite beside `definitions`.
 pub mod Sorts
 pub mod Passes

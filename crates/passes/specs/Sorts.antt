@@ -1,4 +1,4 @@
--- What the code's `Sort` means: document 01's sort of step.
+-- What the code's `Sort` means: the sort of step (docs/RULES.md, 'The steps').
 use Rattle.passes.specs.declared.Sort as declared
 use Rattle.passes.specs.declared.Sort.the-variants.{Comb, Accumulate}
 use Rattle.definitions.specs.Steps.{Sort, comb, accumulate}

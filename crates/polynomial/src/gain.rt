@@ -1,5 +1,5 @@
-// The gain of a polynomial, set by rule (document 01, 'What comes back'). That n is prime is seen by phi(n), which is
-// known already.
+// The gain of a polynomial, set by rule (docs/RULES.md, 'The polynomial request'). That n is prime is seen by phi(n),
+// which is known already.
 
 ghost use Prim.Native.Nat.{_+_, _<_, _≤_};
 ghost use mathlib.Core.Path.{_≡_};

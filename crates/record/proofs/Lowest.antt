@@ -1,5 +1,5 @@
--- OVER in document 01's words: of 64-bit entries, the height is above 2^63 - 1 exactly where an entry is -2^63. And a
--- record that holds -2^63 has no least width, so no width in its header is right.
+-- OVER in the words of docs/RULES.md, 'The codes': of 64-bit entries, the height is above 2^63 - 1 exactly where an
+-- entry is -2^63. And a record that holds -2^63 has no least width, so no width in its header is right.
 use Prim.Native.Nat.{ℕ, zero, suc, _≤_, _<_, _^_}
 use mathlib.Core.Path.{_≡_, refl, sym, ap, _∙_}
 use mathlib.Core.Bool.{Bool, true, false, true≢false}

@@ -1,4 +1,4 @@
--- The header of a record (document 01, 'The shelf record'): its bytes, what stands in it, and which code it gives by
+-- The header of a record (docs/RULES.md, 'The record'): its bytes, what stands in it, and which code it gives by
 -- itself.
 use Prim.Native.Nat.{ℕ}
 use mathlib.Core.Bool.{Bool, cond, not, _&&_, _||_}

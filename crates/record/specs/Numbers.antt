@@ -1,5 +1,5 @@
 -- How a record holds a number: w bytes, little-endian; a coefficient in two's complement; and the width of a list of
--- coefficients (document 01, 'The shelf record').
+-- coefficients (docs/RULES.md, 'The record').
 use Prim.Native.Nat.{ℕ, zero, suc, _+_, _*_, _-_, _/_, _%_, _^_}
 use mathlib.Core.Bool.{Bool, false, cond, _||_}
 use mathlib.Core.List.{List, [], _∷_, _++_}

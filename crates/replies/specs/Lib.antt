@@ -1,2 +1,2 @@
--- What is printed for a line (document 01, 'The listing'), over bytes.
+-- What is printed for a line (docs/RULES.md, 'The listing'), over bytes.
 pub mod Reply

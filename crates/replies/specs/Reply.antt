@@ -1,4 +1,4 @@
--- What is printed for one line (document 01, 'The listing'): the letter, n, code, degree, additions, height, gain, a
+-- What is printed for one line (docs/RULES.md, 'The listing'): the letter, n, code, degree, additions, height, gain, a
 -- colon, and on code 0 the coefficients, with one space between items; for any line that is not good, `?`, a space and
 -- its number.
 use Prim.Native.Nat.{ℕ}

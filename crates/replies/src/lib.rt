@@ -1,4 +1,4 @@
-// The reply to one line of the listing (document 01, 'The listing'). An inner crate: `put_reply` and `put_wrong` ask
+// The reply to one line of the listing (docs/RULES.md, 'The listing'). An inner crate: `put_reply` and `put_wrong` ask
 // for room, and the crate `listing`, which hands out the rest, sees to it.
 
 mod reply;

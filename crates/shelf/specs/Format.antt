@@ -1,4 +1,4 @@
--- The shelf record (document 01, 'The shelf record'): its bytes, what the writer answers and leaves, and what the
+-- The shelf record (docs/RULES.md, 'The record'): its bytes, what the writer answers and leaves, and what the
 -- reader answers on any bytes at all and leaves. `d` is the degree of the kind at the index, which the caller works
 -- out.
 use Prim.Native.Nat.{ℕ, _+_, _*_}

@@ -1,4 +1,4 @@
--- Records computed from the definitions: document 01's example, the widths at their edges, and refusals.
+-- Records computed from the definitions: F(6) as in docs/RULES.md, the widths at their edges, and refusals.
 use Prim.Native.Nat.{ℕ, _-_, _^_}
 use mathlib.Core.Path.{_≡_, refl}
 use mathlib.Core.List.{List, [], _∷_, map}

@@ -1,4 +1,4 @@
--- Laws of document 01's steps (crate `definitions`), for whoever proves code that takes them.
+-- Laws of the steps (crate `definitions`), for whoever proves code that takes them.
 pub mod Tests
 pub mod Firsts
 pub mod Outside

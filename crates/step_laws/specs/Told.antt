@@ -12,7 +12,7 @@ use Rattle.definitions.specs.Codes.{DONE, OVER, STEP}
 use Rattle.definitions.specs.Steps.{Sort, stepOver, stepList, stepCode, stepCount, stepLeaves}
 use Rattle.step_laws.specs.Step.{long-not-over, long-stays}
 
--- the code, the count and the entries that document 01 asks of this step
+-- the code, the count and the entries that docs/RULES.md asks of this step
 pub record Told (w : ℕ) (s : Sort) (d : ℕ) (l : List ℤ) (told counted : ℕ) (m : List ℤ) : Type 0 where
   pub code : told ≡ stepCode w s d l
   pub count : counted ≡ stepCount w s d l

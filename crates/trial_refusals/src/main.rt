@@ -1,5 +1,5 @@
-// Requests at the edges of document 01's table (asked.rt, made by second/): each refusal, the order of refusals, the
-// least room and limit that are enough, and the figures of 'Run and compared'.
+// Requests at the edges of docs/RULES.md, 'The codes' (asked.rt, made by second/): each refusal, the order of refusals,
+// the least room and limit that are enough, and the figures of 'The worked polynomials'.
 mod asked;
 
 use asked::COUNT;
