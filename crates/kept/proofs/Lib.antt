@@ -1,8 +1,4 @@
 -- Laws that the functions' proofs share, and `polynomial`'s.
-pub mod MaskLaws
-pub mod Rows
-pub mod Searching
-pub mod Walking
 pub mod Advancing
 pub mod Untested
 pub mod Turning

@@ -25,10 +25,10 @@ use Rattle.cyclotomic.specs.Kept.{half-below, kept-start}
 use Rattle.step_laws.specs.Bound.{Bounded}
 use Rattle.step_laws.specs.Tests.{by-order}
 use Rattle.step_laws.specs.Firsts.{length-firsts, getD-firsts}
-use Rattle.kept.specs.Walks.{Stands, taken, walkAt}
-use Rattle.kept.proofs.Walking.{taken-at, stands-at}
+use Rattle.divisors.specs.Walks.{Stands, taken, walkAt}
+use Rattle.divisors.proofs.Walking.{taken-at, stands-at}
 use Rattle.kept.specs.Halves.{KeptHalfAt, DivisorOutcomeIs, RunOutcomeIs, WalkAtStart, KeptHalfIs}
-use Rattle.kept.specs.declared.walk.Walk.{Walk}
+use Rattle.divisors.specs.declared.Walk.{Walk}
 use Rattle.kept.specs.declared.run.DivisorOutcome.{DivisorOutcome}
 use Rattle.kept.specs.declared.RunOutcome.{RunOutcome}
 use Rattle.kept.proofs.Turning.{kept-length}

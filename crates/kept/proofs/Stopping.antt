@@ -21,12 +21,12 @@ use Rattle.definitions.specs.Requests.{knownKind, goodIndex, divisorsDue, overA
 use Rattle.numbers.specs.Apart.{r-odd-squarefree}
 use Rattle.answers.specs.declared.Stop.{Stop}
 use Rattle.answers.specs.Partial.{code, answered, answer, left, leaves}
-use Rattle.kept.specs.Walks.{walkAt, overParts}
-use Rattle.kept.proofs.Walking.{over-start}
+use Rattle.divisors.specs.Walks.{walkAt, overParts}
+use Rattle.divisors.proofs.Walking.{over-start}
 use Rattle.kept.specs.Halves.{StepsDue, WalkAtStart, KeptHalfIs}
 use Rattle.index.specs.declared.Parts.{Parts}
 use Rattle.index.proofs.Laws.{index-good, r-small, parts-r, parts-free}
-use Rattle.kept.specs.declared.walk.Walk.{Walk}
+use Rattle.divisors.specs.declared.Walk.{Walk}
 use Rattle.kept.specs.declared.RunOutcome.{RunOutcome}
 use Rattle.kept.proofs.Turning.{kept-length}
 

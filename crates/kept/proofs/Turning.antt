@@ -16,13 +16,13 @@ use Rattle.definitions.specs.Requests.{divisorsDue, nextDivisor, overAt}
 use Rattle.numbers.specs.Lists.{entry-has}
 use Rattle.step_laws.specs.Firsts.{length-firsts}
 use Rattle.cyclotomic.specs.Kept.{step-kept}
-use Rattle.kept.specs.Walks.{Stands, taken, walkAt, nextAt, nextOf, divisorAt}
-use Rattle.kept.proofs.Walking.{next-more}
+use Rattle.divisors.specs.Walks.{Stands, taken, walkAt, nextAt, nextOf, divisorAt}
+use Rattle.divisors.proofs.Walking.{next-more}
 use Rattle.kept.specs.Halves.{StepOutcomeIs, KeptHalfAt, DivisorOutcomeIs}
-use Rattle.kept.specs.declared.walk.Walk.{Walk}
-use Rattle.kept.specs.declared.walk.NextAndWalk.{NextAndWalk}
-use Rattle.kept.specs.declared.walk.Next.{Next}
-use Rattle.kept.specs.declared.walk.Next.the-variants.{Divisor, Nothing}
+use Rattle.divisors.specs.declared.Walk.{Walk}
+use Rattle.divisors.specs.declared.NextAndWalk.{NextAndWalk}
+use Rattle.divisors.specs.declared.Next.{Next}
+use Rattle.divisors.specs.declared.Next.the-variants.{Divisor, Nothing}
 use Rattle.kept.specs.declared.step.StepOutcome.{StepOutcome}
 use Rattle.kept.specs.declared.run.DivisorOutcome.{DivisorOutcome}
 

@@ -14,8 +14,8 @@ use Rattle.numbers.specs.Apart.{OddSquarefree}
 use Rattle.step_laws.specs.Bound.{Bounded}
 use Rattle.index.specs.Parts.{partsOf}
 use Rattle.index.specs.declared.Parts.{Parts}
-use Rattle.kept.specs.Walks.{Stands, taken, walkAt}
-use Rattle.kept.specs.declared.walk.Walk.{Walk}
+use Rattle.divisors.specs.Walks.{Stands, taken, walkAt}
+use Rattle.divisors.specs.declared.Walk.{Walk}
 use Rattle.kept.specs.declared.step.StepOutcome.{StepOutcome}
 use Rattle.kept.specs.declared.run.DivisorOutcome.{DivisorOutcome}
 use Rattle.kept.specs.declared.RunOutcome.{RunOutcome}

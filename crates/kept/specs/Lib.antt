@@ -1,5 +1,2 @@
--- The walk over r's divisors and the making of the kept half, as the inner functions' contracts tell them.
-pub mod Masks
-pub mod Least
-pub mod Walks
+-- The making of the kept half, as the inner functions' contracts tell it.
 pub mod Halves

@@ -3,13 +3,12 @@
 mod run;
 mod step;
 mod stop;
-mod walk;
 
 use answers::Stop;
+use divisors::Walk;
 use index::Parts;
 use run::make_kept_half;
 pub use stop::half_degree;
-use walk::Walk;
 ghost use Prim.Native.Nat.{_+_};
 ghost use mathlib.Core.Path.{_≡_};
 ghost use lib.ListN.{length};

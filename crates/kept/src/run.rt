@@ -1,8 +1,8 @@
 // The kept half: its start, and one step after the other as the walk hands out the divisors.
 use super::RunOutcome;
 use super::step::take_step;
-use super::walk::Next;
-use super::walk::Walk;
+use divisors::Next;
+use divisors::Walk;
 use passes::Sort;
 ghost use Prim.Native.Nat.{_+_, _-_, _≤_, _<_};
 ghost use mathlib.Core.Path.{_≡_};
@@ -15,7 +15,7 @@ ghost use Rattle.definitions.specs.KeptHalf.{halfDegree, start};
 ghost use Rattle.definitions.specs.Requests.{divisorsDue};
 ghost use Rattle.passes.specs.Sorts.{sortMeans};
 ghost use Rattle.kept.specs.Halves.{DivisorOutcomeIs, RunOutcomeIs, KeptHalfAt, WalkAtStart, KeptHalfIs};
-ghost use Rattle.kept.specs.Walks.{walkAt};
+ghost use Rattle.divisors.specs.Walks.{walkAt};
 
 // The outcome of one divisor's step: a value out of range, or its additions, the bound after it and the walk.
 pub(crate) struct DivisorOutcome {

@@ -1,7 +1,7 @@
 // The partial request, once kind and index are good.
 use super::run::make_kept_half;
-use super::walk::Walk;
 use answers::Stop;
+use divisors::Walk;
 use index::Parts;
 ghost use Prim.Native.Nat.{_-_, _/_};
 ghost use mathlib.Core.Path.{_≡_};

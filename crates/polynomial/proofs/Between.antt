@@ -36,7 +36,7 @@ use Rattle.answers.specs.Polynomial as Polynomial
 use Rattle.kept.proofs.Advancing.{stays-inside}
 use Rattle.kept.proofs.Turning.{kept-length, divisor-in}
 use Rattle.kept.proofs.Running.{start-bounded}
-use Rattle.polynomial.proofs.Growing.{half-within, front-entry}
+use Rattle.growth.proofs.Growing.{half-within, front-entry}
 
 -- ---- what stands in front
 written-front : (new l : List ℤ) (k : ℕ) → k ≤ length new → take k (written new l) ≡ take k new

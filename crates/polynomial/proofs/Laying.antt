@@ -29,7 +29,7 @@ use Rattle.cyclotomic.specs.Degrees.{degree-apart}
 use Rattle.polynomial.specs.Making.{Ready}
 use Rattle.index.specs.declared.Parts.{Parts}
 use Rattle.index.proofs.Laws.{index-good, parts-r, parts-m, parts-t, parts-free}
-use Rattle.polynomial.proofs.Growing.{front-entry, front-length}
+use Rattle.growth.proofs.Growing.{front-entry, front-length}
 
 -- what the making goes by: `top`, the degree for m, has room; and where the first entries are the polynomial of m, z^t
 -- for z makes that of n

@@ -1,6 +1,4 @@
 -- Laws that the functions' proofs share; what is proved of the requests as a whole.
-pub mod Growing
-pub mod Even
 pub mod Laying
 pub mod Stepping
 pub mod Limits

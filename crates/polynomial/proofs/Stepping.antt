@@ -27,11 +27,11 @@ use Rattle.numbers.specs.Below.{additions-all}
 use Rattle.cyclotomic.specs.Kept.{kept-all}
 use Rattle.cyclotomic.specs.Heights.{height-half, height-one}
 use Rattle.kept.specs.Halves.{StepsDue, KeptHalfIs}
-use Rattle.polynomial.specs.Growth.{Lower}
+use Rattle.growth.specs.Growth.{Lower}
 use Rattle.polynomial.specs.Making.{Ready, MakingOutcomeIs, makingCode}
 use Rattle.index.specs.declared.Parts.{Parts}
 use Rattle.kept.specs.declared.RunOutcome.{RunOutcome}
-use Rattle.polynomial.proofs.Growing.{half-within, front-entry, front-length}
+use Rattle.growth.proofs.Growing.{half-within, front-entry, front-length}
 use Rattle.polynomial.proofs.Laying.{above-zero, r-is, r-fits}
 
 pub steps-due : {kind n : ℕ} {a : Parts} {l : List ℤ} → Ready kind n a l → rOf n ≢ 1 → StepsDue kind n a

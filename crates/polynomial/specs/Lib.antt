@@ -1,3 +1,2 @@
 -- The making of a polynomial, as the inner functions' contracts tell it.
-pub mod Growth
 pub mod Making

@@ -1,5 +1,4 @@
 // The polynomial request, once kind, index and limit are good.
-use super::from_half;
 use answers::Answer;
 use index::Parts;
 ghost use Prim.Native.Nat.{_+_, _*_, _≤_};
@@ -17,7 +16,7 @@ ghost use Rattle.definitions.specs.Answer.{coefficients};
 ghost use Rattle.answers.specs.Polynomial as Polynomial;
 ghost use Rattle.index.specs.Parts.{partsOf};
 ghost use Rattle.polynomial.specs.Making.{Ready, MakingOutcomeIs};
-ghost use Rattle.polynomial.specs.Growth.{Lower};
+ghost use Rattle.growth.specs.Growth.{Lower};
 
 // The outcome of the making: a code, and on 0 the additions and the height.
 pub(crate) struct MakingOutcome {
@@ -56,7 +55,7 @@ fn from_lower_half(b: &mut [i64], kind: u64, n: u64, parts: Parts)
 {
     let top = index::degree_from(kind, parts.m, parts.free) as usize;
     let size = top + 1;
-    from_half::of_m(&mut b[..size], kind, parts.r, parts.free, n % 2 == 0);
+    growth::of_m(&mut b[..size], kind, parts.r, parts.free, n % 2 == 0);
     spread_by(b, top, parts.t as usize);
 }
 
@@ -67,7 +66,7 @@ fn without_steps(b: &mut [i64], kind: u64, n: u64, parts: Parts)
 {
     let top = index::degree_from(kind, parts.m, parts.free) as usize;
     let size = top + 1;
-    from_half::of_one_or_two(&mut b[..size], kind, n % 2 == 0);
+    growth::of_one_or_two(&mut b[..size], kind, n % 2 == 0);
     spread_by(b, top, parts.t as usize);
 }
 

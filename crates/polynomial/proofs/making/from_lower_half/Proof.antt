@@ -7,8 +7,8 @@ use lib.Dec.{eqb}
 use Rattle.definitions.specs.Numbers.{phi, mOf}
 use Rattle.definitions.specs.Polynomials.{degree}
 use Rattle.index.proofs.Laws.{r-small}
-use Rattle.polynomial.specs.Growth.{Lower}
-use Rattle.polynomial.proofs.Growing.{lower-front}
+use Rattle.growth.specs.Growth.{Lower}
+use Rattle.growth.proofs.Growing.{lower-front}
 use Rattle.polynomial.proofs.Laying.{LaidOut, laid-out, r-is, free-is, m-by-parity}
 use borrow.Author.Needs.{needs}
 use Rattle.polynomial.proofs.making.from_lower_half.Statement.{statement}

@@ -1,0 +1,5 @@
+-- Laws that the functions' proofs share, and `kept`'s.
+pub mod MaskLaws
+pub mod Rows
+pub mod Searching
+pub mod Walking

@@ -1,0 +1,3 @@
+-- Laws that the functions' proofs share, and `polynomial`'s.
+pub mod Growing
+pub mod Even
