@@ -11,10 +11,10 @@ use Rattle.step_laws.specs.Tests.{by-test}
 use Rattle.definitions.specs.Requests.{knownKind}
 use Rattle.text.specs.Text.{SPACE}
 use Rattle.lines.specs.Request.{kindOf, isGoodWith, placeOfLimit}
-use Rattle.text.specs.Digits.{between, digitsAt, numberAt, oneToNine}
+use Rattle.digits.specs.Digits.{between, digitsAt, numberAt, oneToNine}
 use Rattle.lines.specs.Request.{isGood, wrong, readLine}
 use Rattle.lines.specs.declared.Request.{Request}
-use Rattle.text.proofs.Digits.{nine-range}
+use Rattle.digits.proofs.Digits.{nine-range}
 
 -- a letter that has a kind
 pub known : (letter : ℕ) → (kindOf letter ≡ 0 → ⊥) → knownKind (kindOf letter) ≡ true

@@ -7,7 +7,7 @@ use lib.ListN.{length, getD}
 use lib.Dec.{eqb}
 use Rattle.definitions.specs.Requests.{knownKind}
 use Rattle.text.specs.Text.{SPACE}
-use Rattle.text.specs.Digits.{digitsAt, numberAt, oneToNine}
+use Rattle.digits.specs.Digits.{digitsAt, numberAt, oneToNine}
 use Rattle.lines.specs.declared.Request.{Request}
 
 -- F is kind 1, I is kind 2, and no other letter has one

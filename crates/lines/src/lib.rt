@@ -4,10 +4,10 @@ ghost use mathlib.Core.Path.{_≡_};
 ghost use Prim.Native.Nat.{_<_};
 ghost use lib.ListN.{getD};
 ghost use Rattle.lines.specs.Request.{kindOf, isGoodWith, readLine};
-use text::between;
-use text::byte_at;
-use text::digits_at;
-use text::number_at;
+use digits::between;
+use digits::byte_at;
+use digits::digits_at;
+use digits::number_at;
 
 // What a line asks for: a kind, an index and a height limit; or it is not good, and all three are 0.
 pub struct Request {

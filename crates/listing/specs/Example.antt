@@ -18,7 +18,7 @@ use Rattle.definitions.specs.Requests.{knownKind, goodIndex, nextDivisor, divis
 use Rattle.answers.specs.Polynomial.{code, answered, answer}
 use Rattle.text.specs.Text.{decimalIn, decimal, sign, signed, spaced}
 use Rattle.lines.specs.Request.{kindOf, isGoodWith}
-use Rattle.text.specs.Digits.{between, digits, valueFrom, valueOf, digitsAt, numberAt}
+use Rattle.digits.specs.Digits.{between, digits, valueFrom, valueOf, digitsAt, numberAt}
 use Rattle.lines.specs.Request.{placeOfLimit, isGood, wrong, readLine}
 use Rattle.replies.specs.Reply.{letterOf, headOf, tailOf, goodLine, wrongLine, replyTo, reply}
 use Rattle.listing.specs.Listing.{lastLine}

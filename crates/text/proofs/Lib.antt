@@ -2,5 +2,3 @@
 pub mod Putting
 pub mod Decimal
 pub mod Sign
-pub mod Digits
-pub mod OneOutcome

@@ -6,7 +6,7 @@ use borrow.Author.Tests.{not-true, not-false, eq-eqb, ne-eqb}
 use lib.ListN.{getD}
 use lib.Dec.{eqb}
 use Rattle.lines.specs.Request.{isGoodWith}
-use Rattle.text.proofs.Digits.{nine-range}
+use Rattle.digits.proofs.Digits.{nine-range}
 use Rattle.lines.proofs.Reading.{known, unknown}
 use borrow.Author.Needs.{needs}
 use Rattle.lines.proofs.is_good_with.Statement.{statement}
