@@ -1,12 +1,10 @@
 -- An answer in the struct that C sees: each field is the field of its name.
 use Rattle.answers.specs.declared.Answer.{Answer}
 use Rattle.answers.specs.declared.Stop.{Stop}
-use Rattle.steps.specs.declared.Stepped.{Stepped}
 use Rattle.shelf.specs.declared.Written.{Written}
 use Rattle.shelf.specs.declared.Record.{Record}
 use Rattle.bonvedrick.specs.declared.BvAnswer.{BvAnswer}
 use Rattle.bonvedrick.specs.declared.BvStop.{BvStop}
-use Rattle.bonvedrick.specs.declared.BvStep.{BvStep}
 use Rattle.bonvedrick.specs.declared.BvWritten.{BvWritten}
 use Rattle.bonvedrick.specs.declared.BvRecord.{BvRecord}
 
@@ -16,9 +14,6 @@ sameAnswer a =
 
 abbrev pub sameStop : Stop → BvStop
 sameStop a = record { code = a .code; degree = a .degree; additions = a .additions; due = a .due }
-
-abbrev pub sameStep : Stepped → BvStep
-sameStep a = record { code = a .code; count = a .count }
 
 abbrev pub sameWritten : Written → BvWritten
 sameWritten a = record { code = a .code; degree = a .degree; used = a .used }

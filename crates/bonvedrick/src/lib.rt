@@ -1,7 +1,5 @@
 // The requests of the library for C, Rust and Python (include/bonvedrick.h). Each function is its request under a plain
 // name: nothing is asked of the caller, and the contract is that of the request, over structs laid out as C's.
-mod same;
-
 use steps::Sort;
 use steps::Step;
 ghost use mathlib.Core.Path.{_≡_};
@@ -64,7 +62,14 @@ pub extern "C" fn bv_polynomial(kind: u64, n: u64, h: i64, buf: &mut [i64]) -> B
     ensures answer { λ r. ⌜ r ≡ sameAnswer (Polynomial.answer kind n h (length (now (buf .entry)))) ⌝ }
     ensures leaves { λ _. ⌜ now (buf .exit) ≡ Polynomial.leaves kind n h (now (buf .entry)) ⌝ }
 {
-    same::answer(polynomial::polynomial(kind, n, h, buf))
+    let a = polynomial::polynomial(kind, n, h, buf);
+    BvAnswer {
+        code: a.code,
+        degree: a.degree,
+        additions: a.additions,
+        height: a.height,
+        gain: a.gain,
+    }
 }
 
 // The kept half for n's r after the first j divisors' steps.
@@ -73,7 +78,13 @@ pub extern "C" fn bv_partial(kind: u64, n: u64, j: u64, buf: &mut [i64]) -> BvSt
     ensures answer { λ r. ⌜ r ≡ sameStop (Partial.answer kind n j (length (now (buf .entry)))) ⌝ }
     ensures leaves { λ _. ⌜ now (buf .exit) ≡ Partial.leaves kind n j (now (buf .entry)) ⌝ }
 {
-    same::stop(kept::partial(kind, n, j, buf))
+    let a = kept::partial(kind, n, j, buf);
+    BvStop {
+        code: a.code,
+        degree: a.degree,
+        additions: a.additions,
+        due: a.due,
+    }
 }
 
 // A step of either sort on its own.
@@ -83,7 +94,11 @@ fn step_of(sort: Sort, size: u64, buf: &mut [i64]) -> BvStep
     ensures leaves { λ _. ⌜ now (buf .exit) ≡ stepLeaves largest (sortMeans sort) size (now (buf .entry)) ⌝ }
 {
     let step = Step { sort, size };
-    same::step(step.apply(buf))
+    let a = step.apply(buf);
+    BvStep {
+        code: a.code,
+        count: a.count,
+    }
 }
 
 // A comb on its own.
@@ -114,7 +129,12 @@ pub extern "C" fn bv_write(kind: u64, n: u64, coeffs: &[i64], bytes: &mut [u8]) 
     ensures leaves { λ _.
         ⌜ now (bytes .exit) ≡ writeLeaves (degree kind n) kind n (now (coeffs .entry)) (now (bytes .entry)) ⌝ }
 {
-    same::written(shelf::write(kind, n, coeffs, bytes))
+    let a = shelf::write(kind, n, coeffs, bytes);
+    BvWritten {
+        code: a.code,
+        degree: a.degree,
+        used: a.used,
+    }
 }
 
 // The coefficients of the record that some bytes start with, in the entries lent.
@@ -126,5 +146,12 @@ pub extern "C" fn bv_read(bytes: &[u8], coeffs: &mut [i64]) -> BvRecord
     ensures leaves { λ _.
         ⌜ now (coeffs .exit) ≡ readLeaves (degreeIn (now (bytes .entry))) (now (bytes .entry)) (now (coeffs .entry)) ⌝ }
 {
-    same::record_of(shelf::read(bytes, coeffs))
+    let a = shelf::read(bytes, coeffs);
+    BvRecord {
+        code: a.code,
+        degree: a.degree,
+        used: a.used,
+        kind: a.kind,
+        n: a.n,
+    }
 }

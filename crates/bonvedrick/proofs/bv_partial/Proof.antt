@@ -8,16 +8,13 @@ use Rattle.bonvedrick.proofs.bv_partial.Tie as tie
 partial-requires : tie.Need-partial-requires
 partial-requires c κs = search needs
 
-stop-requires : tie.Need-stop-requires
-stop-requires c κs = search needs
-
 same-length : tie.Need-same-length
 same-length c = search needs
 
 returns : tie.Need-returns
 returns c =
-    let told = c .before .before .partial .ensures in
-    (c .stop .ensures ∙ ap sameStop (told .0), told .1)
+    let told = c .before .partial .ensures in
+    (ap sameStop (told .0), told .1)
 
 pub bv-partial-spec : {M : Type 1} → statement M
-bv-partial-spec = tie.close (tie.spec partial-requires stop-requires same-length returns)
+bv-partial-spec = tie.close (tie.spec partial-requires same-length returns)

@@ -13,21 +13,18 @@ use Rattle.bonvedrick.proofs.bv_polynomial.Tie as tie
 polynomial-requires : tie.Need-polynomial-requires
 polynomial-requires c κs = search needs
 
-answer-requires : tie.Need-answer-requires
-answer-requires c κs = search needs
-
 same-length : tie.Need-same-length
 same-length c = search needs
 
 returns : tie.Need-returns
 returns c =
-    let p = c .before .before .before .before in
+    let p = c .before .before .before in
     let a = p .args in
-    let told = c .before .before .polynomial .ensures in
+    let told = c .before .polynomial .ensures in
     let h = toZ-ofZ (p .fits .h) in (
-      c .answer .ensures ∙ ap sameAnswer (told .0 ∙ ap (λ (x : ℤ). answer (a .kind) (a .n) x (length (a .buf .now))) h),
+      ap sameAnswer (told .0 ∙ ap (λ (x : ℤ). answer (a .kind) (a .n) x (length (a .buf .now))) h),
       told .1 ∙ ap (λ (x : ℤ). leaves (a .kind) (a .n) x (a .buf .now)) h,
     )
 
 pub bv-polynomial-spec : {M : Type 1} → statement M
-bv-polynomial-spec = tie.close (tie.spec polynomial-requires answer-requires same-length returns)
+bv-polynomial-spec = tie.close (tie.spec polynomial-requires same-length returns)

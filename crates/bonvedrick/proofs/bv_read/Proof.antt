@@ -8,16 +8,13 @@ use Rattle.bonvedrick.proofs.bv_read.Tie as tie
 read-requires : tie.Need-read-requires
 read-requires c κs = search needs
 
-record-of-requires : tie.Need-record-of-requires
-record-of-requires c κs = search needs
-
 same-length : tie.Need-same-length
 same-length c = search needs
 
 returns : tie.Need-returns
 returns c =
-    let told = c .before .before .read .ensures in
-    (c .record-of .ensures ∙ ap sameRecord (told .0), told .1)
+    let told = c .before .read .ensures in
+    (ap sameRecord (told .0), told .1)
 
 pub bv-read-spec : {M : Type 1} → statement M
-bv-read-spec = tie.close (tie.spec read-requires record-of-requires same-length returns)
+bv-read-spec = tie.close (tie.spec read-requires same-length returns)

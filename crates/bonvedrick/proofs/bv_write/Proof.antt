@@ -8,16 +8,13 @@ use Rattle.bonvedrick.proofs.bv_write.Tie as tie
 write-requires : tie.Need-write-requires
 write-requires c κs = search needs
 
-written-requires : tie.Need-written-requires
-written-requires c κs = search needs
-
 same-length : tie.Need-same-length
 same-length c = search needs
 
 returns : tie.Need-returns
 returns c =
-    let told = c .before .before .before .write .ensures in
-    (c .written .ensures ∙ ap sameWritten (told .0), told .1)
+    let told = c .before .before .write .ensures in
+    (ap sameWritten (told .0), told .1)
 
 pub bv-write-spec : {M : Type 1} → statement M
-bv-write-spec = tie.close (tie.spec write-requires written-requires same-length returns)
+bv-write-spec = tie.close (tie.spec write-requires same-length returns)
