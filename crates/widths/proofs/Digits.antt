@@ -11,9 +11,8 @@ use lib.Seq.{take-at, drop-at, take-add, length-take-le}
 use lib.IntN.{ℤ, pos, negsuc, natAbs}
 use borrow.Author.Tests.{le-leb, lt-leb}
 use Rattle.definitions.specs.Answer.{heightOf}
-use Rattle.record.specs.Numbers.{bytesOf, number, top, twos, signedOf, body, coefficientsAt}
-use Rattle.record.proofs.Widths.{full, full-suc}
-use Rattle.record.proofs.Passes.{length-bytesOf}
+use Rattle.widths.specs.Numbers.{bytesOf, number, top, twos, signedOf, body, coefficientsAt}
+use Rattle.widths.proofs.Widths.{full, full-suc}
 
 -- a list of bytes, and its parts
 abbrev pub Bytes : List ℕ → Type 0
@@ -35,6 +34,11 @@ bytes-drop (suc n) [] p = tt
 bytes-drop (suc n) (b ∷ bs) p = bytes-drop n bs (p .1)
 
 -- numbers
+pub length-bytesOf : (w v : ℕ) → length (bytesOf w v) ≡ w
+unfolding bytesOf
+length-bytesOf zero v = refl
+length-bytesOf (suc w) v = ap suc (length-bytesOf w (v / 256))
+
 pub number-bytes : (w v : ℕ) → v < 2 ^ (8 * w) → number (bytesOf w v) ≡ v
 unfolding bytesOf number
 number-bytes zero v h = omega arith
