@@ -10,8 +10,8 @@ use mathlib.Core.List.{_++_, [], _∷_, List}
 use mathlib.Core.Path.{_≡_, refl, ap₂, ap, _∙_, sym}
 use native.Mathlib.Omega.{arith}
 use Rattle.record.specs.Header.{kindIn, headerOf, widthIn, indexIn, countIn, marked}
-use Rattle.record.specs.Numbers.{bytesOf, number}
-use Rattle.record.proofs.Digits.{Bytes, bytes-take, bytes-drop, number-bytes, number-less, bytes-number}
+use Rattle.widths.specs.Numbers.{bytesOf, number}
+use Rattle.widths.proofs.Digits.{Bytes, bytes-take, bytes-drop, number-bytes, number-less, bytes-number}
 use Rattle.record.proofs.Headers.{Right}
 
 -- what stands in a header, whatever comes after it

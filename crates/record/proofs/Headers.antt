@@ -12,9 +12,10 @@ use mathlib.Core.Path.{_≡_, refl, ap, _∙_, sym}
 use native.Mathlib.Omega.{arith}
 use Rattle.definitions.specs.Codes.{DONE, MARK, SHORT, FIELD, CUT}
 use Rattle.record.specs.Header.{kindIn, isKind, headerOf, widthIn, headerCode, indexIn, fieldsRight, marked}
-use Rattle.record.specs.Numbers.{bytesOf, oneOf, widths}
-use Rattle.record.proofs.Least.{or-cases, width-bounds}
-use Rattle.record.proofs.Passes.{length-bytesOf, sets-append}
+use Rattle.widths.specs.Numbers.{bytesOf, oneOf, widths}
+use Rattle.widths.proofs.Least.{or-cases, width-bounds}
+use Rattle.widths.proofs.Digits.{length-bytesOf}
+use Rattle.record.proofs.Passes.{sets-append}
 
 pub length-header : (kind w n count : ℕ) → length (headerOf kind w n count) ≡ 10
 unfolding headerOf

@@ -10,8 +10,9 @@ use lib.ListN.{length, getD, set, take, drop, length-append, drop-of-length-le}
 use lib.Seq.{sets, drop-cons, drop-drop}
 use lib.IntN.{ℤ, pos, natAbs}
 use Rattle.definitions.specs.Answer.{heightOf}
-use Rattle.record.specs.Numbers.{bytesOf, number, twos, signedOf, body, coefficientsAt}
-use Rattle.record.proofs.Widths.{full-suc, full-mono}
+use Rattle.widths.specs.Numbers.{bytesOf, number, twos, signedOf, body, coefficientsAt}
+use Rattle.widths.proofs.Widths.{full-suc, full-mono}
+use Rattle.widths.proofs.Digits.{length-bytesOf}
 
 -- a number put: the lowest byte first
 pub put-turn : (b : List ℕ) (i k v : ℕ) → 0 < k → sets (set b i (v % 256)) (i + 1) (bytesOf (k - 1) (v / 256))
@@ -69,11 +70,6 @@ sets-append l i [] ys = rw add-zero
 sets-append l i (x ∷ xs) ys =
     let e : suc i + length xs ≡ i + suc (length xs) = omega arith in
     sets-append (set l i x) (suc i) xs ys ∙ ap (λ (k : ℕ). sets (sets (set l i x) (suc i) xs) k ys) e
-
-pub length-bytesOf : (w v : ℕ) → length (bytesOf w v) ≡ w
-unfolding bytesOf
-length-bytesOf zero v = refl
-length-bytesOf (suc w) v = ap suc (length-bytesOf w (v / 256))
 
 pub body-cons : (w : ℕ) (cs : List ℤ) (i : ℕ) → i < length cs →
     body w (drop i cs) ≡ bytesOf w (twos w (getD cs i (pos 0))) ++ body w (drop (i + 1) cs)

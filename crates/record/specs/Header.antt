@@ -6,7 +6,7 @@ use mathlib.Core.List.{List, _∷_, _++_}
 use lib.ListN.{length, getD, take, drop}
 use lib.Dec.{ltb, eqb}
 use Rattle.definitions.specs.Codes.{DONE, CUT, MARK, FIELD}
-use Rattle.record.specs.Numbers.{bytesOf, number, widths, oneOf}
+use Rattle.widths.specs.Numbers.{bytesOf, number, widths, oneOf}
 
 -- mark C9 50; kind, 1 byte; width, 1 byte; n, 2 bytes; number of coefficients, 4 bytes
 unfoldable pub headerOf : ℕ → ℕ → ℕ → ℕ → List ℕ

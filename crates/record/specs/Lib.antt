@@ -1,3 +1,2 @@
--- How a record holds numbers, and its header.
-pub mod Numbers
+-- The header of a record.
 pub mod Header

@@ -1,13 +1,13 @@
 // Numbers in bytes, and the passes over the coefficients: one that looks and one that stores, for the writer and the
 // reader.
-use super::numbers::signed_of;
-use super::numbers::twos_of;
+use widths::signed_of;
+use widths::twos_of;
 ghost use mathlib.Core.Path.{_≡_};
 ghost use Prim.Native.Nat.{_+_, _*_, _<_, _≤_, _^_, max};
 ghost use lib.ListN.{length, take, drop};
 ghost use lib.Seq.{sets};
 ghost use Rattle.definitions.specs.Answer.{heightOf};
-ghost use Rattle.record.specs.Numbers.{bytesOf, number, top, signedOf, body, coefficientsAt};
+ghost use Rattle.widths.specs.Numbers.{bytesOf, number, top, signedOf, body, coefficientsAt};
 
 pub(crate) fn wide(b: u8) -> u64
     ensures { λ r. ⌜ r ≡ b ⌝ }

@@ -2,13 +2,12 @@
 use super::bytes::get;
 use super::bytes::put;
 use super::bytes::wide;
-use super::numbers::is_kind;
-use super::numbers::is_width;
+use widths::is_width;
 ghost use mathlib.Core.Path.{_≡_};
 ghost use Prim.Native.Nat.{_<_, _≤_};
 ghost use lib.ListN.{length, getD};
 ghost use lib.Seq.{sets};
-ghost use Rattle.record.specs.Header.{headerOf, headerCode, marked, indexIn, countIn};
+ghost use Rattle.record.specs.Header.{headerOf, headerCode, isKind, marked, indexIn, countIn};
 
 // The 10 bytes before the coefficients.
 pub fn put_header(bytes: &mut [u8], kind: u8, w: u8, n: u64, count: u64)
@@ -29,6 +28,12 @@ fn is_marked(bytes: &[u8]) -> bool
     ensures { λ r. ⌜ r ≡ marked (now (bytes .entry)) ⌝ }
 {
     bytes[0] == 0xC9 && bytes[1] == 0x50
+}
+
+pub fn is_kind(kind: u64) -> bool
+    ensures { λ r. ⌜ r ≡ isKind kind ⌝ }
+{
+    kind == 1 || kind == 2
 }
 
 // The field that is one byte at a place: the kind at 2, the width at 3.

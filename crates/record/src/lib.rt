@@ -1,9 +1,8 @@
 // Inner: nothing here is offered to callers; each `requires` is shown by the writer and the reader of `shelf`. What the
-// forms of a record share: how it holds numbers and coefficients, and its header.
+// forms of a record share: its numbers and coefficients in bytes, and its header.
 
 mod bytes;
 mod header;
-mod numbers;
 
 pub use bytes::fill;
 pub use bytes::height_in;
@@ -12,6 +11,5 @@ pub use header::count_in;
 pub use header::field;
 pub use header::header_code;
 pub use header::index_in;
+pub use header::is_kind;
 pub use header::put_header;
-pub use numbers::is_kind;
-pub use numbers::least_width;

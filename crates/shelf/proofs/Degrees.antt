@@ -12,7 +12,7 @@ use borrow.Author.Tests.{ltb-false, le-ltb}
 use Rattle.definitions.specs.Numbers.{countTo, phi}
 use Rattle.definitions.specs.Polynomials.{degree}
 use Rattle.record.specs.Header.{isKind, kindIn, indexIn}
-use Rattle.record.proofs.Least.{or-right}
+use Rattle.widths.proofs.Least.{or-right}
 use Rattle.shelf.specs.declared.Written.{Written}
 use Rattle.shelf.specs.Format.{degreeIn, writeCode, writeTells, writeAnswer, writeLeaves}
 

@@ -11,7 +11,7 @@ use borrow.Author.Tests.{eqb-true, eqb-false, ltb-false}
 use Rattle.definitions.specs.Answer.{heightOf}
 use Rattle.definitions.specs.Steps.{largest}
 use Rattle.definitions.specs.Codes.{DONE, KIND, INDEX, SHORT, OVER, CUT, FIELD, WIDTH}
-use Rattle.record.specs.Numbers.{width}
+use Rattle.widths.specs.Numbers.{width}
 use Rattle.record.specs.Header.{isKind, widthIn, countIn, headerCode}
 use Rattle.shelf.specs.Format.{size, writeCode, coefficientsIn, sizeIn, readCode}
 

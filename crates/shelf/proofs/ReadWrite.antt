@@ -7,13 +7,13 @@ use lib.ListN.{length, take, drop, length-drop}
 use lib.Seq.{take-at, take-add}
 use lib.IntN.{ℤ}
 use Rattle.definitions.specs.Codes.{DONE}
-use Rattle.record.specs.Numbers.{body, coefficientsAt, width}
+use Rattle.widths.specs.Numbers.{body, coefficientsAt, width}
 use Rattle.record.specs.Header.{headerOf, kindIn, widthIn, indexIn, countIn}
-use Rattle.record.proofs.Least.{width-bounds, width-some}
+use Rattle.widths.proofs.Least.{width-bounds, width-some}
 use Rattle.record.proofs.Headers.{right}
 use Rattle.record.proofs.HeaderTrips.{header-same, index-small}
 use Rattle.record.proofs.Passes.{length-at}
-use Rattle.record.proofs.Digits.{Bytes, bytes-drop, body-coefficients}
+use Rattle.widths.proofs.Digits.{Bytes, bytes-drop, body-coefficients}
 use Rattle.shelf.specs.Format.{recordOf, size, writeTells, writeAnswer, writeLeaves, coefficientsIn, sizeIn}
 use Rattle.shelf.specs.Format.{readCode, readLeaves}
 use Rattle.shelf.proofs.Writing.{stored, index-right}

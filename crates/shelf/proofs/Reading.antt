@@ -12,7 +12,7 @@ use lib.Dec.{eqb}
 use borrow.Author.Tests.{eq-eqb, ne-eqb, lt-ltb, le-ltb}
 use Rattle.definitions.specs.Answer.{heightOf}
 use Rattle.definitions.specs.Codes.{DONE, SHORT, CUT, FIELD, WIDTH}
-use Rattle.record.specs.Numbers.{coefficientsAt, widths, leastOf, width}
+use Rattle.widths.specs.Numbers.{coefficientsAt, widths, leastOf, width}
 use Rattle.record.specs.Header.{widthIn, countIn, headerCode}
 use Rattle.record.proofs.Passes.{length-at}
 use Rattle.record.proofs.Headers.{header-codes}

@@ -12,7 +12,7 @@ use lib.Dec.{eqb}
 use Rattle.definitions.specs.Codes.{DONE}
 use Rattle.definitions.specs.Polynomials.{degree}
 use Rattle.record.specs.Header.{countIn}
-use Rattle.record.proofs.Digits.{bytes-each}
+use Rattle.widths.proofs.Digits.{bytes-each}
 use Rattle.shelf.specs.declared.Written.{Written}
 use Rattle.shelf.specs.declared.Record.{Record}
 use Rattle.shelf.specs.Format.{recordOf, size, writeCode, writeTells, writeAnswer, writeLeaves, degreeIn}

@@ -12,10 +12,10 @@ use Rattle.definitions.specs.Answer.{heightOf}
 use Rattle.definitions.specs.Steps.{largest}
 use Rattle.definitions.specs.Codes.{DONE}
 use Rattle.definitions.specs.Polynomials.{degree}
-use Rattle.record.specs.Numbers.{body, widths, oneOf, width}
+use Rattle.widths.specs.Numbers.{body, widths, oneOf, width}
 use Rattle.record.specs.Header.{headerOf, isKind, countIn}
-use Rattle.record.proofs.Least.{Fitting, width-none, width-some}
-use Rattle.record.proofs.Digits.{coefficients-body}
+use Rattle.widths.proofs.Least.{Fitting, width-none, width-some}
+use Rattle.widths.proofs.Digits.{coefficients-body}
 use Rattle.record.proofs.Headers.{length-header, header-right}
 use Rattle.record.proofs.HeaderTrips.{marked-back, kind-back, width-back, index-back, count-back}
 use Rattle.shelf.specs.Format.{recordOf, size, writeCode, writeLeaves, degreeIn, coefficientsIn, sizeIn}

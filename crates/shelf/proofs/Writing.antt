@@ -13,7 +13,7 @@ use borrow.Author.Tests.{eq-eqb, ne-eqb, lt-ltb, le-ltb}
 use Rattle.definitions.specs.Answer.{heightOf}
 use Rattle.definitions.specs.Codes.{DONE, KIND, INDEX, SHORT, OVER, FIELD}
 use Rattle.definitions.specs.Steps.{largest}
-use Rattle.record.specs.Numbers.{body, width}
+use Rattle.widths.specs.Numbers.{body, width}
 use Rattle.record.specs.Header.{headerOf, isKind}
 use Rattle.record.proofs.Passes.{sets-append, length-body}
 use Rattle.record.proofs.Headers.{length-header}

@@ -11,7 +11,7 @@ use Rattle.definitions.specs.Answer.{heightOf}
 use Rattle.definitions.specs.Polynomials.{degree}
 use Rattle.definitions.specs.Steps.{largest}
 use Rattle.definitions.specs.Codes.{DONE, KIND, INDEX, SHORT, OVER, CUT, FIELD, WIDTH}
-use Rattle.record.specs.Numbers.{body, coefficientsAt, width}
+use Rattle.widths.specs.Numbers.{body, coefficientsAt, width}
 use Rattle.record.specs.Header.{headerOf, isKind, kindIn, widthIn, indexIn, countIn, headerCode}
 use Rattle.shelf.specs.declared.Written.{Written}
 use Rattle.shelf.specs.declared.Record.{Record}

@@ -6,7 +6,7 @@ use lib.ListN.{set, take}
 use lib.IntN.{ℤ, pos, negsuc}
 use Rattle.definitions.specs.Codes.{DONE, KIND, INDEX, SHORT, OVER, CUT, MARK, FIELD, WIDTH}
 use Rattle.definitions.specs.Answer.{heightOf}
-use Rattle.record.specs.Numbers.{bytesOf, number, top, twos, signedOf, body, coefficientsAt, oneOf, leastOf, width}
+use Rattle.widths.specs.Numbers.{bytesOf, number, top, twos, signedOf, body, coefficientsAt, oneOf, leastOf, width}
 use Rattle.record.specs.Header.{headerOf, isKind, marked, kindIn, widthIn, indexIn, countIn, fieldsRight, headerCode}
 use Rattle.shelf.specs.Format.{recordOf, size, writeCode, coefficientsIn, sizeIn, readCode}
 

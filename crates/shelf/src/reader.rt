@@ -5,7 +5,7 @@ use record::field;
 use record::fill;
 use record::height_in;
 use record::index_in;
-use record::least_width;
+use widths::least_width;
 ghost use mathlib.Core.Path.{_≡_};
 ghost use Prim.Native.Nat.{_≤_};
 ghost use lib.ListN.{length};

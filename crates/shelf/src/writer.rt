@@ -1,14 +1,14 @@
 // The writer: looks at everything, then stores.
 use super::Written;
 use record::is_kind;
-use record::least_width;
 use record::put_body;
 use record::put_header;
+use widths::least_width;
 ghost use mathlib.Core.Path.{_≡_};
 ghost use Prim.Native.Nat.{_<_, _≤_};
 ghost use mathlib.Core.List.{_++_};
 ghost use lib.ListN.{length, drop};
-ghost use Rattle.record.specs.Numbers.{width};
+ghost use Rattle.widths.specs.Numbers.{width};
 ghost use Rattle.shelf.specs.Format.{recordOf, size, writeAnswer, writeLeaves};
 
 // The record, in bytes of which there are enough.

@@ -2,7 +2,7 @@
 use mathlib.Core.Path.{_∙_, ap}
 use borrow.Author.Needs.{needs}
 use Rattle.heights.proofs.Signs.{passed}
-use Rattle.record.specs.Numbers.{signedOf}
+use Rattle.widths.specs.Numbers.{signedOf}
 use Rattle.record.proofs.bytes.coefficient.Statement.{statement}
 use Rattle.record.proofs.bytes.coefficient.Tie as tie
 

@@ -5,7 +5,7 @@ use native.Mathlib.Omega.{arith}
 use lib.ListN.{length, drop, length-set}
 use lib.Seq.{sets}
 use Rattle.heights.proofs.Signs.{passed}
-use Rattle.record.specs.Numbers.{coefficientsAt}
+use Rattle.widths.specs.Numbers.{coefficientsAt}
 use Rattle.record.proofs.Passes.{fill-turn, fill-none, one-less}
 use Rattle.record.proofs.bytes.fill.Statement.{statement}
 use Rattle.record.proofs.bytes.fill.Tie as tie

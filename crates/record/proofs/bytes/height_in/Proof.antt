@@ -7,7 +7,7 @@ use borrow.Author.Needs.{needs}
 use lib.ListN.{length, drop}
 use Rattle.definitions.specs.Answer.{heightOf}
 use Rattle.heights.proofs.Signs.{passed}
-use Rattle.record.specs.Numbers.{coefficientsAt}
+use Rattle.widths.specs.Numbers.{coefficientsAt}
 use Rattle.record.proofs.Passes.{look-turn, look-none, one-less}
 use Rattle.record.proofs.bytes.height_in.Statement.{statement}
 use Rattle.record.proofs.bytes.height_in.Tie as tie

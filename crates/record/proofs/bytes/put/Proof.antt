@@ -4,7 +4,7 @@ use mathlib.Core.Path.{_≡_, refl, sym, _∙_}
 use native.Mathlib.Omega.{arith}
 use lib.ListN.{length, length-set}
 use lib.Seq.{sets}
-use Rattle.record.specs.Numbers.{bytesOf}
+use Rattle.widths.specs.Numbers.{bytesOf}
 use Rattle.record.proofs.Passes.{put-turn, put-none}
 use Rattle.record.proofs.bytes.put.Statement.{statement}
 use Rattle.record.proofs.bytes.put.Tie as tie

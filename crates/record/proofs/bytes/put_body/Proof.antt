@@ -8,7 +8,7 @@ use lib.IntN.{pos, natAbs}
 use Rattle.definitions.specs.Answer.{heightOf}
 use Rattle.heights.proofs.Signs.{passed}
 use Rattle.heights.proofs.Looks.{height-left}
-use Rattle.record.specs.Numbers.{body, top}
+use Rattle.widths.specs.Numbers.{body, top}
 use Rattle.record.proofs.Passes.{body-turn, body-none, body-left}
 use Rattle.record.proofs.bytes.put_body.Statement.{statement}
 use Rattle.record.proofs.bytes.put_body.Tie as tie

@@ -6,7 +6,7 @@ use mathlib.Core.List.{List}
 use lib.ListN.{length}
 use borrow.Author.Needs.{needs}
 use borrow.Author.Tests.{not-true, not-false}
-use Rattle.record.specs.Numbers.{widths, oneOf}
+use Rattle.widths.specs.Numbers.{widths, oneOf}
 use Rattle.record.specs.Header.{isKind, marked, kindIn, widthIn}
 use Rattle.record.proofs.Headers.{header-short, header-unmarked, header-kind, header-width, header-zero}
 use Rattle.record.proofs.Headers.{header-right}

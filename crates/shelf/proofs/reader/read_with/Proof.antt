@@ -5,9 +5,9 @@ use mathlib.Core.List.{List}
 use native.Mathlib.Omega.{arith}
 use borrow.Author.Needs.{needs}
 use lib.Dec.{lit<}
-use Rattle.record.specs.Numbers.{width}
+use Rattle.widths.specs.Numbers.{width}
 use Rattle.record.specs.Header.{kindIn, widthIn, countIn}
-use Rattle.record.proofs.Widths.{few}
+use Rattle.widths.proofs.Widths.{few}
 use Rattle.record.proofs.Headers.{right, in-bounds}
 use Rattle.shelf.specs.Format.{coefficientsIn, sizeIn, readTells}
 use Rattle.shelf.proofs.Told.{told}

@@ -1,7 +1,7 @@
 -- `store`: the header and then the body are the record (Writing).
 use native.Mathlib.Omega.{arith}
 use borrow.Author.Needs.{needs}
-use Rattle.record.proofs.Least.{width-fits}
+use Rattle.widths.proofs.Least.{width-fits}
 use Rattle.record.proofs.Passes.{length-body}
 use Rattle.shelf.proofs.Writing.{size-made, record-made}
 use Rattle.shelf.proofs.writer.store.Statement.{statement}

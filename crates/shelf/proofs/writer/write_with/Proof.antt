@@ -7,10 +7,10 @@ use lib.Dec.{eqb, ltb}
 use native.Mathlib.Omega.{arith}
 use borrow.Author.Needs.{needs}
 use borrow.Author.Tests.{not-true, not-false}
-use Rattle.record.specs.Numbers.{width}
+use Rattle.widths.specs.Numbers.{width}
 use Rattle.record.specs.Header.{isKind}
-use Rattle.record.proofs.Least.{Fitting, width-none, width-made, width-fits}
-use Rattle.record.proofs.Widths.{few, nonzero}
+use Rattle.widths.proofs.Least.{Fitting, width-none, width-made, width-fits}
+use Rattle.widths.proofs.Widths.{few, nonzero}
 use Rattle.record.proofs.Headers.{kind-small}
 use Rattle.shelf.specs.Format.{size, writeTells}
 use Rattle.shelf.proofs.Told.{told}

@@ -11,7 +11,7 @@ use mir.Syntax.{w64}
 use mir.Val.{SFits, toZ}
 use mir.Facts.{toZ-neg}
 use Rattle.heights.proofs.Signs.{Below, tested}
-use Rattle.record.specs.Numbers.{twos}
+use Rattle.widths.specs.Numbers.{twos}
 
 -- below 0: two's complement
 module _ (x : ℤ) (fit : SFits w64 x) (e : Below true x) where

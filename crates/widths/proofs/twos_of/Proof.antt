@@ -5,11 +5,11 @@ use borrow.Author.Needs.{needs}
 use native.Mathlib.Omega.{arith}
 use lib.IntN.{natAbs}
 use Rattle.heights.proofs.Signs.{casts, turned, natAbs-below, plain}
-use Rattle.record.specs.Numbers.{top}
-use Rattle.record.proofs.Signs.{twos-below, twos-above}
-use Rattle.record.proofs.Widths.{full, top-small}
-use Rattle.record.proofs.numbers.twos_of.Statement.{statement}
-use Rattle.record.proofs.numbers.twos_of.Tie as tie
+use Rattle.widths.specs.Numbers.{top}
+use Rattle.widths.proofs.Signs.{twos-below, twos-above}
+use Rattle.widths.proofs.Widths.{full, top-small}
+use Rattle.widths.proofs.twos_of.Statement.{statement}
+use Rattle.widths.proofs.twos_of.Tie as tie
 
 top-of-requires : tie.Need-top-of-requires
 top-of-requires c κs = search needs

@@ -6,7 +6,7 @@ use native.Mathlib.Nat.{one-mul, mul-le-mul}
 use lib.Pow.{pow-add, pow-pos, pow-mono, shl-exact}
 use lib.IntN.{pos, negsuc}
 use borrow.Author.Tests.{le-leb, lt-leb}
-use Rattle.record.specs.Numbers.{top, signedOf}
+use Rattle.widths.specs.Numbers.{top, signedOf}
 
 -- 2^(8w), half of it and top w
 pub halves : (w : ℕ) → 0 < w → 2 ^ (8 * w) ≡ 2 * 2 ^ (8 * w - 1)

@@ -1,9 +1,9 @@
 -- `is_width`: the tests are those of `oneOf widths`, in its order.
 use borrow.Author.Tests.{ne-eqb}
-use Rattle.record.specs.Numbers.{oneOf}
-use Rattle.record.proofs.Least.{or-false}
-use Rattle.record.proofs.numbers.is_width.Statement.{statement}
-use Rattle.record.proofs.numbers.is_width.Tie as tie
+use Rattle.widths.specs.Numbers.{oneOf}
+use Rattle.widths.proofs.Least.{or-false}
+use Rattle.widths.proofs.is_width.Statement.{statement}
+use Rattle.widths.proofs.is_width.Tie as tie
 
 returns : tie.Need-returns
 unfolding oneOf

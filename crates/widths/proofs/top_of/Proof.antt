@@ -1,9 +1,9 @@
 -- `top_of`: the shift is 2^(8w - 1) (Widths).
 use borrow.Author.Needs.{needs}
 use native.Mathlib.Omega.{arith}
-use Rattle.record.proofs.Widths.{shifted}
-use Rattle.record.proofs.numbers.top_of.Statement.{statement}
-use Rattle.record.proofs.numbers.top_of.Tie as tie
+use Rattle.widths.proofs.Widths.{shifted}
+use Rattle.widths.proofs.top_of.Statement.{statement}
+use Rattle.widths.proofs.top_of.Tie as tie
 
 mul-result : tie.Need-mul-result
 mul-result c = search needs

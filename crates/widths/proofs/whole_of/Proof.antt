@@ -2,9 +2,9 @@
 use borrow.Author.Needs.{needs}
 use mir.Syntax.{w64}
 use mir.Facts.{toZ-pos}
-use Rattle.record.proofs.Signs.{whole}
-use Rattle.record.proofs.numbers.whole_of.Statement.{statement}
-use Rattle.record.proofs.numbers.whole_of.Tie as tie
+use Rattle.widths.proofs.Signs.{whole}
+use Rattle.widths.proofs.whole_of.Statement.{statement}
+use Rattle.widths.proofs.whole_of.Tie as tie
 
 cast-result : tie.Need-cast-result
 cast-result c = search needs

@@ -11,8 +11,8 @@ use lib.Dec.{leb, ltb, eqb}
 use borrow.Author.Tests.{leb-true, eqb-true, eqb-false, eq-eqb, le-ltb, ltb-false, le-leb}
 use Rattle.definitions.specs.Answer.{heightOf}
 use Rattle.definitions.specs.Steps.{largest}
-use Rattle.record.specs.Numbers.{top, widths, oneOf, leastOf, width}
-use Rattle.record.proofs.Widths.{full, full-mono}
+use Rattle.widths.specs.Numbers.{top, widths, oneOf, leastOf, width}
+use Rattle.widths.proofs.Widths.{full, full-mono}
 
 pub or-right : (a b : Bool) → b ≡ true → (a || b) ≡ true
 or-right true b e = refl

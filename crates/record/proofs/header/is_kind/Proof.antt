@@ -1,8 +1,8 @@
 -- `is_kind`: the tests are those of `isKind`.
 use borrow.Author.Tests.{eq-eqb, ne-eqb}
 use Rattle.record.specs.Header.{isKind}
-use Rattle.record.proofs.numbers.is_kind.Statement.{statement}
-use Rattle.record.proofs.numbers.is_kind.Tie as tie
+use Rattle.record.proofs.header.is_kind.Statement.{statement}
+use Rattle.record.proofs.header.is_kind.Tie as tie
 
 returns : tie.Need-returns
 unfolding isKind

@@ -1,16 +1,13 @@
-// How a record holds a number: the leaves of the writer and the reader.
+// Inner: nothing here is offered to callers; each `requires` is shown by `record`. How a record holds a number: the
+// leaves of the writer and the reader.
 ghost use mathlib.Core.Path.{_≡_};
-ghost use Prim.Native.Nat.{ℕ, _+_, _*_, _-_, _<_, _≤_, _^_};
-ghost use lib.ListN.{length, take, drop};
+ghost use Prim.Native.Nat.{_*_, _<_, _≤_, _^_};
 ghost use mathlib.Core.Bool.{cond};
 ghost use lib.IntN.{pos, negsuc, natAbs};
-ghost use lib.Seq.{sets};
-ghost use Rattle.definitions.specs.Answer.{heightOf};
-ghost use Rattle.record.specs.Numbers.{bytesOf, number, top, twos, signedOf, widths, oneOf, leastOf};
-ghost use Rattle.record.specs.Header.{isKind};
+ghost use Rattle.widths.specs.Numbers.{top, twos, signedOf, widths, oneOf, leastOf};
 
 // -(m + 1) or m.
-pub(crate) fn whole_of(below: bool, m: u64) -> i64
+fn whole_of(below: bool, m: u64) -> i64
     requires { ⌜ m < 2 ^ 63 ⌝ }
     ensures { λ r. ⌜ r ≡ cond below (negsuc m) (pos m) ⌝ }
 {
@@ -18,7 +15,7 @@ pub(crate) fn whole_of(below: bool, m: u64) -> i64
 }
 
 // The largest height that w bytes take.
-pub(crate) fn top_of(w: usize) -> u64
+fn top_of(w: usize) -> u64
     requires { ⌜ (0 < w) × (w ≤ 8) ⌝ }
     ensures { λ r. ⌜ r ≡ top w ⌝ }
 {
@@ -26,7 +23,7 @@ pub(crate) fn top_of(w: usize) -> u64
 }
 
 // Two's complement of x in w bytes, which take it.
-pub(crate) fn twos_of(x: i64, w: usize) -> u64
+pub fn twos_of(x: i64, w: usize) -> u64
     requires { ⌜ (0 < w) × (w ≤ 8) × (natAbs x ≤ top w) ⌝ }
     ensures { λ r. ⌜ r ≡ twos w x ⌝ }
 {
@@ -39,7 +36,7 @@ pub(crate) fn twos_of(x: i64, w: usize) -> u64
 }
 
 // The number that v stands for in w bytes.
-pub(crate) fn signed_of(v: u64, w: usize) -> i64
+pub fn signed_of(v: u64, w: usize) -> i64
     requires { ⌜ (0 < w) × (w ≤ 8) × (v < 2 ^ (8 * w)) ⌝ }
     ensures { λ r. ⌜ r ≡ signedOf w v ⌝ }
 {
@@ -68,13 +65,7 @@ pub fn least_width(h: u64) -> usize
     }
 }
 
-pub fn is_kind(kind: u64) -> bool
-    ensures { λ r. ⌜ r ≡ isKind kind ⌝ }
-{
-    kind == 1 || kind == 2
-}
-
-pub(crate) fn is_width(w: u64) -> bool
+pub fn is_width(w: u64) -> bool
     ensures { λ r. ⌜ r ≡ oneOf widths w ⌝ }
 {
     if w == 1 {

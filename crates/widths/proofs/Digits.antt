@@ -11,9 +11,8 @@ use lib.Seq.{take-at, drop-at, take-add, length-take-le}
 use lib.IntN.{ℤ, pos, negsuc, natAbs}
 use borrow.Author.Tests.{le-leb, lt-leb}
 use Rattle.definitions.specs.Answer.{heightOf}
-use Rattle.record.specs.Numbers.{bytesOf, number, top, twos, signedOf, body, coefficientsAt}
-use Rattle.record.proofs.Widths.{full, full-suc}
-use Rattle.record.proofs.Passes.{length-bytesOf}
+use Rattle.widths.specs.Numbers.{bytesOf, number, top, twos, signedOf, body, coefficientsAt}
+use Rattle.widths.proofs.Widths.{full, full-suc}
 
 -- a list of bytes, and its parts
 abbrev pub Bytes : List ℕ → Type 0
@@ -35,11 +34,6 @@ bytes-drop (suc n) [] p = tt
 bytes-drop (suc n) (b ∷ bs) p = bytes-drop n bs (p .1)
 
 -- numbers
-pub number-bytes : (w v : ℕ) → v < 2 ^ (8 * w) → number (bytesOf w v) ≡ v
-unfolding bytesOf number
-number-bytes zero v h = omega arith
-number-bytes (suc w) v h = rw (number-bytes w (v / 256) (omega (arith, full-suc w))) (omega arith)
-
 pub bytes-number : (w : ℕ) (bs : List ℕ) → length bs ≡ w → Bytes bs → bytesOf w (number bs) ≡ bs
 unfolding bytesOf number
 bytes-number zero [] e p = refl
@@ -50,12 +44,22 @@ bytes-number (suc w) (b ∷ bs) e p =
     let high : (b + 256 * number bs) / 256 ≡ number bs = omega arith in
     rw (low, high, bytes-number w bs (omega arith) (p .1))
 
+pub number-bytes : (w v : ℕ) → v < 2 ^ (8 * w) → number (bytesOf w v) ≡ v
+unfolding bytesOf number
+number-bytes zero v h = omega arith
+number-bytes (suc w) v h = rw (number-bytes w (v / 256) (omega (arith, full-suc w))) (omega arith)
+
 pub number-less : (w : ℕ) (bs : List ℕ) → length bs ≡ w → Bytes bs → number bs < 2 ^ (8 * w)
 unfolding number
 number-less zero [] e p = omega arith
 number-less zero (b ∷ bs) e p = absurd (omega arith)
 number-less (suc w) [] e p = absurd (omega arith)
 number-less (suc w) (b ∷ bs) e p = omega (arith, full-suc w, number-less w bs (omega arith) (p .1))
+
+pub length-bytesOf : (w v : ℕ) → length (bytesOf w v) ≡ w
+unfolding bytesOf
+length-bytesOf zero v = refl
+length-bytesOf (suc w) v = ap suc (length-bytesOf w (v / 256))
 
 -- two's complement
 pub twos-less : (w : ℕ) (z : ℤ) → 0 < w → natAbs z ≤ top w → twos w z < 2 ^ (8 * w)

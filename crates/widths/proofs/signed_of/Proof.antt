@@ -4,10 +4,10 @@ use mathlib.Core.Path.{_∙_}
 use borrow.Author.Needs.{needs}
 use native.Mathlib.Omega.{arith}
 use Rattle.heights.proofs.Signs.{passed}
-use Rattle.record.specs.Numbers.{top}
-use Rattle.record.proofs.Widths.{full, top-small, signed-low, signed-high}
-use Rattle.record.proofs.numbers.signed_of.Statement.{statement}
-use Rattle.record.proofs.numbers.signed_of.Tie as tie
+use Rattle.widths.specs.Numbers.{top}
+use Rattle.widths.proofs.Widths.{full, top-small, signed-low, signed-high}
+use Rattle.widths.proofs.signed_of.Statement.{statement}
+use Rattle.widths.proofs.signed_of.Tie as tie
 
 top-of-requires : tie.Need-top-of-requires
 top-of-requires c κs = search needs

@@ -1,8 +1,8 @@
 -- `least_width`: the tests are those of `leastOf`, in its order, with the tops computed.
 use borrow.Author.Tests.{le-leb, lt-leb}
-use Rattle.record.specs.Numbers.{leastOf, top}
-use Rattle.record.proofs.numbers.least_width.Statement.{statement}
-use Rattle.record.proofs.numbers.least_width.Tie as tie
+use Rattle.widths.specs.Numbers.{leastOf, top}
+use Rattle.widths.proofs.least_width.Statement.{statement}
+use Rattle.widths.proofs.least_width.Tie as tie
 
 returns : tie.Need-returns
 unfolding leastOf top

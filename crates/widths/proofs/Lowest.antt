@@ -13,8 +13,8 @@ use lib.Dec.{eqb, ltb}
 use borrow.Author.Tests.{eqb-true, eqb-false, ltb-true, ltb-false, lt-ltb}
 use Rattle.definitions.specs.Answer.{heightOf}
 use Rattle.definitions.specs.Steps.{largest}
-use Rattle.record.specs.Numbers.{width}
-use Rattle.record.proofs.Least.{width-some}
+use Rattle.widths.specs.Numbers.{width}
+use Rattle.widths.proofs.Least.{width-some}
 
 abbrev pub lowest : ℤ
 lowest = negsuc 9223372036854775807

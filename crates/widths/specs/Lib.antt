@@ -1,0 +1,2 @@
+-- How a record holds numbers.
+pub mod Numbers
