@@ -1,7 +1,7 @@
 // One step on the kept half. Where the magnitudes of its entries are known to be small enough it needs no test.
 use passes::Sort;
-use passes::untested_step;
 use steps::Step;
+use untested::untested_step;
 ghost use Prim.Native.Nat.{ℕ, _+_, _*_, _≤_};
 ghost use mathlib.Core.Path.{_≡_};
 ghost use mathlib.Core.Bool.{false};

@@ -1,7 +1,5 @@
--- Laws that the functions' proofs share.
+-- Laws that the functions' proofs share, here and in `untested`.
 pub mod Split
 pub mod Places
 pub mod PassedTo
 pub mod TestedTo
-pub mod FourEntries
-pub mod Fitting

@@ -29,7 +29,7 @@ fn new_value_fits(sort: Sort, x: i64, y: i64) -> bool
     }
 }
 
-pub(crate) fn new_value(sort: Sort, x: i64, y: i64) -> i64
+pub fn new_value(sort: Sort, x: i64, y: i64) -> i64
     requires { ⌜ SFits w64 (newValue (sortMeans sort) x y) ⌝ }
     ensures { λ r. ⌜ r ≡ newValue (sortMeans sort) x y ⌝ }
 {
@@ -49,21 +49,21 @@ pub(crate) fn new_entry_fits(sort: Sort, a: &[i64], i: usize, d: usize) -> bool
     new_value_fits(sort, a[i], a[i - d])
 }
 
-pub(crate) fn new_entry(sort: Sort, a: &[i64], i: usize, d: usize) -> i64
+pub fn new_entry(sort: Sort, a: &[i64], i: usize, d: usize) -> i64
     requires { ⌜ (d ≤ i) × (i < length (now a)) × SFits w64 (newEntry (sortMeans sort) d (now a) i) ⌝ }
     ensures { λ r. ⌜ r ≡ newEntry (sortMeans sort) d (now (a .entry)) i ⌝ }
 {
     new_value(sort, a[i], a[i - d])
 }
 
-pub(crate) fn read_entry(a: &[i64], i: usize) -> i64
+pub fn read_entry(a: &[i64], i: usize) -> i64
     requires { ⌜ i < length (now a) ⌝ }
     ensures { λ r. ⌜ (r ≡ entries (now (a .entry)) i) × SFits w64 (entries (now (a .entry)) i) ⌝ }
 {
     a[i]
 }
 
-pub(crate) fn put(a: &mut [i64], i: usize, v: i64)
+pub fn put(a: &mut [i64], i: usize, v: i64)
     requires { ⌜ i < length (now a) ⌝ }
     ensures { λ _. ⌜ now (a .exit) ≡ set (now (a .entry)) i v ⌝ }
 {
@@ -71,7 +71,7 @@ pub(crate) fn put(a: &mut [i64], i: usize, v: i64)
 }
 
 // The step at one place.
-pub(crate) fn step_entry(sort: Sort, a: &mut [i64], i: usize, d: usize)
+pub fn step_entry(sort: Sort, a: &mut [i64], i: usize, d: usize)
     requires { ⌜ (d ≤ i) × (i < length (now a)) × SFits w64 (newEntry (sortMeans sort) d (now a) i) ⌝ }
     ensures { λ _. ⌜ now (a .exit) ≡ set (now (a .entry)) i (newEntry (sortMeans sort) d (now (a .entry)) i) ⌝ }
 {

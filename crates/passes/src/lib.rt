@@ -1,15 +1,18 @@
-// Inner: nothing here but `Sort` is offered to callers; each `requires` is shown by the callers `steps` and
-// `polynomial`. The passes of a step over a slice, of either sort: the tested one, whole or not at all, and the
-// untested one. The loops are written over the sort, which the compiler takes out of them.
+// Inner: nothing here but `Sort` is offered to callers; each `requires` is shown by the callers `steps` and `untested`.
+// A step at one entry, the order in which a pass takes its places, and the tested pass over a slice, of either sort,
+// whole or not at all. The loops are written over the sort, which the compiler takes out of them.
 
 mod entry;
-mod fours;
 mod order;
 mod tested;
-mod untested;
 
+pub use entry::new_entry;
+pub use entry::new_value;
+pub use entry::put;
+pub use entry::read_entry;
+pub use entry::step_entry;
+pub use order::place;
 pub use tested::step_or_undo;
-pub use untested::untested_step;
 
 pub enum Sort {
     Comb,

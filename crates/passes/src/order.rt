@@ -8,7 +8,7 @@ ghost use Rattle.passes.specs.Passes.{place, opposite};
 use crate::Sort;
 
 // The place that is taken after t others; or the lowest of the `count` places that are.
-pub(crate) fn place(sort: Sort, count: usize, t: usize, d: usize, n: usize) -> usize
+pub fn place(sort: Sort, count: usize, t: usize, d: usize, n: usize) -> usize
     requires { ⌜ t + count + d ≤ n ⌝ }
     ensures { λ r. ⌜ r ≡ place (sortMeans sort) count d n t ⌝ }
 {

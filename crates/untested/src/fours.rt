@@ -6,12 +6,12 @@ ghost use mathlib.Core.Bool.{true};
 ghost use Prim.Native.Nat.{_+_, _≤_};
 ghost use lib.ListN.{length};
 ghost use Rattle.definitions.specs.Steps.{stepped, entries};
 ghost use Rattle.passes.specs.Sorts.{sortMeans};
 ghost use Rattle.passes.specs.Passes.{newEntry, Fit, setFour, FoursApart, PassedTo};
-use crate::Sort;
-use crate::entry::new_entry;
-use crate::entry::put;
-use crate::order::place;
+use passes::Sort;
+use passes::new_entry;
+use passes::place;
+use passes::put;
 
 // The step at the four places from k on, at once.
 fn step_four_entries(sort: Sort, a: &mut [i64], k: usize, d: usize)

@@ -1,4 +1,4 @@
--- `passes::untested::accumulate_size_one` meets its contract: the invariant is the split at i, and that s is the new
+-- `untested::accumulate_size_one` meets its contract: the invariant is the split at i, and that s is the new
 -- entry before it.
 use mathlib.Core.Path.{_≡_, refl, sym, _∙_, ap, ap₂}
 use mathlib.Core.List.{List}
@@ -12,10 +12,10 @@ use Rattle.definitions.specs.Integers.{_⊕_}
 use Rattle.definitions.specs.Steps.{accumulated, entries}
 use Rattle.step_laws.specs.Machine.{seen, handed}
 use Rattle.step_laws.specs.Accumulated.{accumulated-from, accumulated-below}
 use Rattle.passes.specs.Passes.{Split}
 use Rattle.passes.proofs.Split.{moved-up, all-below}
-use Rattle.passes.proofs.untested.accumulate_size_one.Statement.{statement}
-use Rattle.passes.proofs.untested.accumulate_size_one.Tie as tie
+use Rattle.untested.proofs.accumulate_size_one.Statement.{statement}
+use Rattle.untested.proofs.accumulate_size_one.Tie as tie
 
 abbrev Inv-loop : tie.InvT-loop
 Inv-loop a₀ s₀ i₀ a s i =

@@ -1,13 +1,13 @@
--- `passes::fours::step_four_entries` meets its contract: four values computed before the first is put.
+-- `untested::fours::step_four_entries` meets its contract: four values computed before the first is put.
 use Prim.Native.Nat.{_+_}
 use native.Mathlib.Omega.{arith}
 use Rattle.step_laws.specs.Machine.{handed}
 use Rattle.passes.specs.Sorts.{sortMeans}
 use Rattle.passes.specs.Passes.{newEntry}
-use Rattle.passes.proofs.FourEntries.{four-is}
+use Rattle.untested.proofs.FourEntries.{four-is}
 use borrow.Author.Needs.{needs}
-use Rattle.passes.proofs.fours.step_four_entries.Statement.{statement}
-use Rattle.passes.proofs.fours.step_four_entries.Tie as tie
+use Rattle.untested.proofs.fours.step_four_entries.Statement.{statement}
+use Rattle.untested.proofs.fours.step_four_entries.Tie as tie
 
 add-k1 : tie.Need-add-k1
 add-k1 c = search needs

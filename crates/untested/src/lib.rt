@@ -1,5 +1,7 @@
-// The steps without a test of the range, where it is known that no value leaves it: by fours, and one by one what they
-// leave.
+// Inner: each `requires` is shown by the caller `kept`. The steps without a test of the range, where it is known that
+// no value leaves it: by fours, and one by one what they leave.
+
+mod fours;
 
 ghost use mathlib.Core.Path.{_≡_};
 ghost use mathlib.Core.Bool.{false};
@@ -8,15 +10,15 @@ ghost use Prim.Native.Nat.{_≤_, _<_};
 ghost use lib.ListN.{length};
 ghost use lib.IntN.{ℤ};
 ghost use Rattle.definitions.specs.Steps.{comb, accumulate, accumulated, entries, largest, stepOver, stepList};
 ghost use Rattle.passes.specs.Sorts.{sortMeans};
 ghost use Rattle.passes.specs.Passes.{All, Fit, PassedTo, Fitting};
-use crate::Sort;
-use crate::entry::new_value;
-use crate::entry::put;
-use crate::entry::read_entry;
-use crate::entry::step_entry;
-use crate::fours::take_fours;
-use crate::order::place;
+use fours::take_fours;
+use passes::Sort;
+use passes::new_value;
+use passes::place;
+use passes::put;
+use passes::read_entry;
+use passes::step_entry;
 
 // Takes the places that are left after `from` others, one by one.
 fn take_rest(sort: Sort, a: &mut [i64], d: usize, from: usize)

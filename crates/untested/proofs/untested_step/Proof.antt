@@ -1,10 +1,10 @@
--- `passes::untested::untested_step` meets its contract: each arm does the step of its own sort.
+-- `untested::untested_step` meets its contract: each arm does the step of its own sort.
 use mathlib.Core.Path.{sym}
 use native.Mathlib.Omega.{arith}
 use borrow.Author.Needs.{needs}
 use Rattle.step_laws.specs.Step.{long-stays}
-use Rattle.passes.proofs.untested.untested_step.Statement.{statement}
-use Rattle.passes.proofs.untested.untested_step.Tie as tie
+use Rattle.untested.proofs.untested_step.Statement.{statement}
+use Rattle.untested.proofs.untested_step.Tie as tie
 
 returns : tie.Need-returns
 returns c = sym (long-stays _ (c .before .args .d) (c .before .args .a .now) (c .if1 .taken))

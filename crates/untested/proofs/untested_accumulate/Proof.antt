@@ -1,15 +1,15 @@
--- `passes::untested::untested_accumulate` meets its contract: as a running sum, or by fours and then one by one.
+-- `untested::untested_accumulate` meets its contract: as a running sum, or by fours and then one by one.
 use mathlib.Core.Path.{sym, _∙_, ap, subst}
 use native.Mathlib.Omega.{arith}
 use borrow.Author.Needs.{needs}
 use lib.ListN.{length}
 use Rattle.definitions.specs.Series.{firsts}
 use Rattle.definitions.specs.Steps.{accumulate, accumulated, entries, stepped, stepList}
 use Rattle.passes.specs.Passes.{Fit}
 use Rattle.passes.proofs.Split.{all-firsts}
-use Rattle.passes.proofs.Fitting.{all-fit, fitting}
-use Rattle.passes.proofs.untested.untested_accumulate.Statement.{statement}
-use Rattle.passes.proofs.untested.untested_accumulate.Tie as tie
+use Rattle.untested.proofs.Fitting.{all-fit, fitting}
+use Rattle.untested.proofs.untested_accumulate.Statement.{statement}
+use Rattle.untested.proofs.untested_accumulate.Tie as tie
 
 accumulate-size-one-requires : tie.Need-accumulate-size-one-requires
 unfolding stepped

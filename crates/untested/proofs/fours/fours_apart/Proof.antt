@@ -1,9 +1,9 @@
--- `passes::fours::fours_apart` meets its contract: a comb's places are always near, an accumulate's where d is four.
+-- `untested::fours::fours_apart` meets its contract: a comb's places are always near, an accumulate's where d is four.
 use borrow.Author.Needs.{needs}
 use borrow.Author.Tests.{leb-true}
 use native.Mathlib.Omega.{arith}
-use Rattle.passes.proofs.fours.fours_apart.Statement.{statement}
-use Rattle.passes.proofs.fours.fours_apart.Tie as tie
+use Rattle.untested.proofs.fours.fours_apart.Statement.{statement}
+use Rattle.untested.proofs.fours.fours_apart.Tie as tie
 
 enum-told : tie.Need-enum-told
 enum-told c = search needs

@@ -1,15 +1,15 @@
--- `passes::fours::take_fours` meets its contract, which is the loop's invariant: t places are taken.
+-- `untested::fours::take_fours` meets its contract, which is the loop's invariant: t places are taken.
 use mathlib.Core.Path.{_≡_, refl}
 use Prim.Native.Nat.{ℕ, _+_, _-_, _<_, _≤_}
 use native.Mathlib.Omega.{arith}
 use borrow.Author.Tests.{not-false}
 use lib.ListN.{length}
 use Rattle.passes.specs.Sorts.{sortMeans}
 use Rattle.passes.specs.Passes.{newEntry, FoursApart, PassedTo}
 use Rattle.passes.proofs.PassedTo.{start}
-use Rattle.passes.proofs.FourEntries.{fours-from, fours-below, fours-are, fours-next}
-use Rattle.passes.proofs.fours.take_fours.Statement.{statement}
-use Rattle.passes.proofs.fours.take_fours.Tie as tie
+use Rattle.untested.proofs.FourEntries.{fours-from, fours-below, fours-are, fours-next}
+use Rattle.untested.proofs.fours.take_fours.Statement.{statement}
+use Rattle.untested.proofs.fours.take_fours.Tie as tie
 
 abbrev Inv-loop : tie.InvT-loop
 Inv-loop sort a₀ d places t₀ a t = PassedTo (sortMeans sort) d a₀ a t

@@ -1,15 +1,15 @@
--- `passes::untested::take_rest` meets its contract. The invariant: of whatever list `from` places were taken, t are.
+-- `untested::take_rest` meets its contract. The invariant: of whatever list `from` places were taken, t are.
 use mathlib.Core.Path.{sym, _∙_}
 use mathlib.Core.List.{List}
 use Prim.Native.Nat.{_+_, _-_, _≤_}
 use native.Mathlib.Omega.{arith}
 use lib.ListN.{length}
 use lib.IntN.{ℤ}
 use Rattle.passes.specs.Sorts.{sortMeans}
 use Rattle.passes.specs.Passes.{PassedTo}
 use Rattle.passes.proofs.PassedTo.{next, next-from, next-below, next-is, ended}
-use Rattle.passes.proofs.untested.take_rest.Statement.{statement}
-use Rattle.passes.proofs.untested.take_rest.Tie as tie
+use Rattle.untested.proofs.take_rest.Statement.{statement}
+use Rattle.untested.proofs.take_rest.Tie as tie
 
 abbrev Inv-loop : tie.InvT-loop
 Inv-loop sort a₀ d from places t₀ a t =

@@ -1,10 +1,10 @@
--- `passes::untested::untested_comb` meets its contract: by fours and then one by one.
+-- `untested::untested_comb` meets its contract: by fours and then one by one.
 use native.Mathlib.Omega.{arith}
 use borrow.Author.Needs.{needs}
 use Rattle.definitions.specs.Steps.{comb}
-use Rattle.passes.proofs.Fitting.{all-fit, fitting}
-use Rattle.passes.proofs.untested.untested_comb.Statement.{statement}
-use Rattle.passes.proofs.untested.untested_comb.Tie as tie
+use Rattle.untested.proofs.Fitting.{all-fit, fitting}
+use Rattle.untested.proofs.untested_comb.Statement.{statement}
+use Rattle.untested.proofs.untested_comb.Tie as tie
 
 take-fours-requires : tie.Need-take-fours-requires
 take-fours-requires c κs =

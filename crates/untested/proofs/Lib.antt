@@ -1,0 +1,3 @@
+-- Laws that the functions' proofs share.
+pub mod FourEntries
+pub mod Fitting
