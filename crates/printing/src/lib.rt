@@ -24,6 +24,21 @@ pub fn signed_item(c: i64) {
     io::write_all(1, b" ");
 }
 
+// A number after a space.
+pub fn spaced(n: u64) {
+    io::write_all(1, b" ");
+    io::print_decimal(1, n);
+}
+
+// The bytes of a slice, each in two hexadecimal digits.
+pub fn hex(bytes: &[u8]) {
+    let mut i = 0;
+    while i < bytes.len() {
+        io::print_hex(1, bytes[i] as u64, 2);
+        i += 1;
+    }
+}
+
 // All entries of a slice, each between these two strings, and the end of the line.
 pub fn entries(before: &[u8], a: &[i64], after: &[u8]) {
     let mut i = 0;

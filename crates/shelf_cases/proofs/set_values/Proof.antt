@@ -5,8 +5,8 @@ use native.Mathlib.Omega.{arith}
 use native.Mathlib.Nat.{mod-lt}
 use borrow.Author.Needs.{needs}
 use lib.ListN.{length}
-use Rattle.trial_shelf.proofs.set_values.Statement.{statement}
-use Rattle.trial_shelf.proofs.set_values.Tie as tie
+use Rattle.shelf_cases.proofs.set_values.Statement.{statement}
+use Rattle.shelf_cases.proofs.set_values.Tie as tie
 
 abbrev Inv-loop : tie.InvT-loop
 Inv-loop coeffs₀ count p i₀ coeffs i = (i ≤ count) × (length coeffs ≡ length coeffs₀)

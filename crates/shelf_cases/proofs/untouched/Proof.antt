@@ -4,8 +4,8 @@ use native.Mathlib.Omega.{arith}
 use borrow.Author.Needs.{needs}
 use lib.ListN.{length}
 use mathlib.Core.Logic.{⊎-elim}
-use Rattle.trial_shelf.proofs.untouched.Statement.{statement}
-use Rattle.trial_shelf.proofs.untouched.Tie as tie
+use Rattle.shelf_cases.proofs.untouched.Statement.{statement}
+use Rattle.shelf_cases.proofs.untouched.Tie as tie
 
 abbrev Inv-loop : tie.InvT-loop
 Inv-loop entries count₀ i₀ count i = (count ≤ i) × (i ≤ length entries)

@@ -1,8 +1,8 @@
 -- `of_bytes`: so many first bytes, where there are so many, are so many.
 use native.Mathlib.Omega.{arith}
 use lib.ListN.{length-take}
-use Rattle.trial_shelf.proofs.of_bytes.Statement.{statement}
-use Rattle.trial_shelf.proofs.of_bytes.Tie as tie
+use Rattle.shelf_cases.proofs.of_bytes.Statement.{statement}
+use Rattle.shelf_cases.proofs.of_bytes.Tie as tie
 
 returns : tie.Need-returns
 returns c = (omega arith, rw length-take (omega arith))
