@@ -1,5 +1,5 @@
-// The cases of the trial of stored records: coefficients at the edges of each width, written and read, and damage done to
-// the bytes between. Each prints what it came to; nothing is promised.
+// The cases of the trial of stored records: coefficients at the edges of each width, written and read, and damage done
+// to the bytes between. Each prints what it came to; nothing is promised.
 use libc::STDOUT_FILENO;
 ghost use mathlib.Core.Path.{_≡_};
 ghost use Prim.Native.Nat.{_≤_};
