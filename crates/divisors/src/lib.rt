@@ -31,6 +31,7 @@ pub enum Next {
     Nothing,
 }
 
+// What the walk hands back: an enum that holds the walk, with its array, can't be had today.
 pub struct NextAndWalk {
     pub next: Next,
     pub walk: Walk,

@@ -93,7 +93,7 @@ pub fn take_apart(n: u64) -> Parts
     parts_of(n)
 }
 
-// The degree of the kind's polynomial, from phi; a phi above n, which no number has, counts as n.
+// The degree of the kind's polynomial, from phi; where phi is above n, which it never is, I has degree 0.
 pub fn degree_from(kind: u64, n: u64, phi: u64) -> u64
     ensures { λ x. ⌜ x ≡ cond (eqb kind 1) phi (n - phi) ⌝ }
 {

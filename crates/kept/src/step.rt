@@ -51,7 +51,7 @@ fn take_tested(a: &mut [i64], sort: Sort, d: u64) -> StepOutcome
     let step = Step { sort, size: d };
     let done = step.apply(a);
     StepOutcome {
-        over: done.code != 0,
+        over: done.code != answers::DONE,
         bound: TOP,
     }
 }
