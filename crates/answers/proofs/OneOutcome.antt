@@ -11,6 +11,12 @@ use Rattle.answers.proofs.Answer.refused.Reads as answer-reads
 use Rattle.answers.proofs.Stop.refused as stop
 use Rattle.answers.proofs.Stop.refused.Kinds as stop-kinds
 use Rattle.answers.proofs.Stop.refused.Reads as stop-reads
+use Rattle.answers.proofs.known_kind as known-kind
+use Rattle.answers.proofs.known_kind.Kinds as known-kind-kinds
+use Rattle.answers.proofs.known_kind.Reads as known-kind-reads
+use Rattle.answers.proofs.good_index as good-index
+use Rattle.answers.proofs.good_index.Kinds as good-index-kinds
+use Rattle.answers.proofs.good_index.Reads as good-index-reads
 
 pub answer-one :
     (κs : Lfts 0) (a : ArgsD answer.signature κs) (z z′ : ResD answer.signature κs)
@@ -23,3 +29,15 @@ pub stop-one :
     (e e′ : AtExit (endedOf 0 stop-kinds.ps stop-kinds.r) κs)
     → stop-reads.Post κs a z e → stop-reads.Post κs a z′ e′ → z ≡ z′
 stop-one κs a z z′ e e′ p p′ = p ∙ sym p′
+
+pub known-kind-one :
+    (κs : Lfts 0) (a : ArgsD known-kind.signature κs) (z z′ : ResD known-kind.signature κs)
+    (e e′ : AtExit (endedOf 0 known-kind-kinds.ps known-kind-kinds.r) κs)
+    → known-kind-reads.Post κs a z e → known-kind-reads.Post κs a z′ e′ → z ≡ z′
+known-kind-one κs a z z′ e e′ p p′ = p ∙ sym p′
+
+pub good-index-one :
+    (κs : Lfts 0) (a : ArgsD good-index.signature κs) (z z′ : ResD good-index.signature κs)
+    (e e′ : AtExit (endedOf 0 good-index-kinds.ps good-index-kinds.r) κs)
+    → good-index-reads.Post κs a z e → good-index-reads.Post κs a z′ e′ → z ≡ z′
+good-index-one κs a z z′ e e′ p p′ = p ∙ sym p′

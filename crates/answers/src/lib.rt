@@ -2,6 +2,7 @@
 // order of the fields is that of the C library.
 
 ghost use mathlib.Core.Path.{_≡_};
+ghost use Rattle.definitions.specs.Requests.{knownKind, goodIndex};
 
 pub const DONE: u64 = 0;
 
@@ -71,4 +72,18 @@ impl Stop {
             due: 0,
         }
     }
+}
+
+// Is the kind 1 or 2?
+pub fn known_kind(kind: u64) -> bool
+    ensures { λ r. ⌜ r ≡ knownKind kind ⌝ }
+{
+    kind == 1 || kind == 2
+}
+
+// Is n from 1 to 65,535?
+pub fn good_index(n: u64) -> bool
+    ensures { λ r. ⌜ r ≡ goodIndex n ⌝ }
+{
+    0 < n && n <= 65535
 }

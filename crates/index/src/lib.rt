@@ -3,13 +3,12 @@
 mod sieve;
 
 use sieve::odd_primes;
-ghost use Prim.Native.Nat.{_*_, _-_, _<_, _≤_};
+ghost use Prim.Native.Nat.{_*_, _-_, _/_, _<_, _≤_};
 ghost use mathlib.Core.Path.{_≡_};
 ghost use mathlib.Core.Bool.{cond};
 ghost use lib.Dec.{eqb, ltb};
 ghost use Rattle.definitions.specs.Numbers.{divides};
 ghost use Rattle.definitions.specs.Polynomials.{degree};
-ghost use Rattle.definitions.specs.Requests.{knownKind, goodIndex};
 ghost use Rattle.index.specs.Parts.{partsOf, takenApart};
 
 // n taken apart: the distinct odd primes, ascending, with zeros after them; how many; r, m and t; `free` is phi(r), and
@@ -22,20 +21,6 @@ pub struct Parts {
     pub t: u64,
     pub free: u64,
     pub phi: u64,
-}
-
-// Is the kind 1 or 2?
-pub fn known_kind(kind: u64) -> bool
-    ensures { λ r. ⌜ r ≡ knownKind kind ⌝ }
-{
-    kind == 1 || kind == 2
-}
-
-// Is n from 1 to 65,535?
-pub fn good_index(n: u64) -> bool
-    ensures { λ r. ⌜ r ≡ goodIndex n ⌝ }
-{
-    0 < n && n <= 65535
 }
 
 // m: r where n is odd, 2 r where it is even
@@ -87,7 +72,7 @@ fn parts_of_none() -> Parts
 pub fn take_apart(n: u64) -> Parts
     ensures { λ x. ⌜ x ≡ takenApart n ⌝ }
 {
-    if !good_index(n) {
+    if !answers::good_index(n) {
         return parts_of_none();
     }
     parts_of(n)
@@ -107,9 +92,16 @@ pub fn degree_from(kind: u64, n: u64, phi: u64) -> u64
 pub fn degree_of(kind: u64, n: u64) -> u64
     ensures { λ r. ⌜ r ≡ cond (ltb 65535 n) 0 (degree kind n) ⌝ }
 {
-    if !good_index(n) {
+    if !answers::good_index(n) {
         return 0;
     }
     let a = parts_of(n);
     degree_from(kind, n, a.phi)
+}
+
+// D, half the degree for r, rounded down; `free` is phi(r).
+pub fn half_degree(kind: u64, r: u64, free: u64) -> usize
+    ensures { λ x. ⌜ x ≡ cond (eqb kind 1) free (r - free) / 2 ⌝ }
+{
+    (degree_from(kind, r, free) / 2) as usize
 }

@@ -9,9 +9,6 @@ use denote.Ref.{now}
 use Rattle.kept.proofs.partial as partial
 use Rattle.kept.proofs.partial.Kinds as partial-kinds
 use Rattle.kept.proofs.partial.Reads as partial-reads
-use Rattle.kept.proofs.stop.half_degree as half-degree
-use Rattle.kept.proofs.stop.half_degree.Kinds as half-degree-kinds
-use Rattle.kept.proofs.stop.half_degree.Reads as half-degree-reads
 
 pub partial-one :
     (κs : Lfts 1) (a : ArgsD partial.signature κs) (z z′ : ResD partial.signature κs)
@@ -19,9 +16,3 @@ pub partial-one :
     partial-reads.Post κs a z e → partial-reads.Post κs a z′ e′
     → (z ≡ z′) × (now (e .1 .1 .1 .0) ≡ now (e′ .1 .1 .1 .0))
 partial-one κs a z z′ e e′ p p′ = (p .0 ∙ sym (p′ .0), p .1 ∙ sym (p′ .1))
-
-pub half-degree-one :
-    (κs : Lfts 0) (a : ArgsD half-degree.signature κs) (z z′ : ResD half-degree.signature κs)
-    (e e′ : AtExit (endedOf 0 half-degree-kinds.ps half-degree-kinds.r) κs)
-    → half-degree-reads.Post κs a z e → half-degree-reads.Post κs a z′ e′ → z ≡ z′
-half-degree-one κs a z z′ e e′ p p′ = p ∙ sym p′

@@ -8,7 +8,6 @@ use answers::Stop;
 use divisors::Walk;
 use index::Parts;
 use run::make_kept_half;
-pub use stop::half_degree;
 ghost use Prim.Native.Nat.{_+_};
 ghost use mathlib.Core.Path.{_≡_};
 ghost use lib.ListN.{length};
@@ -41,10 +40,10 @@ pub fn partial(kind: u64, n: u64, j: u64, buf: &mut [i64]) -> Stop
     ensures { λ r. ⌜ r ≡ Partial.answer kind n j (length (now (buf .entry))) ⌝ }
     ensures { λ _. ⌜ now (buf .exit) ≡ Partial.leaves kind n j (now (buf .entry)) ⌝ }
 {
-    if !index::known_kind(kind) {
+    if !answers::known_kind(kind) {
         return Stop::refused(answers::KIND, 0);
     }
-    if !index::good_index(n) {
+    if !answers::good_index(n) {
         return Stop::refused(answers::INDEX, 0);
     }
     let parts = index::take_apart(n);

@@ -3,27 +3,17 @@ use super::run::make_kept_half;
 use answers::Stop;
 use divisors::Walk;
 use index::Parts;
-ghost use Prim.Native.Nat.{_-_, _/_};
 ghost use mathlib.Core.Path.{_≡_};
-ghost use mathlib.Core.Bool.{cond};
-ghost use lib.Dec.{eqb};
 ghost use lib.ListN.{length};
 ghost use Rattle.answers.specs.Partial as Partial;
 ghost use Rattle.kept.specs.Halves.{StepsDue};
-
-// D, half the degree for r, rounded down; `free` is phi(r).
-pub fn half_degree(kind: u64, r: u64, free: u64) -> usize
-    ensures { λ x. ⌜ x ≡ cond (eqb kind 1) free (r - free) / 2 ⌝ }
-{
-    (index::degree_from(kind, r, free) / 2) as usize
-}
 
 pub(crate) fn stop_at(kind: u64, n: u64, parts: Parts, j: u64, buf: &mut [i64]) -> Stop
     requires { ⌜ StepsDue kind n parts ⌝ }
     ensures { λ r. ⌜ r ≡ Partial.answer kind n j (length (now (buf .entry))) ⌝ }
     ensures { λ _. ⌜ now (buf .exit) ≡ Partial.leaves kind n j (now (buf .entry)) ⌝ }
 {
-    let d = half_degree(kind, parts.r, parts.free);
+    let d = index::half_degree(kind, parts.r, parts.free);
     let walk = Walk::over(parts);
     if walk.due < j {
         return Stop::refused(answers::STEP, 0);

@@ -12,10 +12,10 @@ pub fn polynomial(kind: u64, n: u64, h: i64, buf: &mut [i64]) -> Answer
     ensures { λ r. ⌜ r ≡ Polynomial.answer kind n h (length (now (buf .entry))) ⌝ }
     ensures { λ _. ⌜ now (buf .exit) ≡ Polynomial.leaves kind n h (now (buf .entry)) ⌝ }
 {
-    if !index::known_kind(kind) {
+    if !answers::known_kind(kind) {
         return Answer::refused(answers::KIND, 0);
     }
-    if !index::good_index(n) {
+    if !answers::good_index(n) {
         return Answer::refused(answers::INDEX, 0);
     }
     if h < 1 {

@@ -84,7 +84,7 @@ fn make_by_steps(b: &mut [i64], kind: u64, n: u64, parts: Parts, h: i64) -> Maki
     requires { ⌜ Ready kind n parts (now b) × (rOf n ≢ 1) × (ltZ h (pos 1) ≡ false) ⌝ }
     ensures { λ r. ⌜ MakingOutcomeIs kind n h (now (b .exit)) r ⌝ }
 {
-    let half = kept::half_degree(kind, parts.r, parts.free) + 1;
+    let half = index::half_degree(kind, parts.r, parts.free) + 1;
     let run = kept::all_steps(kind, n, parts, &mut b[..half]);
     if run.over {
         shapes::clear(b);

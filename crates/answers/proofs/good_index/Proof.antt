@@ -1,8 +1,8 @@
 -- `good_index` meets its contract, by the branch.
 use borrow.Author.Tests.{lt-ltb, le-ltb}
 use Rattle.definitions.specs.Requests.{goodIndex}
-use Rattle.index.proofs.good_index.Statement.{statement}
-use Rattle.index.proofs.good_index.Tie as tie
+use Rattle.answers.proofs.good_index.Statement.{statement}
+use Rattle.answers.proofs.good_index.Tie as tie
 
 returns : tie.Need-returns
 unfolding goodIndex

@@ -1,8 +1,8 @@
 -- `known_kind` meets its contract, by the branch.
 use borrow.Author.Tests.{eq-eqb, ne-eqb}
 use Rattle.definitions.specs.Requests.{knownKind}
-use Rattle.index.proofs.known_kind.Statement.{statement}
-use Rattle.index.proofs.known_kind.Tie as tie
+use Rattle.answers.proofs.known_kind.Statement.{statement}
+use Rattle.answers.proofs.known_kind.Tie as tie
 
 returns : tie.Need-returns
 unfolding knownKind
