@@ -12,22 +12,21 @@ fn signed(c: i64) {
     io::print_decimal(1, heights::magnitude(c));
 }
 
-// One item of a line, and the space after it.
-pub fn item(n: u64) {
-    io::print_decimal(1, n);
-    io::write_all(1, b" ");
-}
-
-// The same for a signed number.
+// A signed item of a line, and the space after it.
 pub fn signed_item(c: i64) {
     signed(c);
     io::write_all(1, b" ");
 }
 
-// A number after a space.
-pub fn spaced(n: u64) {
-    io::write_all(1, b" ");
-    io::print_decimal(1, n);
+// Numbers, each between these two strings.
+pub fn numbers(before: &[u8], a: &[u64], after: &[u8]) {
+    let mut i = 0;
+    while i < a.len() {
+        io::write_all(1, before);
+        io::print_decimal(1, a[i]);
+        io::write_all(1, after);
+        i += 1;
+    }
 }
 
 // The bytes of a slice, each in two hexadecimal digits.
@@ -115,7 +114,8 @@ fn checksum(a: &[i64]) -> u64 {
 pub fn close(a: &[i64]) {
     let end = within(written(a), a);
     let sum = checksum(&a[..end]);
-    item(end as u64);
+    io::print_decimal(1, end as u64);
+    io::write_all(1, b" ");
     io::print_decimal(1, sum);
     io::write_all(1, b"\n");
 }

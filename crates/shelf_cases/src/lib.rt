@@ -62,29 +62,28 @@ fn untouched(entries: &[i64]) -> u64 {
 }
 
 pub fn write_one(kind: u64, n: u64, coeffs: &[i64], bytes: &mut [u8]) {
-    io::write_all(STDOUT_FILENO, b"w");
-    printing::spaced(kind);
-    printing::spaced(n);
-    printing::spaced(coeffs.len() as u64);
-    printing::spaced(bytes.len() as u64);
     let told = shelf::write(kind, n, coeffs, bytes);
-    printing::spaced(told.code);
-    printing::spaced(told.degree);
-    printing::spaced(told.used);
+    let lent = [kind, n, coeffs.len() as u64, bytes.len() as u64];
+    io::write_all(STDOUT_FILENO, b"w");
+    printing::numbers(b" ", &lent, b"");
+    printing::numbers(b" ", &[told.code, told.degree, told.used], b"");
     io::write_all(STDOUT_FILENO, b" : ");
     printing::hex(bytes);
     io::write_all(STDOUT_FILENO, b"\n");
 }
 
 fn read_one(bytes: &[u8], entries: &mut [i64]) -> shelf::Record {
-    io::write_all(STDOUT_FILENO, b"r");
     let told = shelf::read(bytes, entries);
-    printing::spaced(told.code);
-    printing::spaced(told.degree);
-    printing::spaced(told.used);
-    printing::spaced(told.kind);
-    printing::spaced(told.n);
-    printing::spaced(untouched(entries));
+    let row = [
+        told.code,
+        told.degree,
+        told.used,
+        told.kind,
+        told.n,
+        untouched(entries),
+    ];
+    io::write_all(STDOUT_FILENO, b"r");
+    printing::numbers(b" ", &row, b"");
     io::write_all(STDOUT_FILENO, b"\n");
     told
 }

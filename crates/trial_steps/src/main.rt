@@ -23,12 +23,8 @@ fn show(sort: Sort, size: u64, a: &mut [i64]) {
     };
     let told = step.apply(a);
     letter(sort);
-    io::print_decimal(1, size);
-    io::write_all(1, b" ");
-    io::print_decimal(1, told.code);
-    io::write_all(1, b" ");
-    io::print_decimal(1, told.count);
-    io::write_all(1, b" :");
+    printing::numbers(b"", &[size, told.code, told.count], b" ");
+    io::write_all(1, b":");
     printing::entries(b" ", a, b"");
 }
 
