@@ -1,6 +1,5 @@
 -- Laws that the functions' proofs share, and `polynomial`'s.
-pub mod Advancing
-pub mod Untested
+pub mod Starting
 pub mod Turning
 pub mod Running
 pub mod Stopping

@@ -32,7 +32,7 @@ use Rattle.divisors.specs.declared.Walk.{Walk}
 use Rattle.kept.specs.declared.run.DivisorOutcome.{DivisorOutcome}
 use Rattle.kept.specs.declared.RunOutcome.{RunOutcome}
 use Rattle.kept.proofs.Turning.{kept-length}
-use Rattle.kept.proofs.Advancing.{start-first, start-later}
+use Rattle.kept.proofs.Starting.{start-first, start-later}
 
 -- ---- sums
 sum-next : (kind r i : ℕ) → i < divisorsDue r → additionsAfter kind r (suc i)

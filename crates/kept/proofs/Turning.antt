@@ -18,12 +18,13 @@ use Rattle.step_laws.specs.Firsts.{length-firsts}
 use Rattle.cyclotomic.specs.Kept.{step-kept}
 use Rattle.divisors.specs.Walks.{Stands, taken, walkAt, nextAt, nextOf, divisorAt}
 use Rattle.divisors.proofs.Walking.{next-more}
-use Rattle.kept.specs.Halves.{StepOutcomeIs, KeptHalfAt, DivisorOutcomeIs}
+use Rattle.bounded.specs.Outcome.{StepOutcomeIs}
+use Rattle.kept.specs.Halves.{KeptHalfAt, DivisorOutcomeIs}
 use Rattle.divisors.specs.declared.Walk.{Walk}
 use Rattle.divisors.specs.declared.NextAndWalk.{NextAndWalk}
 use Rattle.divisors.specs.declared.Next.{Next}
 use Rattle.divisors.specs.declared.Next.the-variants.{Divisor, Nothing}
-use Rattle.kept.specs.declared.step.StepOutcome.{StepOutcome}
+use Rattle.bounded.specs.declared.StepOutcome.{StepOutcome}
 use Rattle.kept.specs.declared.run.DivisorOutcome.{DivisorOutcome}
 
 pub kept-length : (kind r j : ℕ) → length (keptHalf kind r j) ≡ halfDegree kind r + 1

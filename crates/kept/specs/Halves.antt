@@ -6,7 +6,7 @@ use mathlib.Core.Logic.{_≢_}
 use mathlib.Core.List.{List}
 use lib.ListN.{length}
 use lib.IntN.{ℤ}
-use Rattle.definitions.specs.Steps.{Sort, entries, largest, stepOver, stepList}
+use Rattle.definitions.specs.Steps.{entries, largest}
 use Rattle.definitions.specs.KeptHalf.{halfDegree, keptHalf, additionsAfter}
 use Rattle.definitions.specs.Numbers.{rOf}
 use Rattle.definitions.specs.Requests.{knownKind, goodIndex, divisorsDue, nextDivisor, overAt, overAmong, zeros}
@@ -16,17 +16,8 @@ use Rattle.index.specs.Parts.{partsOf}
 use Rattle.index.specs.declared.Parts.{Parts}
 use Rattle.divisors.specs.Walks.{Stands, taken, walkAt}
 use Rattle.divisors.specs.declared.Walk.{Walk}
-use Rattle.kept.specs.declared.step.StepOutcome.{StepOutcome}
 use Rattle.kept.specs.declared.run.DivisorOutcome.{DivisorOutcome}
 use Rattle.kept.specs.declared.RunOutcome.{RunOutcome}
-
--- a step of l that left m
-pub record StepOutcomeIs (s : Sort) (d : ℕ) (l m : List ℤ) (r : StepOutcome) : Type 0 where
-  pub over : r .over ≡ stepOver largest s d l
-  pub leaves : r .over ≡ false → m ≡ stepList s d l
-  pub bounded : r .over ≡ false → Bounded (r .bound) (entries m)
-  pub inside : r .bound ≤ largest
-  pub len : length m ≡ length l
 
 -- the walk over r's divisors stands at some place, and l is the kept half there, of magnitudes within the bound
 pub record KeptHalfAt (kind : ℕ) (w : Walk) (bound : ℕ) (l : List ℤ) : Type 0 where

@@ -1,7 +1,6 @@
 // The kept half for an index: the walk over r's divisors, the steps, and the partial request (`partial`), of which
 // nothing is asked. `all_steps` is for `polynomial`, which shows what it requires.
 mod run;
-mod step;
 mod stop;
 
 use answers::Stop;

@@ -1,6 +1,6 @@
 // The kept half: its start, and one step after the other as the walk hands out the divisors.
 use super::RunOutcome;
-use super::step::take_step;
+use bounded::take_step;
 use divisors::Next;
 use divisors::Walk;
 use passes::Sort;

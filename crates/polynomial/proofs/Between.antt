@@ -26,14 +26,13 @@ use Rattle.definitions.specs.Answer.{coefficients, heightOf, height, additionsF
 use Rattle.numbers.specs.Apart.{r-odd-squarefree}
 use Rattle.numbers.specs.HowMany.{k-of-r}
 use Rattle.numbers.specs.Below.{additions-at-most}
-use Rattle.step_laws.specs.Bound.{Bounded}
+use Rattle.step_laws.specs.Bound.{Bounded, stays-inside}
 use Rattle.step_laws.specs.Firsts.{length-firsts}
 use Rattle.step_laws.specs.Tests.{not-true-is}
 use Rattle.cyclotomic.specs.Kept.{kept-all, kept-start, step-kept}
 use Rattle.cyclotomic.specs.Heights.{height-half, height-one, at-most-height, height-least}
 use Rattle.answers.specs.Partial as Partial
 use Rattle.answers.specs.Polynomial as Polynomial
-use Rattle.kept.proofs.Advancing.{stays-inside}
 use Rattle.kept.proofs.Turning.{kept-length, divisor-in}
 use Rattle.kept.proofs.Running.{start-bounded}
 use Rattle.growth.proofs.Growing.{half-within, front-entry}
@@ -95,7 +94,7 @@ kept-step : (kind r j : ℕ) → j < divisorsDue r → Bounded largest (entries 
 unfolding overAt divisorsDue
 kept-step kind r j h b o k =
     subst (λ l. natAbs (entries l k) ≤ largest) (step-kept kind r j h (divisor-in r j h .0))
-    (stays-inside (sortOf kind r (nextDivisor r j)) (nextDivisor r j) (keptHalf kind r j) b o k)
+    (stays-inside largest (sortOf kind r (nextDivisor r j)) (nextDivisor r j) (keptHalf kind r j) b o k)
 
 kept-inside : (kind r j : ℕ) → j ≤ divisorsDue r → overAmong largest kind r j ≡ false
     → Bounded largest (entries (keptHalf kind r j))

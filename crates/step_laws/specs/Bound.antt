@@ -14,9 +14,10 @@ use Rattle.definitions.specs.Series.{Series}
 use Rattle.definitions.specs.Steps.{Sort, comb, accumulate, combed, accumulated, stepped, inRange, entries, stepOver}
 use Rattle.definitions.specs.Steps.{stepList}
 use Rattle.step_laws.specs.Tests.{by-order}
-use Rattle.step_laws.specs.Signed.{abs-⊕, abs-⊝, in-range}
+use Rattle.step_laws.specs.Signed.{abs-⊕, abs-⊝, in-range, range-in}
 use Rattle.step_laws.specs.Accumulated.{accumulated-from, accumulated-below}
-use Rattle.step_laws.specs.Step.{combed-from, stepped-below, getD-stepList, length-stepList, not-over-all}
+use Rattle.step_laws.specs.Step.{combed-from, stepped-below, getD-stepList, getD-stepList-below, length-stepList}
+use Rattle.step_laws.specs.Step.{not-over-all, not-over-each}
 
 -- no value of a is larger than b
 abbrev pub Bounded : ℕ → Series → Type 0
@@ -75,3 +76,14 @@ module _ (s : Sort) (d b : ℕ) (one : 1 ≤ d) (l : List ℤ) (h : Bounded b (e
   stepList-bound k =
       by-order k (length l) (λ m. rw (getD-stepList s d l k m) (stepped-bound s k m))
       (λ m. rw (List·getD-eq-default (stepList s d l) 0ℤ {n = k} (rw (length-stepList s d l) m)) (omega arith))
+
+-- what is in the range w stays so where no value leaves it
+pub stays-inside : (w : ℕ) (s : Sort) (d : ℕ) (l : List ℤ) → Bounded w (entries l) → stepOver w s d l ≡ false
+    → Bounded w (entries (stepList s d l))
+unfolding entries
+stays-inside w s d l h t k =
+    by-order k (length l)
+    (λ in′. by-order k d
+    (λ low. rw (getD-stepList-below s d l k low in′) (h k))
+    (λ high. rw (getD-stepList s d l k in′) (range-in w _ (not-over-each s d l w t k high in′))))
+    (λ out. rw (List·getD-eq-default (stepList s d l) 0ℤ {n = k} (omega (arith, length-stepList s d l))) (omega arith))

@@ -1,7 +1,7 @@
 -- `start_kept_half` meets its contract: zeros, and the first entry stored (Advancing).
 use mathlib.Core.Path.{_∙_, ap}
 use lib.ListN.{length}
-use Rattle.kept.proofs.Advancing.{started, start-seen}
+use Rattle.kept.proofs.Starting.{started, start-seen}
 use borrow.Author.Needs.{needs}
 use Rattle.kept.proofs.run.start_kept_half.Statement.{statement}
 use Rattle.kept.proofs.run.start_kept_half.Tie as tie

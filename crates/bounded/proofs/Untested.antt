@@ -10,7 +10,7 @@ use lib.IntN.{ℤ}
 use Rattle.definitions.specs.Steps.{Sort, comb, accumulate, entries, largest, stepOver, stepList}
 use Rattle.step_laws.specs.Bound.{Bounded, growth, growth-not-over, stepList-bound}
 use Rattle.step_laws.specs.Step.{length-stepList, long-not-over, long-stays}
-use Rattle.kept.specs.Halves.{StepOutcomeIs}
+use Rattle.bounded.specs.Outcome.{StepOutcomeIs}
 
 -- the growth as a product and a sum
 pub comb-more : (d n b : ℕ) → growth comb d n b ≡ b * 1 + b

@@ -1,9 +1,9 @@
 -- `take_untested` meets its contract: the step, within the given bound (Untested).
 use borrow.Author.Needs.{needs}
 use Rattle.passes.specs.Sorts.{sortMeans}
-use Rattle.kept.proofs.Untested.{under}
-use Rattle.kept.proofs.step.take_untested.Statement.{statement}
-use Rattle.kept.proofs.step.take_untested.Tie as tie
+use Rattle.bounded.proofs.Untested.{under}
+use Rattle.bounded.proofs.take_untested.Statement.{statement}
+use Rattle.bounded.proofs.take_untested.Tie as tie
 
 untested-step-requires : tie.Need-untested-step-requires
 untested-step-requires c κs = search needs

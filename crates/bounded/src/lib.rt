@@ -1,4 +1,5 @@
-// One step on the kept half. Where the magnitudes of its entries are known to be small enough it needs no test.
+// Inner: nothing here is offered to callers; the `requires` is shown by `kept`. One step on entries whose magnitudes are
+// bounded: where they are known to be small enough it needs no test.
 use passes::Sort;
 use steps::Step;
 use untested::untested_step;
@@ -8,10 +9,10 @@ ghost use mathlib.Core.Bool.{false};
 ghost use Rattle.definitions.specs.Steps.{entries, largest, stepOver, stepList};
 ghost use Rattle.step_laws.specs.Bound.{Bounded, growth};
 ghost use Rattle.passes.specs.Sorts.{sortMeans};
-ghost use Rattle.kept.specs.Halves.{StepOutcomeIs};
+ghost use Rattle.bounded.specs.Outcome.{StepOutcomeIs};
 
 // The outcome of one step: a value out of range, or the bound of the magnitudes after it.
-pub(crate) struct StepOutcome {
+pub struct StepOutcome {
     pub over: bool,
     pub bound: u64,
 }
@@ -57,7 +58,7 @@ fn take_tested(a: &mut [i64], sort: Sort, d: u64) -> StepOutcome
 }
 
 // One step on entries of magnitude at most `bound`: untested where these can't grow out of range.
-pub(crate) fn take_step(a: &mut [i64], sort: Sort, d: u64, bound: u64) -> StepOutcome
+pub fn take_step(a: &mut [i64], sort: Sort, d: u64, bound: u64) -> StepOutcome
     requires { ⌜ (1 ≤ d) × (d ≤ 65535) × Bounded bound (entries (now a)) × (bound ≤ largest) ⌝ }
     ensures { λ r. ⌜ StepOutcomeIs (sortMeans sort) d (now (a .entry)) (now (a .exit)) r ⌝ }
 {

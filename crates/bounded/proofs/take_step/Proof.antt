@@ -6,9 +6,9 @@ use native.Mathlib.Nat.{le-trans}
 use native.Mathlib.Omega.{arith}
 use Rattle.definitions.specs.Steps.{largest}
 use Rattle.passes.specs.Sorts.{sortMeans}
-use Rattle.kept.proofs.Untested.{within, grown, long}
-use Rattle.kept.proofs.step.take_step.Statement.{statement}
-use Rattle.kept.proofs.step.take_step.Tie as tie
+use Rattle.bounded.proofs.Untested.{within, grown, long}
+use Rattle.bounded.proofs.take_step.Statement.{statement}
+use Rattle.bounded.proofs.take_step.Tie as tie
 
 -- the growth is in range where the test held
 module _ (c : tie.Then2) where

@@ -1,9 +1,9 @@
 -- `times_added` meets its contract: the growth of either sort, as a product and a sum (Untested).
 use borrow.Author.Needs.{needs}
 use native.Mathlib.Omega.{arith}
-use Rattle.kept.proofs.Untested.{comb-more, accumulate-more, some-times}
-use Rattle.kept.proofs.step.times_added.Statement.{statement}
-use Rattle.kept.proofs.step.times_added.Tie as tie
+use Rattle.bounded.proofs.Untested.{comb-more, accumulate-more, some-times}
+use Rattle.bounded.proofs.times_added.Statement.{statement}
+use Rattle.bounded.proofs.times_added.Tie as tie
 
 enum-told : tie.Need-enum-told
 enum-told c = search needs

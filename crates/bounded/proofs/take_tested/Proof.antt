@@ -1,9 +1,9 @@
--- `take_tested` meets its contract: what the step tells (Advancing).
+-- `take_tested` meets its contract: what the step tells (Tested).
 use borrow.Author.Needs.{needs}
 use Rattle.passes.specs.Sorts.{sortMeans}
-use Rattle.kept.proofs.Advancing.{advanced}
-use Rattle.kept.proofs.step.take_tested.Statement.{statement}
-use Rattle.kept.proofs.step.take_tested.Tie as tie
+use Rattle.bounded.proofs.Tested.{advanced}
+use Rattle.bounded.proofs.take_tested.Statement.{statement}
+use Rattle.bounded.proofs.take_tested.Tie as tie
 
 apply-requires : tie.Need-apply-requires
 apply-requires c κs = search needs

@@ -1,0 +1,2 @@
+-- The outcome of a step, as the contracts tell it.
+pub mod Outcome
