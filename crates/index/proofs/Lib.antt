@@ -1,6 +1,4 @@
 -- Laws that the functions' proofs share; `Laws` is what callers go by.
-pub mod Odds
-pub mod Sifting
 pub mod Whole
 pub mod Laws
 pub mod OneOutcome

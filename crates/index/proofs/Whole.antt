@@ -7,10 +7,10 @@ use Rattle.definitions.specs.Numbers.{divides, rOf, kOf, mOf, tOf, phi}
 use Rattle.numbers.specs.Apart.{r-divides, m-divides}
 use Rattle.numbers.specs.Phi.{phi-le}
 use Rattle.numbers.specs.PhiApart.{phi-apart}
-use Rattle.index.specs.declared.sieve.OddPrimes.{OddPrimes}
+use Rattle.sieve.specs.declared.OddPrimes.{OddPrimes}
 use Rattle.index.specs.declared.Parts.{Parts}
 use Rattle.index.specs.Parts.{partsOf}
-use Rattle.index.specs.Sieving.{oddTo}
+use Rattle.sieve.specs.Sieving.{oddTo}
 
 module _ (n : ℕ) (l : 0 < n) (u : n ≤ 65535) (o : OddPrimes) (h : o ≡ oddTo n n) where
   product-r : o .product ≡ rOf n

@@ -1,3 +1,2 @@
--- n taken apart, and what the sieve for its odd primes holds on the way.
+-- n taken apart.
 pub mod Parts
-pub mod Sieving

@@ -1,7 +1,5 @@
 // n taken apart (its distinct odd primes, r, m, t and phi) and the degree of a kind, for every number that the types
 // have. Nothing is asked of the caller: above 65,535 the answer is that for 0, which has no odd prime and degree 0.
-mod sieve;
-
 use sieve::odd_primes;
 ghost use Prim.Native.Nat.{_*_, _-_, _/_, _<_, _≤_};
 ghost use mathlib.Core.Path.{_≡_};

@@ -2,7 +2,8 @@
 use mathlib.Core.Path.{_≡_, refl}
 use Rattle.definitions.specs.Numbers.{someTo, countTo, listTo, productOfTo, divides, shareFactor, phi, rOf, kOf, mOf}
 use Rattle.definitions.specs.Numbers.{tOf}
-use Rattle.index.specs.Parts.{padded, partsOf}
+use Rattle.sieve.specs.Sieving.{padded}
+use Rattle.index.specs.Parts.{partsOf}
 use Rattle.index.proofs.parts_of_none.Statement.{statement}
 use Rattle.index.proofs.parts_of_none.Tie as tie
 

@@ -1,10 +1,10 @@
 -- `Sieve::sift` meets its contract: the cases of `Look`.
 use borrow.Author.Needs.{needs}
 use native.Mathlib.Omega.{arith}
-use Rattle.index.proofs.Sifting.{Look, look-at}
+use Rattle.sieve.proofs.Sifting.{Look, look-at}
 use Prim.Native.Nat.{_-_}
-use Rattle.index.proofs.sieve.Sieve.sift.Statement.{statement}
-use Rattle.index.proofs.sieve.Sieve.sift.Tie as tie
+use Rattle.sieve.proofs.Sieve.sift.Statement.{statement}
+use Rattle.sieve.proofs.Sieve.sift.Tie as tie
 
 rem-if1 : tie.Need-rem-if1
 rem-if1 c = search needs

@@ -17,9 +17,8 @@ use Rattle.numbers.specs.Products.{prime-in-product, product-divides}
 use Rattle.numbers.specs.Phi.{phi-times, phi-le, phi-one}
 use Rattle.numbers.specs.Apart.{test-odd-prime}
 use Rattle.numbers.specs.AtMostFive.{k-at-most-5}
-use Rattle.index.specs.declared.sieve.OddPrimes.{OddPrimes}
-use Rattle.index.specs.Parts.{padded}
-use Rattle.index.specs.Sieving.{oddTo, withPrime}
+use Rattle.sieve.specs.declared.OddPrimes.{OddPrimes}
+use Rattle.sieve.specs.Sieving.{padded, oddTo, withPrime}
 
 same-odd :
     (a b : OddPrimes) → a .primes ≡ b .primes → a .count ≡ b .count → a .product ≡ b .product → a .free ≡ b .free

@@ -5,10 +5,10 @@ use mathlib.Core.Path.{_≡_, refl, _∙_}
 use native.Mathlib.Nat.{le-of-dvd, le-trans, le-mul-of-pos-right, mul-le-mul}
 use native.Mathlib.Omega.{arith}
 use Rattle.numbers.specs.Primes.{prime-two}
-use Rattle.index.specs.Sieving.{Sifted}
-use Rattle.index.proofs.Sifting.{Last, last-of, sifted-start, passed-even}
-use Rattle.index.proofs.sieve.odd_primes.Statement.{statement}
-use Rattle.index.proofs.sieve.odd_primes.Tie as tie
+use Rattle.sieve.specs.Sieving.{Sifted}
+use Rattle.sieve.proofs.Sifting.{Last, last-of, sifted-start, passed-even}
+use Rattle.sieve.proofs.odd_primes.Statement.{statement}
+use Rattle.sieve.proofs.odd_primes.Tie as tie
 
 abbrev Inv-loop : tie.InvT-loop
 Inv-loop n s₀ p₀ s p = (2 < p) × (p ≤ 65537) × Sifted n (p - 1) s × (p % 2 ≡ 1)

@@ -1,13 +1,14 @@
-// The distinct odd primes of n, by trial division.
+// Inner: nothing here is offered to callers; the `requires` is shown by `index`. The distinct odd primes of n, by trial
+// division.
 
 ghost use Prim.Native.Nat.{_*_, _-_, _<_, _≤_};
 ghost use mathlib.Core.Path.{_≡_};
 ghost use Rattle.numbers.specs.Primes.{Prime};
-ghost use Rattle.index.specs.Sieving.{withPrime, oddTo, Without, Sifted};
+ghost use Rattle.sieve.specs.Sieving.{withPrime, oddTo, Without, Sifted};
 
 // The distinct odd primes found so far, ascending, with zeros after them; how many; their product, and how many
 // numbers up to it share no factor with it.
-pub(crate) struct OddPrimes {
+pub struct OddPrimes {
     pub primes: [u64; 5],
     pub count: usize,
     pub product: u64,
@@ -15,7 +16,7 @@ pub(crate) struct OddPrimes {
 }
 
 // The primes found, and what is left of n.
-pub(crate) struct Sieve {
+pub struct Sieve {
     pub odd: OddPrimes,
     pub rest: u64,
 }
@@ -70,7 +71,7 @@ impl Sieve {
 
 // The odd primes of n: trial division by 3, 5, 7, .. (one that is no prime divides nothing that is left) as long as its
 // square is at most what is left; what is left then is 1 or the last prime.
-pub(crate) fn odd_primes(n: u64) -> OddPrimes
+pub fn odd_primes(n: u64) -> OddPrimes
     requires { ⌜ (0 < n) × (n ≤ 65535) ⌝ }
     ensures { λ x. ⌜ x ≡ oddTo n n ⌝ }
 {

@@ -11,10 +11,10 @@ use native.Mathlib.Nat.{le-antisymm, le-of-dvd, pos-of-dvd-of-pos, dvd-refl, dvd
 use native.Mathlib.Nat.{mod-eq-zero-of-dvd, div-mul-cancel}
 use native.Mathlib.Omega.{arith}
 use Rattle.numbers.specs.Primes.{two-or-odd, Prime, prime-divisor, prime-same, euclid, quotient-divides, quotient-pos}
-use Rattle.index.specs.Sieving.{Taking, Without, Sifted, withPrime, oddTo}
-use Rattle.index.specs.declared.sieve.OddPrimes.{OddPrimes}
-use Rattle.index.proofs.Odds.{odd-fields, odd-none, odd-more, odd-same, odd-further, odd-all}
-use Rattle.index.specs.declared.sieve.Sieve.{Sieve}
+use Rattle.sieve.specs.Sieving.{Taking, Without, Sifted, withPrime, oddTo}
+use Rattle.sieve.specs.declared.OddPrimes.{OddPrimes}
+use Rattle.sieve.proofs.Odds.{odd-fields, odd-none, odd-more, odd-same, odd-further, odd-all}
+use Rattle.sieve.specs.declared.Sieve.{Sieve}
 use Rattle.definitions.specs.Numbers.{oddPrimeOf}
 use Rattle.numbers.specs.Tests.{denies}
 use Rattle.numbers.specs.Apart.{test-odd-prime}

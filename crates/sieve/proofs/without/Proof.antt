@@ -1,10 +1,10 @@
 -- `without` meets its contract. The invariant: some of the factors p are out. The measure is what is left.
 use native.Mathlib.Nat.{div-lt-self, mod-eq-zero-of-dvd}
 use native.Mathlib.Omega.{arith}
-use Rattle.index.specs.Sieving.{Taking}
-use Rattle.index.proofs.Sifting.{taking-start, taking-step}
-use Rattle.index.proofs.sieve.without.Statement.{statement}
-use Rattle.index.proofs.sieve.without.Tie as tie
+use Rattle.sieve.specs.Sieving.{Taking}
+use Rattle.sieve.proofs.Sifting.{taking-start, taking-step}
+use Rattle.sieve.proofs.without.Statement.{statement}
+use Rattle.sieve.proofs.without.Tie as tie
 
 abbrev Inv-loop : tie.InvT-loop
 Inv-loop n p rest₀ rest = Taking n p rest

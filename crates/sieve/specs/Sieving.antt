@@ -1,13 +1,17 @@
 -- What the sieve holds: the odd primes of n found up to k, and what is left of n when their factors are out.
 use Prim.Native.Nat.{ℕ, _+_, _*_, _-_, _<_, _∣_}
+use mathlib.Core.List.{List, _++_}
 use mathlib.Core.Path.{_≡_}
 use mathlib.Core.Logic.{_≢_}
-use lib.ListN.{set}
+use lib.ListN.{length, set, replicate}
 use Rattle.definitions.specs.Numbers.{oddPrimeOf, countTo, listTo, productOfTo, phi}
 use Rattle.numbers.specs.Primes.{Prime}
-use Rattle.index.specs.Parts.{padded}
-use Rattle.index.specs.declared.sieve.Sieve.{Sieve}
-use Rattle.index.specs.declared.sieve.OddPrimes.{OddPrimes}
+use Rattle.sieve.specs.declared.Sieve.{Sieve}
+use Rattle.sieve.specs.declared.OddPrimes.{OddPrimes}
+
+-- five places, for no index has more odd primes
+unfoldable pub padded : List ℕ → List ℕ
+padded l = l ++ replicate (5 - length l) 0
 
 -- the odd primes of n up to k: they, their number, their product and its phi
 unfoldable pub oddTo : ℕ → ℕ → OddPrimes
