@@ -12,8 +12,9 @@ use lib.Seq.{take-suc-set}
 use Rattle.step_laws.specs.Tests.{by-test, by-order}
 use Rattle.lines.specs.Request.{isGood}
 use Rattle.replies.specs.Reply.{wrongLine, reply}
-use Rattle.listing.specs.Stream.{KEPT, startLine, pushed, nextLine, closing}
-use Rattle.listing.specs.declared.Line.{Line}
+use Rattle.open_line.specs.OpenLine.{KEPT, startLine, pushed, nextLine}
+use Rattle.open_line.specs.declared.Line.{Line}
+use Rattle.listing.specs.Stream.{closing}
 use Rattle.lines.proofs.Reading.{good-short, reads-wrong}
 use Rattle.replies.proofs.Replying.{replied-wrong}
 

@@ -10,29 +10,13 @@ use borrow.Fn.Kinds.{endedOf}
 use borrow.Fn.World.{ArgsD, ResD}
 use denote.Triple.Clauses.{AtExit}
 use denote.Ref.{now}
+use Rattle.open_line.specs.declared.Line.{Line}
 use Rattle.listing.specs.Ran.{Ran}
 use Rattle.listing.specs.Stream.{after, printed}
-use Rattle.listing.specs.declared.Line.{Line}
 use Rattle.listing.specs.declared.Progress.{Progress}
-use Rattle.listing.proofs.stream.heading
-use Rattle.listing.proofs.stream.heading.Reads as heading-reads
-use Rattle.listing.proofs.stream.heading.Kinds as heading-kinds
-use Rattle.listing.proofs.stream.start
-use Rattle.listing.proofs.stream.start.Reads as start-reads
-use Rattle.listing.proofs.stream.start.Kinds as start-kinds
 use Rattle.listing.proofs.stream.run
 use Rattle.listing.proofs.stream.run.Reads as run-reads
 use Rattle.listing.proofs.stream.run.Kinds as run-kinds
-
-module _ (κs : Lfts 0) (a : ArgsD start.signature κs) (z z′ : ResD start.signature κs)
-    (e e′ : AtExit (endedOf 0 start-kinds.ps start-kinds.r) κs) where
-  pub one-start : start-reads.Post κs a z e → start-reads.Post κs a z′ e′ → z ≡ z′
-  one-start p p′ = p ∙ sym p′
-
-module _ (κs : Lfts 1) (a : ArgsD heading.signature κs) (z z′ : ResD heading.signature κs)
-    (e e′ : AtExit (endedOf 1 heading-kinds.ps heading-kinds.r) κs) where
-  pub one-heading : heading-reads.Post κs a z e → heading-reads.Post κs a z′ e′ → (z ≡ z′) × (now (e .0) ≡ now (e′ .0))
-  one-heading p p′ = (p .0 .place ∙ sym (p′ .0 .place), p .0 .leaves ∙ sym (p′ .0 .leaves))
 
 -- two runs over one piece
 module _ {line : Line} {piece l m m′ : List ℕ} {r r′ : Progress} (p : Ran line piece l m r)

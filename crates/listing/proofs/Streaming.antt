@@ -13,10 +13,11 @@ use lib.Seq.{take-suc, drop-cons, length-sets}
 use lib.Dec.{eqb, ltb}
 use Rattle.text.specs.Text.{NEWLINE}
 use Rattle.replies.specs.Reply.{MOST}
-use Rattle.listing.specs.Stream.{pushed, nextLine, closing, step, says, after, printed, taken}
+use Rattle.open_line.specs.OpenLine.{pushed, nextLine}
+use Rattle.open_line.specs.declared.Line.{Line}
+use Rattle.listing.specs.Stream.{closing, step, says, after, printed, taken}
 use Rattle.text.specs.Puts.{Puts}
 use Rattle.listing.specs.Ran.{Ran}
-use Rattle.listing.specs.declared.Line.{Line}
 use Rattle.listing.specs.declared.Progress.{Progress}
 use Rattle.text.proofs.Putting.{then, nothing-put}
 

@@ -11,11 +11,13 @@ use lib.Dec.{eqb}
 use Rattle.step_laws.specs.Tests.{by-test}
 use Rattle.text.specs.Text.{NEWLINE}
 use Rattle.replies.specs.Reply.{reply}
-use Rattle.listing.specs.Listing.{lastLine, linesFrom, replies, heading, listing}
+use Rattle.open_line.specs.Heading.{heading}
+use Rattle.open_line.specs.OpenLine.{startLine, pushed, nextLine}
+use Rattle.open_line.specs.declared.Line.{Line}
+use Rattle.listing.specs.Listing.{lastLine, linesFrom, replies, listing}
 use Rattle.replies.specs.Reply.{MOST}
-use Rattle.listing.specs.Stream.{startLine, pushed, nextLine, closing, step, says, after, printed, ending}
+use Rattle.listing.specs.Stream.{closing, step, says, after, printed, ending}
 use Rattle.listing.specs.Ran.{Ran}
-use Rattle.listing.specs.declared.Line.{Line}
 use Rattle.listing.specs.declared.Progress.{Progress}
 use Rattle.listing.proofs.Kept.{Keeps, keeps-start, keeps-next, keeps-push, closing-is, filled}
 use Rattle.listing.proofs.Streaming.{after-append, printed-append, takes}

@@ -21,8 +21,8 @@ use Rattle.lines.specs.Request.{kindOf, isGoodWith}
 use Rattle.digits.specs.Digits.{between, digits, valueFrom, valueOf, digitsAt, numberAt}
 use Rattle.lines.specs.Request.{placeOfLimit, isGood, wrong, readLine}
 use Rattle.replies.specs.Reply.{letterOf, headOf, tailOf, goodLine, wrongLine, replyTo, reply}
-use Rattle.listing.specs.Listing.{lastLine}
-use Rattle.listing.specs.Listing.{linesFrom, replies, heading, listing}
+use Rattle.open_line.specs.Heading.{heading}
+use Rattle.listing.specs.Listing.{lastLine, linesFrom, replies, listing}
 
 -- `F 6 1`, `I 006 1`, an empty line, `F 6 -1` and `F 0 0`, the last with no newline
 input : List ℕ

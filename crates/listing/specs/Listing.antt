@@ -5,6 +5,7 @@ use mathlib.Core.Bool.{cond}
 use mathlib.Core.List.{List, [], _∷_, _++_}
 use lib.Dec.{eqb}
 use Rattle.text.specs.Text.{NEWLINE}
+use Rattle.open_line.specs.Heading.{heading}
 use Rattle.replies.specs.Reply.{reply}
 
 -- what the lines are: text after the last newline is a line only if it isn't empty. `current` is the line so far
@@ -21,11 +22,6 @@ linesFrom current (b ∷ bs) =
 unfoldable pub replies : ℕ → List (List ℕ) → List ℕ
 replies number [] = []
 replies number (line ∷ lines) = reply number line ++ replies (suc number) lines
-
--- `polynomials` and a newline
-unfoldable pub heading : List ℕ
-heading =
-    112 ∷ 111 ∷ 108 ∷ 121 ∷ 110 ∷ 111 ∷ 109 ∷ 105 ∷ 97 ∷ 108 ∷ 115 ∷ NEWLINE ∷ []
 
 unfoldable pub listing : List ℕ → List ℕ
 listing input = heading ++ replies 1 (linesFrom [] input)

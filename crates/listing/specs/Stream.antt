@@ -1,33 +1,15 @@
--- The listing piece by piece. Of the line that is being read at most 40 bytes are kept, for a longer line is not good;
--- its length stops at 41. What pieces of input come, and where the output is cut, makes no difference (proofs/,
--- `Whole`).
-use Prim.Native.Nat.{ℕ, _+_, _-_, _%_, _^_}
+-- The listing piece by piece, over the line that is being read (`open_line`). What pieces of input come, and where the
+-- output is cut, makes no difference (proofs/, `Whole`).
+use Prim.Native.Nat.{ℕ, _+_, _-_}
 use mathlib.Core.Bool.{cond, _&&_}
 use mathlib.Core.List.{List, [], _∷_, _++_}
-use lib.ListN.{length, take, set, replicate}
+use lib.ListN.{length, take}
 use lib.Dec.{eqb, ltb, leb}
 use Rattle.text.specs.Text.{NEWLINE}
+use Rattle.open_line.specs.OpenLine.{KEPT, pushed, nextLine}
+use Rattle.open_line.specs.declared.Line.{Line}
 use Rattle.replies.specs.Reply.{reply, wrongLine}
 pub use Rattle.replies.specs.Reply.{MOST}
-use Rattle.listing.specs.declared.Line.{Line}
-
-abbrev pub KEPT : ℕ
-KEPT = 40
-
--- before the first byte
-unfoldable pub startLine : Line
-startLine = record { bytes = replicate KEPT 0; length = 0; number = 1 }
-
--- one byte more, that is no newline
-unfoldable pub pushed : Line → ℕ → Line
-pushed s b =
-    cond (ltb (s .length) KEPT)
-    (record { bytes = set (s .bytes) (s .length) b; length = s .length + 1; number = s .number })
-    (record { bytes = s .bytes; length = KEPT + 1; number = s .number })
-
--- after a newline: an empty line. The number is one of 64 bits
-unfoldable pub nextLine : Line → Line
-nextLine s = record { bytes = s .bytes; length = 0; number = (s .number + 1) % 2 ^ 64 }
 
 -- what is printed for the line at its newline
 unfoldable pub closing : Line → List ℕ

@@ -2,82 +2,20 @@
 // read.
 
 ghost use mathlib.Core.Path.{_≡_};
-ghost use mathlib.Core.Bool.{cond};
-ghost use mathlib.Core.List.{[]};
 ghost use Prim.Native.Nat.{_+_, _≤_};
 ghost use lib.ListN.{length};
-ghost use lib.Dec.{ltb};
 ghost use Rattle.text.specs.Puts.{Puts};
 ghost use Rattle.replies.specs.Reply.{LENT};
-ghost use Rattle.listing.specs.Listing.{heading as theHeading};
 ghost use Rattle.replies.specs.Reply.{MOST as Most};
-ghost use Rattle.listing.specs.Stream.{startLine, pushed, nextLine, closing};
+ghost use Rattle.listing.specs.Stream.{closing};
 ghost use Rattle.listing.specs.Ran.{Ran};
-use crate::Line;
 use crate::Progress;
+use open_line::Line;
+use open_line::next;
+use open_line::push;
 use replies::MOST;
 use replies::put_reply;
 use replies::put_wrong;
-use text::put_text;
-
-const HEADING: [u8; 12] = *b"polynomials\n";
-
-// `polynomials` and a newline, where there is room for it.
-pub fn heading(out: &mut [u8]) -> usize
-    ensures { λ r.
-        ⌜ Puts (cond (ltb (length (now (out .entry))) 12) [] theHeading) 0 (now (out .entry)) (now (out .exit)) r ⌝ }
-    ensures { λ r. ⌜ r ≤ length (now (out .entry)) ⌝ }
-{
-    if out.len() < 12 {
-        return 0;
-    }
-    put_text(out, 0, &HEADING)
-}
-
-// Before the first byte of the input.
-pub fn start() -> Line
-    ensures { λ r. ⌜ r ≡ startLine ⌝ }
-{
-    let bytes = [0u8; 40];
-    Line {
-        bytes: bytes,
-        length: 0,
-        number: 1,
-    }
-}
-
-// One byte more, that is no newline.
-fn push(line: Line, b: u8) -> Line
-    ensures { λ r. ⌜ r ≡ pushed line b ⌝ }
-{
-    let mut bytes = line.bytes;
-    let n = line.length;
-    if n < 40 {
-        bytes[n] = b;
-        return Line {
-            bytes: bytes,
-            length: n + 1,
-            number: line.number,
-        };
-    }
-    Line {
-        bytes: bytes,
-        length: 41,
-        number: line.number,
-    }
-}
-
-// After a newline.
-fn next(line: Line) -> Line
-    ensures { λ r. ⌜ r ≡ nextLine line ⌝ }
-{
-    let bytes = line.bytes;
-    Line {
-        bytes: bytes,
-        length: 0,
-        number: std::num::wrapping_add_u64(line.number, 1),
-    }
-}
 
 // What a newline prints.
 fn put_closing(out: &mut [u8], at: usize, line: Line, entries: &mut [i64]) -> usize

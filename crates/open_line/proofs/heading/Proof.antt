@@ -1,14 +1,14 @@
--- `listing::stream::heading` meets its contract: nothing, or the text that the constant holds.
+-- `open_line::heading` meets its contract: nothing, or the text that the constant holds.
 use native.Mathlib.Omega.{arith}
 use borrow.Author.Tests.{lt-ltb, le-ltb}
-use Rattle.listing.specs.Listing.{heading}
+use Rattle.open_line.specs.Heading.{heading}
 use Rattle.text.proofs.Putting.{nothing-put}
 use borrow.Author.Needs.{needs}
-use Rattle.listing.proofs.stream.heading.Statement.{statement}
-use Rattle.listing.proofs.stream.heading.Tie as tie
+use Rattle.open_line.proofs.heading.Statement.{statement}
+use Rattle.open_line.proofs.heading.Tie as tie
 
 returns : tie.Need-returns
-returns c = rw (lt-ltb _ _ (c .if1 .taken)) (nothing-put 0 (c .before .before .args .out .now), omega arith)
+returns c = rw (lt-ltb _ 12 (c .if1 .taken)) (nothing-put 0 (c .before .before .args .out .now), omega arith)
 
 slice-aggregate-put-text : tie.Need-slice-aggregate-put-text
 slice-aggregate-put-text c = search needs
@@ -23,7 +23,7 @@ returns-2 : tie.Need-returns-2
 unfolding heading
 returns-2 c =
     let put = c .before .before .put-text .ensures in
-    rw (le-ltb _ _ (c .before .before .before .before .before .if1 .left)) (put, omega (arith, put .place))
+    rw (le-ltb _ 12 (c .before .before .before .before .before .if1 .left)) (put, omega (arith, put .place))
 
 pub heading-spec : {M : Type 1} → statement M
 heading-spec =

@@ -1,9 +1,9 @@
--- `listing::stream::push` meets its contract, by the test of the length.
+-- `open_line::push` meets its contract, by the test of the length.
 use borrow.Author.Tests.{lt-ltb, le-ltb}
-use Rattle.listing.specs.Stream.{pushed}
+use Rattle.open_line.specs.OpenLine.{pushed}
 use borrow.Author.Needs.{needs}
-use Rattle.listing.proofs.stream.push.Statement.{statement}
-use Rattle.listing.proofs.stream.push.Tie as tie
+use Rattle.open_line.proofs.push.Statement.{statement}
+use Rattle.open_line.proofs.push.Tie as tie
 
 array-write-bytes : tie.Need-array-write-bytes
 array-write-bytes c = search needs

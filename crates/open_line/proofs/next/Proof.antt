@@ -1,8 +1,8 @@
--- `listing::stream::next` meets its contract.
-use Rattle.listing.specs.Stream.{nextLine}
+-- `open_line::next` meets its contract.
+use Rattle.open_line.specs.OpenLine.{nextLine}
 use borrow.Author.Needs.{needs}
-use Rattle.listing.proofs.stream.next.Statement.{statement}
-use Rattle.listing.proofs.stream.next.Tie as tie
+use Rattle.open_line.proofs.next.Statement.{statement}
+use Rattle.open_line.proofs.next.Tie as tie
 
 wrapping-add-u64-requires : tie.Need-wrapping-add-u64-requires
 wrapping-add-u64-requires c κs = search needs

@@ -1,0 +1,2 @@
+-- That each answer is the only one.
+pub mod OneOutcome
