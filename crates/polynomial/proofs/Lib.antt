@@ -1,5 +1,4 @@
 -- Laws that the functions' proofs share; what is proved of the requests as a whole.
-pub mod Laying
 pub mod Stepping
 pub mod Limits
 pub mod Answering

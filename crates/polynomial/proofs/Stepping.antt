@@ -28,11 +28,12 @@ use Rattle.cyclotomic.specs.Kept.{kept-all}
 use Rattle.cyclotomic.specs.Heights.{height-half, height-one}
 use Rattle.kept.specs.Halves.{StepsDue, KeptHalfIs}
 use Rattle.growth.specs.Growth.{Lower}
-use Rattle.polynomial.specs.Making.{Ready, MakingOutcomeIs, makingCode}
+use Rattle.laying.specs.Ready.{Ready}
+use Rattle.polynomial.specs.Making.{MakingOutcomeIs, makingCode}
 use Rattle.index.specs.declared.Parts.{Parts}
 use Rattle.kept.specs.declared.RunOutcome.{RunOutcome}
 use Rattle.growth.proofs.Growing.{half-within, front-entry, front-length}
-use Rattle.polynomial.proofs.Laying.{above-zero, r-is, r-fits}
+use Rattle.laying.proofs.Laying.{above-zero, r-is, r-fits}
 
 pub steps-due : {kind n : ℕ} {a : Parts} {l : List ℤ} → Ready kind n a l → rOf n ≢ 1 → StepsDue kind n a
 steps-due R above = record { parts = R .parts; known = R .known; good = R .good; above = above }

@@ -1,10 +1,8 @@
--- The making of a polynomial, as the inner functions' contracts tell it: what they start from, the code they come to,
--- and what they leave.
-use Prim.Native.Nat.{ℕ, suc, _+_}
+-- The making of a polynomial, as the inner functions' contracts tell it: the code they come to, and what they leave.
+use Prim.Native.Nat.{ℕ, suc}
 use mathlib.Core.Path.{_≡_}
-use mathlib.Core.Bool.{true, cond}
+use mathlib.Core.Bool.{cond}
 use mathlib.Core.List.{List}
-use lib.ListN.{length}
 use lib.Dec.{eqb}
 use lib.IntN.{ℤ, pos}
 use lib.Signed.{ltZ}
@@ -12,18 +10,9 @@ use Rattle.definitions.specs.Codes.{DONE, OVER, TALL}
 use Rattle.definitions.specs.Numbers.{rOf}
 use Rattle.definitions.specs.Polynomials.{degree}
 use Rattle.definitions.specs.Steps.{largest}
-use Rattle.definitions.specs.Requests.{knownKind, goodIndex, divisorsDue, overAmong, zeros}
+use Rattle.definitions.specs.Requests.{divisorsDue, overAmong, zeros}
 use Rattle.definitions.specs.Answer.{coefficients, height, additionsFor}
-use Rattle.index.specs.Parts.{partsOf}
-use Rattle.index.specs.declared.Parts.{Parts}
 use Rattle.polynomial.specs.declared.making.MakingOutcome.{MakingOutcome}
-
--- n is good and taken apart, and l has just the room
-pub record Ready (kind n : ℕ) (a : Parts) (l : List ℤ) : Type 0 where
-  pub parts : a ≡ partsOf n
-  pub known : knownKind kind ≡ true
-  pub good : goodIndex n ≡ true
-  pub room : length l ≡ degree kind n + 1
 
 -- OVER, then TALL
 unfoldable pub makingCode : ℕ → ℕ → ℤ → ℕ

@@ -4,7 +4,7 @@ use lib.IntN.{pos}
 use lib.Signed.{ltZ}
 use Rattle.polynomial.specs.Making.{MakingOutcomeIs}
 use Rattle.shapes.proofs.Negation.{read-back}
-use Rattle.polynomial.proofs.Laying.{above-zero, r-is}
+use Rattle.laying.proofs.Laying.{above-zero, r-is}
 use Rattle.polynomial.proofs.Stepping.{laid-one}
 use borrow.Author.Needs.{needs}
 use Rattle.polynomial.proofs.making.make.Statement.{statement}

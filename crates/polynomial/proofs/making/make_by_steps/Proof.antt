@@ -1,11 +1,13 @@
 -- `make_by_steps` meets its contract: the kept half after all divisors, its height, and the outcome (`Halfway`). What
 -- is known after `half_degree`, after the steps and after the height is named once each.
 use Prim.Native.Nat.{ℕ, _+_, _≤_}
-use mathlib.Core.Path.{_≡_, sym, _∙_, ap, ap₂}
+use mathlib.Core.Path.{_≡_, sym, _∙_, ap}
 use mathlib.Core.Bool.{false}
 use mathlib.Core.List.{List, _++_}
 use native.Mathlib.Omega.{arith}
-use lib.IntN.{ℤ, pos}
+use borrow.Author.Tests.{lt-ltb, le-ltb}
+use lib.Dec.{ltb}
+use lib.IntN.{ℤ, pos, natAbs}
 use lib.ListN.{length, take, drop}
 use lib.Seq.{length-take-le}
 use lib.Signed.{ltZ}
@@ -13,7 +15,8 @@ use Rattle.definitions.specs.Numbers.{rOf}
 use Rattle.definitions.specs.KeptHalf.{halfDegree}
 use Rattle.definitions.specs.Answer.{height}
 use Rattle.kept.proofs.Stopping.{half-is}
-use Rattle.shapes.proofs.Negation.{read-back}
+use Rattle.step_laws.specs.Machine.{seen}
+use Rattle.polynomial.proofs.Limits.{limit-casts, limit-test}
 use Rattle.polynomial.proofs.Stepping.{steps-due, half-room, Halfway, halfway}
 use borrow.Author.Needs.{needs}
 use Rattle.polynomial.proofs.making.make_by_steps.Statement.{statement}
@@ -51,22 +54,23 @@ module _ (c : tie.After-all-steps) where
   part-room = omega (arith, mid .rest-length, room at-start)
 
 -- after the height
-module _ (t : tie.After-is-tall) where
+module _ (t : tie.After-height) where
   abbrev steps : tie.After-all-steps
-  steps = t .before .before .before .before .before
+  steps = t .before .before .before .before
 
   abbrev begin : tie.Start
   begin = start (at-start steps)
 
   inside : steps .all-steps .result .over ≡ false
-  inside = t .before .before .before .if1 .left
+  inside = t .before .before .if1 .left
 
-  high : t .before .height .result ≡ height (begin .args .kind) (begin .args .n)
-  high = mid steps .height-is inside _ (t .before .height .ensures)
+  high : t .height .result ≡ height (begin .args .kind) (begin .args .n)
+  high = mid steps .height-is inside _ (t .height .ensures)
 
-  told : t .is-tall .result ≡ ltZ (begin .args .h) (pos (height (begin .args .kind) (begin .args .n)))
-  told = t .is-tall .ensures
-      ∙ ap₂ (λ x y. ltZ x (pos y)) (read-back (begin .args .h) (begin .fits .h .sfits)) high
+  told : ltb (natAbs (seen (begin .args .h))) (t .height .result)
+      ≡ ltZ (begin .args .h) (pos (height (begin .args .kind) (begin .args .n)))
+  told = limit-test (begin .args .h) _ (begin .fits .h .sfits) (begin .pre .2)
+      ∙ ap (λ y. ltZ (begin .args .h) (pos y)) high
 
 half-degree-requires : tie.Need-half-degree-requires
 half-degree-requires c κs = search needs
@@ -109,8 +113,8 @@ slice-aggregate-height c = sym (length-take-le _ _ (part-room (c .before .before
 height-requires : tie.Need-height-requires
 height-requires c κs = search needs
 
-is-tall-requires : tie.Need-is-tall-requires
-is-tall-requires c κs = search needs
+cast-if2 : tie.Need-cast-if2
+cast-if2 c = limit-casts (begin c .args .h) (begin c .fits .h .sfits) (begin c .pre .2)
 
 clear-requires-2 : tie.Need-clear-requires-2
 clear-requires-2 c κs = search needs
@@ -125,7 +129,7 @@ returns-2 : tie.Need-returns-2
 returns-2 c =
     let t = c .before .before .before .before .before in
     rw (c .refused2 .ensures)
-    (mid (steps t) .tall (inside t) _ _ (sym (told t) ∙ c .before .before .before .before .if2 .taken)
+    (mid (steps t) .tall (inside t) _ _ (sym (told t) ∙ lt-ltb _ _ (c .before .before .before .before .if2 .taken))
     (c .before .before .clear2 .ensures))
 
 from-lower-half-requires : tie.Need-from-lower-half-requires
@@ -138,7 +142,7 @@ same-length-3 c = search needs
 returns-3 : tie.Need-returns-3
 returns-3 c =
     let t = c .before .before .before .before in
-    mid (steps t) .done (inside t) _ _ _ (sym (told t) ∙ c .before .before .before .if2 .left)
+    mid (steps t) .done (inside t) _ _ _ (sym (told t) ∙ le-ltb _ _ (c .before .before .before .if2 .left))
     (c .before .from-lower-half .ensures) (high t)
 
 pub make-by-steps-spec : {M : Type 1} → statement M
@@ -157,7 +161,7 @@ make-by-steps-spec =
     slice-reshare-prefix-height
     slice-aggregate-height
     height-requires
-    is-tall-requires
+    cast-if2
     clear-requires-2
     refused-requires-2
     same-length-2

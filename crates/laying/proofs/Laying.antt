@@ -26,7 +26,7 @@ use Rattle.series.specs.Maps.{spread-on, spread-off}
 use Rattle.step_laws.specs.Firsts.{firsts-same, length-firsts, getD-firsts}
 use Rattle.cyclotomic.specs.Apart.{taken-apart}
 use Rattle.cyclotomic.specs.Degrees.{degree-apart}
-use Rattle.polynomial.specs.Making.{Ready}
+use Rattle.laying.specs.Ready.{Ready}
 use Rattle.index.specs.declared.Parts.{Parts}
 use Rattle.index.proofs.Laws.{index-good, parts-r, parts-m, parts-t, parts-free}
 use Rattle.growth.proofs.Growing.{front-entry, front-length}

@@ -5,10 +5,10 @@ use mathlib.Core.Bool.{cond}
 use native.Mathlib.Omega.{arith}
 use lib.Dec.{eqb}
 use Rattle.definitions.specs.Numbers.{mOf}
-use Rattle.polynomial.proofs.Laying.{LaidOut, laid-out, tiny-m}
+use Rattle.laying.proofs.Laying.{LaidOut, laid-out, tiny-m}
 use borrow.Author.Needs.{needs}
-use Rattle.polynomial.proofs.making.without_steps.Statement.{statement}
-use Rattle.polynomial.proofs.making.without_steps.Tie as tie
+use Rattle.laying.proofs.without_steps.Statement.{statement}
+use Rattle.laying.proofs.without_steps.Tie as tie
 
 module _ (q : tie.After-degree-from) where
   abbrev start : tie.Start

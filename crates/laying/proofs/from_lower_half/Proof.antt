@@ -9,10 +9,10 @@ use Rattle.definitions.specs.Polynomials.{degree}
 use Rattle.index.proofs.Laws.{r-small}
 use Rattle.growth.specs.Growth.{Lower}
 use Rattle.growth.proofs.Growing.{lower-front}
-use Rattle.polynomial.proofs.Laying.{LaidOut, laid-out, r-is, free-is, m-by-parity}
+use Rattle.laying.proofs.Laying.{LaidOut, laid-out, r-is, free-is, m-by-parity}
 use borrow.Author.Needs.{needs}
-use Rattle.polynomial.proofs.making.from_lower_half.Statement.{statement}
-use Rattle.polynomial.proofs.making.from_lower_half.Tie as tie
+use Rattle.laying.proofs.from_lower_half.Statement.{statement}
+use Rattle.laying.proofs.from_lower_half.Tie as tie
 
 module _ (q : tie.After-degree-from) where
   abbrev start : tie.Start

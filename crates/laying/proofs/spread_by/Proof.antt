@@ -6,8 +6,8 @@ use Rattle.definitions.specs.Steps.{entries}
 use Rattle.series.specs.Maps.{spread-one}
 use Rattle.step_laws.specs.Firsts.{firsts-entries}
 use borrow.Author.Needs.{needs}
-use Rattle.polynomial.proofs.making.spread_by.Statement.{statement}
-use Rattle.polynomial.proofs.making.spread_by.Tie as tie
+use Rattle.laying.proofs.spread_by.Statement.{statement}
+use Rattle.laying.proofs.spread_by.Tie as tie
 
 returns : tie.Need-returns
 returns c =

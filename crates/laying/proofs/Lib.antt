@@ -1,0 +1,2 @@
+-- Laws that the functions' proofs share, and `polynomial`'s.
+pub mod Laying

@@ -1,0 +1,2 @@
+-- What the laying out starts from, as the contracts tell it.
+pub mod Ready
