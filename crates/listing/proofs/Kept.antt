@@ -11,7 +11,8 @@ use lib.ListN.{length, take, length-append, length-set, length-replicate}
 use lib.Seq.{take-suc-set}
 use Rattle.step_laws.specs.Tests.{by-test, by-order}
 use Rattle.lines.specs.Request.{isGood}
-use Rattle.replies.specs.Reply.{wrongLine, reply}
+use Rattle.answer_lines.specs.Printed.{wrongLine}
+use Rattle.replies.specs.Reply.{reply}
 use Rattle.open_line.specs.OpenLine.{KEPT, startLine, pushed, nextLine}
 use Rattle.open_line.specs.declared.Line.{Line}
 use Rattle.listing.specs.Stream.{closing}

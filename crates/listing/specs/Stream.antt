@@ -8,7 +8,8 @@ use lib.Dec.{eqb, ltb, leb}
 use Rattle.text.specs.Text.{NEWLINE}
 use Rattle.open_line.specs.OpenLine.{KEPT, pushed, nextLine}
 use Rattle.open_line.specs.declared.Line.{Line}
-use Rattle.replies.specs.Reply.{reply, wrongLine}
+use Rattle.answer_lines.specs.Printed.{wrongLine}
+use Rattle.replies.specs.Reply.{reply}
 pub use Rattle.replies.specs.Reply.{MOST}
 
 -- what is printed for the line at its newline

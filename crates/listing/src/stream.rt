@@ -10,12 +10,12 @@ ghost use Rattle.replies.specs.Reply.{MOST as Most};
 ghost use Rattle.listing.specs.Stream.{closing};
 ghost use Rattle.listing.specs.Ran.{Ran};
 use crate::Progress;
+use answer_lines::put_wrong;
 use open_line::Line;
 use open_line::next;
 use open_line::push;
 use replies::MOST;
 use replies::put_reply;
-use replies::put_wrong;
 
 // What a newline prints.
 fn put_closing(out: &mut [u8], at: usize, line: Line, entries: &mut [i64]) -> usize

@@ -1,4 +1,3 @@
 -- What several proofs of `replies` share, and what `listing` cites.
-pub mod Head
 pub mod Replying
 pub mod OneOutcome

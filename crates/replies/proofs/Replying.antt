@@ -21,7 +21,8 @@ use Rattle.answers.specs.Polynomial.{code, answered, answer, left, leaves}
 use Rattle.answers.specs.declared.Answer.{Answer}
 use Rattle.text.specs.Text.{NEWLINE, spaced}
 use Rattle.lines.specs.Request.{readLine}
-use Rattle.replies.specs.Reply.{LENT, headOf, tailOf, goodLine, wrongLine, replyTo, reply}
+use Rattle.answer_lines.specs.Printed.{headOf, tailOf, goodLine, wrongLine}
+use Rattle.replies.specs.Reply.{LENT, replyTo, reply}
 use Rattle.lines.specs.declared.Request.{Request}
 
 -- a refusal that was not given

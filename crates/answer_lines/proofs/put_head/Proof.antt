@@ -1,9 +1,9 @@
 -- `replies::reply::put_head` meets its contract: its five parts, one after the other.
 use native.Mathlib.Omega.{arith}
-use Rattle.replies.proofs.Head.{put-headed}
+use Rattle.answer_lines.proofs.Head.{put-headed}
 use borrow.Author.Needs.{needs}
-use Rattle.replies.proofs.reply.put_head.Statement.{statement}
-use Rattle.replies.proofs.reply.put_head.Tie as tie
+use Rattle.answer_lines.proofs.put_head.Statement.{statement}
+use Rattle.answer_lines.proofs.put_head.Tie as tie
 
 letter-of-requires : tie.Need-letter-of-requires
 letter-of-requires c κs = search needs

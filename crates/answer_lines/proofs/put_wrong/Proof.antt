@@ -1,10 +1,10 @@
 -- `replies::reply::put_wrong` meets its contract: three parts, one after the other.
 use native.Mathlib.Omega.{arith}
-use Rattle.replies.specs.Reply.{wrongLine}
+use Rattle.answer_lines.specs.Printed.{wrongLine}
 use Rattle.text.proofs.Putting.{then}
 use borrow.Author.Needs.{needs}
-use Rattle.replies.proofs.reply.put_wrong.Statement.{statement}
-use Rattle.replies.proofs.reply.put_wrong.Tie as tie
+use Rattle.answer_lines.proofs.put_wrong.Statement.{statement}
+use Rattle.answer_lines.proofs.put_wrong.Tie as tie
 
 put-requires : tie.Need-put-requires
 put-requires c κs = search needs

@@ -2,11 +2,11 @@
 use native.Mathlib.Omega.{arith}
 use borrow.Author.Tests.{eq-eqb, ne-eqb}
 use Rattle.text.specs.Text.{spaced}
-use Rattle.replies.specs.Reply.{tailOf}
+use Rattle.answer_lines.specs.Printed.{tailOf}
 use Rattle.text.proofs.Putting.{then}
 use borrow.Author.Needs.{needs}
-use Rattle.replies.proofs.reply.put_tail.Statement.{statement}
-use Rattle.replies.proofs.reply.put_tail.Tie as tie
+use Rattle.answer_lines.proofs.put_tail.Statement.{statement}
+use Rattle.answer_lines.proofs.put_tail.Tie as tie
 
 add-count : tie.Need-add-count
 add-count c = omega (arith, c .before .before .pre .1 (c .if1 .taken))

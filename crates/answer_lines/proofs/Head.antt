@@ -6,7 +6,7 @@ use Rattle.answers.specs.declared.Answer.{Answer}
 use Rattle.text.specs.Text.{SPACE, COLON, spaced}
 use Rattle.text.specs.Puts.{Puts}
 use Rattle.text.proofs.Putting.{then, spaced-append}
-use Rattle.replies.specs.Reply.{letterOf, headOf}
+use Rattle.answer_lines.specs.Printed.{letterOf, headOf}
 
 -- a head in its five parts
 pub put-headed : (kind n : ℕ) (a : Answer) {at p₁ p₂ p₃ p₄ p₅ : ℕ} {l m₁ m₂ m₃ m₄ m₅ : List ℕ}

@@ -1,8 +1,8 @@
 -- `replies::reply::letter_of` meets its contract, by the test of the kind.
 use borrow.Author.Tests.{eq-eqb, ne-eqb}
-use Rattle.replies.specs.Reply.{letterOf}
-use Rattle.replies.proofs.reply.letter_of.Statement.{statement}
-use Rattle.replies.proofs.reply.letter_of.Tie as tie
+use Rattle.answer_lines.specs.Printed.{letterOf}
+use Rattle.answer_lines.proofs.letter_of.Statement.{statement}
+use Rattle.answer_lines.proofs.letter_of.Tie as tie
 
 returns : tie.Need-returns
 unfolding letterOf

@@ -5,8 +5,8 @@ use lib.IntN.{pos}
 use Rattle.text.specs.Text.{spaced}
 use Rattle.text.proofs.Putting.{then, spaced-append}
 use borrow.Author.Needs.{needs}
-use Rattle.replies.proofs.reply.put_three.Statement.{statement}
-use Rattle.replies.proofs.reply.put_three.Tie as tie
+use Rattle.answer_lines.proofs.put_three.Statement.{statement}
+use Rattle.answer_lines.proofs.put_three.Tie as tie
 
 put-item-requires : tie.Need-put-item-requires
 put-item-requires c κs = search needs

@@ -1,0 +1,2 @@
+-- A law that `put_head`'s proof cites.
+mod Head
