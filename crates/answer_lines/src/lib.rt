@@ -1,5 +1,5 @@
-// Inner: each `requires` is shown by `replies` and `listing`, which see to the room. The text of an answer, and of a line
-// that is not good.
+// Inner: each `requires` is shown by `replies` and `listing`, which see to the room. The text of an answer, and of a
+// line that is not good.
 
 ghost use mathlib.Core.Path.{_≡_};
 ghost use mathlib.Core.List.{[], _∷_};

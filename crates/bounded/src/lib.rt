@@ -1,5 +1,5 @@
-// Inner: nothing here is offered to callers; the `requires` is shown by `kept`. One step on entries whose magnitudes are
-// bounded: where they are known to be small enough it needs no test.
+// Inner: nothing here is offered to callers; the `requires` is shown by `kept`. One step on entries whose magnitudes
+// are bounded: where they are known to be small enough it needs no test.
 use passes::Sort;
 use steps::Step;
 use untested::untested_step;
