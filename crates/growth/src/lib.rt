@@ -1,4 +1,4 @@
-// Inner: each `requires` is shown by `polynomial`. From the lower half for r to the polynomial of m, in place.
+// Inner: each `requires` is shown by `laying`. From the lower half for r to the polynomial of m, in place.
 ghost use Prim.Native.Nat.{ℕ, _+_, _*_, _-_, _≤_};
 ghost use mathlib.Core.Path.{_≡_};
 ghost use mathlib.Core.Bool.{cond, true};

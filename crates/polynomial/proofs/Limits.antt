@@ -1,7 +1,7 @@
--- A height limit that is not below 1 is a number above 0, and comparing it with a height is comparing numbers.
-use Prim.Native.Nat.{ℕ, zero, suc, _^_, _<_}
-use mathlib.Core.Path.{_≡_, refl, sym, _∙_, ap}
-use mathlib.Core.Bool.{true, false, true≢false}
+-- A height limit that is not below 1 can be cast, and comparing it with a height is comparing numbers.
+use Prim.Native.Nat.{ℕ, _^_, _<_}
+use mathlib.Core.Path.{_≡_}
+use mathlib.Core.Bool.{false, true≢false}
 use native.Mathlib.Omega.{arith}
 use lib.Dec.{T, ltb}
 use lib.IntN.{ℤ, pos, negsuc, natAbs}
@@ -10,10 +10,6 @@ use mir.Syntax.{w64}
 use mir.Val.{Fits}
 use Rattle.step_laws.specs.Machine.{seen}
 use Rattle.shapes.proofs.Negation.{read-back}
-
-pub limit-number : (h : ℤ) → ltZ h (pos 1) ≡ false → (k : ℕ) × (h ≡ pos k)
-limit-number (pos k) e = (k, refl)
-limit-number (negsuc k) e = absurd (true≢false e)
 
 pub limit-casts : (h : ℤ) → mag h < 2 ^ 63 → ltZ h (pos 1) ≡ false → T (nonNeg (seen h)) × Fits w64 (natAbs (seen h))
 limit-casts (pos k) f e = rw (read-back (pos k) f) (tt, record { fits = omega arith })

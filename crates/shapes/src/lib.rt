@@ -1,4 +1,4 @@
-// Inner: each `requires` is shown by the callers `kept` and `polynomial`. The passes that give a polynomial its shape,
+// Inner: each `requires` is shown by the callers `growth` and `laying`. The passes that give a polynomial its shape,
 // in place: clearing, the upper half, the signs and the second copy of an even index, and z^t for z. Each works on a
 // slice that is just as long as what it makes.
 ghost use Prim.Native.Nat.{ℕ, _+_, _*_, _-_, _/_, _<_, _≤_};

@@ -1,4 +1,4 @@
-// Inner: each `requires` is shown by the caller `kept`. The steps without a test of the range, where it is known that
+// Inner: each `requires` is shown by the caller `bounded`. The steps without a test of the range, where it is known that
 // no value leaves it: by fours, and one by one what they leave.
 
 mod fours;

@@ -1,4 +1,4 @@
--- `start_kept_half` meets its contract: zeros, and the first entry stored (Advancing).
+-- `start_kept_half` meets its contract: zeros, and the first entry stored (Starting).
 use mathlib.Core.Path.{_∙_, ap}
 use lib.ListN.{length}
 use Rattle.kept.proofs.Starting.{started, start-seen}
