@@ -1,2 +1,3 @@
 -- What is proved of the answers as a whole.
 pub mod OneOutcome
+pub mod WorkingLimit

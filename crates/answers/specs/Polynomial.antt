@@ -1,28 +1,28 @@
--- The polynomial request (docs/RULES.md, 'The polynomial request'): kind, index n, height limit h, and a buffer of so
--- many entries.
+-- The polynomial request (docs/RULES.md, 'The polynomial request'): kind, index n, height limit h, working
+-- limit w, and a buffer of so many entries.
 use Prim.Native.Nat.{ℕ, suc}
 use mathlib.Core.Bool.{cond, not, _||_}
 use mathlib.Core.List.{List}
 use lib.ListN.{length}
 use lib.Dec.{eqb, leb}
-use lib.IntN.{ℤ, pos}
+use lib.IntN.{ℤ, pos, natAbs}
 use lib.Signed.{ltZ}
 use Rattle.definitions.specs.Codes.{DONE, KIND, INDEX, LIMIT, SHORT, OVER, TALL}
 use Rattle.definitions.specs.Numbers.{rOf}
 use Rattle.definitions.specs.Polynomials.{degree}
-use Rattle.definitions.specs.Steps.{largest}
+use Rattle.definitions.specs.Steps.{belowOne}
 use Rattle.definitions.specs.Requests.{knownKind, goodIndex, divisorsDue, overAmong, written, zeros}
 use Rattle.definitions.specs.Answer.{coefficients, height, gain, additionsFor}
 use Rattle.answers.specs.declared.Answer.{Answer}
 
--- the refusals in their order, 1 to 6
-unfoldable pub code : ℕ → ℕ → ℤ → ℕ → ℕ
-code kind n h room =
+-- the refusals in their order, 1 to 6; of the limits h is tested first, then w
+unfoldable pub code : ℕ → ℕ → ℤ → ℤ → ℕ → ℕ
+code kind n h w room =
     cond (not (knownKind kind)) KIND
     (cond (not (goodIndex n)) INDEX
-    (cond (ltZ h (pos 1)) LIMIT
+    (cond (belowOne h || belowOne w) LIMIT
     (cond (leb room (degree kind n)) SHORT
-    (cond (overAmong largest kind (rOf n) (divisorsDue (rOf n))) OVER
+    (cond (overAmong (natAbs w) kind (rOf n) (divisorsDue (rOf n))) OVER
     (cond (ltZ h (pos (height kind n))) TALL DONE)))))
 
 -- the answer for a code: the true degree from SHORT on, and the rest on code 0 alone
@@ -36,8 +36,8 @@ answered kind n code =
       gain = cond (eqb code DONE) (gain kind n) 0;
     }
 
-unfoldable pub answer : ℕ → ℕ → ℤ → ℕ → Answer
-answer kind n h room = answered kind n (code kind n h room)
+unfoldable pub answer : ℕ → ℕ → ℤ → ℤ → ℕ → Answer
+answer kind n h w room = answered kind n (code kind n h w room)
 
 -- what stands in the buffer: the polynomial on code 0, zeros in its place on OVER and TALL
 unfoldable pub left : ℕ → ℕ → ℕ → List ℤ → List ℤ
@@ -45,5 +45,5 @@ left kind n code l =
     cond (eqb code DONE) (written (coefficients kind n) l)
     (cond (leb OVER code) (written (zeros (suc (degree kind n))) l) l)
 
-unfoldable pub leaves : ℕ → ℕ → ℤ → List ℤ → List ℤ
-leaves kind n h l = left kind n (code kind n h (length l)) l
+unfoldable pub leaves : ℕ → ℕ → ℤ → ℤ → List ℤ → List ℤ
+leaves kind n h w l = left kind n (code kind n h w (length l)) l

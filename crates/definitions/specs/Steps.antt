@@ -5,11 +5,12 @@ use Prim.Native.Nat.{ℕ, zero, suc, _-_}
 use mathlib.Core.Bool.{Bool, true, false, cond, not, _&&_, _||_}
 use mathlib.Core.List.{List, [], _∷_}
 use lib.ListN.{length, getD}
-use lib.IntN.{ℤ, natAbs}
+use lib.IntN.{ℤ, pos, natAbs}
+use lib.Signed.{ltZ}
 use lib.Dec.{eqb, ltb, leb}
 use Rattle.definitions.specs.Integers.{_⊕_, _⊝_, 0ℤ}
 use Rattle.definitions.specs.Series.{Series, firsts}
-use Rattle.definitions.specs.Codes.{DONE, OVER, STEP}
+use Rattle.definitions.specs.Codes.{DONE, LIMIT, OVER, STEP}
 
 pub data Sort : Type 0 where
   comb accumulate : Sort
@@ -29,7 +30,7 @@ unfoldable pub stepped : Sort → ℕ → Series → Series
 stepped comb d a = combed d a
 stepped accumulate d a = accumulated d a
 
--- a value is in the range w where its magnitude is at most w
+-- a value is in the range w where its magnitude is at most w, the working limit
 unfoldable pub inRange : ℕ → ℤ → Bool
 inRange w v = leb (natAbs v) w
 
@@ -50,16 +51,24 @@ stepOver w s d l = someOutside w d (length l) (stepped s d (entries l))
 unfoldable pub stepList : Sort → ℕ → List ℤ → List ℤ
 stepList s d l = firsts (length l) (stepped s d (entries l))
 
--- the largest value that is ever delivered, and the range of every step
+-- the largest value that is ever delivered, and the largest working limit
 abbrev pub largest : ℕ
 largest = 9223372036854775807
 
--- a step asked for on its own: STEP for size 0 or above 65,535, then OVER, and both leave every entry as it was
-unfoldable pub stepCode : ℕ → Sort → ℕ → List ℤ → ℕ
-stepCode w s d l = cond (eqb d 0 || ltb 65535 d) STEP (cond (stepOver w s d l) OVER DONE)
+-- a limit below 1, for a height or for the values of the steps, is none
+unfoldable pub belowOne : ℤ → Bool
+belowOne w = ltZ w (pos 1)
 
-unfoldable pub stepCount : ℕ → Sort → ℕ → List ℤ → ℕ
+-- a step asked for on its own, with a working limit w: STEP for size 0 or above 65,535, then LIMIT, then OVER, and each
+-- leaves every entry as it was
+unfoldable pub stepCode : ℤ → Sort → ℕ → List ℤ → ℕ
+stepCode w s d l =
+    cond (eqb d 0 || ltb 65535 d) STEP
+    (cond (belowOne w) LIMIT
+    (cond (stepOver (natAbs w) s d l) OVER DONE))
+
+unfoldable pub stepCount : ℤ → Sort → ℕ → List ℤ → ℕ
 stepCount w s d l = cond (eqb (stepCode w s d l) DONE) (length l - d) 0
 
-unfoldable pub stepLeaves : ℕ → Sort → ℕ → List ℤ → List ℤ
+unfoldable pub stepLeaves : ℤ → Sort → ℕ → List ℤ → List ℤ
 stepLeaves w s d l = cond (eqb (stepCode w s d l) DONE) (stepList s d l) l

@@ -7,4 +7,5 @@ pub mod Step
 pub mod Told
 pub mod Signed
 pub mod Machine
+pub mod WorkingLimit
 pub mod Bound

@@ -1,7 +1,8 @@
--- Proofs by a test's two values, by the order of two numbers, and that two tests agree.
+-- Proofs by a test's two values, by the order of two numbers, that two tests agree, and what a chain of tests says that
+-- ends in DONE.
 use mathlib.Core.Path.{_≡_, refl, sym, _∙_}
-use mathlib.Core.Bool.{Bool, true, false}
-use Prim.Native.Nat.{ℕ, _<_, _≤_}
+use mathlib.Core.Bool.{Bool, true, false, true≢false, cond, _||_}
+use Prim.Native.Nat.{ℕ, suc, _<_, _≤_}
 use native.Mathlib.Omega.{arith}
 use borrow.Author.Tests.{ltb-true, ltb-false, le-leb, lt-leb}
 use lib.Dec.{ltb, leb}
@@ -29,3 +30,15 @@ same-test a b c d f g =
   where
     clash : b < a → a ≤ b → ⊥
     clash l m = omega arith
+
+-- no test of a chain that ends in 0 gave its code, which is not 0
+pub past : (b : Bool) (c : ℕ) {x : ℕ} → cond b (suc c) x ≡ 0 → (b ≡ false) × (x ≡ 0)
+past true c e = absurd (code-given e)
+  where
+    code-given : suc c ≡ 0 → ⊥
+    code-given e = omega arith
+past false c e = (refl, e)
+
+pub or-false : (a b : Bool) → (a || b) ≡ false → (a ≡ false) × (b ≡ false)
+or-false true b e = absurd (true≢false e)
+or-false false b e = (refl, e)

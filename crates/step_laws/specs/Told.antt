@@ -1,4 +1,4 @@
--- What a step asked for on its own tells and leaves, by the three ways that it can go: STEP, OVER, or done.
+-- What a step asked for on its own tells and leaves, by the ways that it can go: STEP, LIMIT, OVER, or done.
 use mathlib.Core.Path.{_≡_, sym, _∙_, ap}
 use mathlib.Core.Bool.{true, false, cond, or-true}
 use mathlib.Core.List.{List}
@@ -6,14 +6,14 @@ use Prim.Native.Nat.{ℕ, _-_, _<_, _≤_}
 use native.Mathlib.Omega.{arith}
 use borrow.Author.Tests.{lt-ltb, le-ltb, eq-eqb, ne-eqb}
 use lib.ListN.{length}
-use lib.IntN.{ℤ}
+use lib.IntN.{ℤ, natAbs}
 use lib.Dec.{eqb}
-use Rattle.definitions.specs.Codes.{DONE, OVER, STEP}
-use Rattle.definitions.specs.Steps.{Sort, stepOver, stepList, stepCode, stepCount, stepLeaves}
+use Rattle.definitions.specs.Codes.{DONE, LIMIT, OVER, STEP}
+use Rattle.definitions.specs.Steps.{Sort, stepOver, stepList, belowOne, stepCode, stepCount, stepLeaves}
 use Rattle.step_laws.specs.Step.{long-not-over, long-stays}
 
 -- the code, the count and the entries that docs/RULES.md asks of this step
-pub record Told (w : ℕ) (s : Sort) (d : ℕ) (l : List ℤ) (told counted : ℕ) (m : List ℤ) : Type 0 where
+pub record Told (w : ℤ) (s : Sort) (d : ℕ) (l : List ℤ) (told counted : ℕ) (m : List ℤ) : Type 0 where
   pub code : told ≡ stepCode w s d l
   pub count : counted ≡ stepCount w s d l
   pub leaves : m ≡ stepLeaves w s d l
@@ -24,7 +24,7 @@ none e one = omega arith
 nothing : {n d : ℕ} → n ≤ d → n - d ≡ 0
 nothing h = omega arith
 
-module _ (w : ℕ) (s : Sort) (d : ℕ) (l : List ℤ) where
+module _ (w : ℤ) (s : Sort) (d : ℕ) (l : List ℤ) where
   -- the code says the rest
   told-by : {c : ℕ} → stepCode w s d l ≡ c
       → Told w s d l c (cond (eqb c DONE) (length l - d) 0) (cond (eqb c DONE) (stepList s d l) l)
@@ -37,11 +37,9 @@ module _ (w : ℕ) (s : Sort) (d : ℕ) (l : List ℤ) where
 
   code-large : 65535 < d → stepCode w s d l ≡ STEP
   unfolding stepCode
-  code-large h = rw (lt-ltb 65535 d h) (ap (λ b. cond b STEP (cond (stepOver w s d l) OVER DONE)) (or-true (eqb d 0)))
-
-  code-size : 1 ≤ d → d ≤ 65535 → stepCode w s d l ≡ cond (stepOver w s d l) OVER DONE
-  unfolding stepCode
-  code-size one most = rw (ne-eqb d 0 (λ e. none e one), le-ltb 65535 d most)
+  code-large h =
+      rw (lt-ltb 65535 d h)
+      (ap (λ b. cond b STEP (cond (belowOne w) LIMIT (cond (stepOver (natAbs w) s d l) OVER DONE))) (or-true (eqb d 0)))
 
   -- a size of 0 or above 65,535
   pub told-zero : d ≡ 0 → Told w s d l STEP 0 l
@@ -50,15 +48,29 @@ module _ (w : ℕ) (s : Sort) (d : ℕ) (l : List ℤ) where
   pub told-large : 65535 < d → Told w s d l STEP 0 l
   told-large h = told-by (code-large h)
 
-  -- a value out of range, and none
-  pub told-over : 1 ≤ d → d ≤ 65535 → stepOver w s d l ≡ true → Told w s d l OVER 0 l
-  told-over one most o = told-by (code-size one most ∙ ap (λ b. cond b OVER DONE) o)
+  -- a good size
+  module _ (one : 1 ≤ d) (most : d ≤ 65535) where
+    code-size : stepCode w s d l ≡ cond (belowOne w) LIMIT (cond (stepOver (natAbs w) s d l) OVER DONE)
+    unfolding stepCode
+    code-size = rw (ne-eqb d 0 (λ e. none e one), le-ltb 65535 d most)
 
-  pub told-done : 1 ≤ d → d ≤ 65535 → stepOver w s d l ≡ false → Told w s d l DONE (length l - d) (stepList s d l)
-  told-done one most o = told-by (code-size one most ∙ ap (λ b. cond b OVER DONE) o)
+    -- a limit below 1
+    pub told-limit : belowOne w ≡ true → Told w s d l LIMIT 0 l
+    told-limit b = told-by (code-size ∙ ap (λ b. cond b LIMIT (cond (stepOver (natAbs w) s d l) OVER DONE)) b)
 
-  -- a size that is at least the length
-  pub told-long : 1 ≤ d → d ≤ 65535 → length l ≤ d → Told w s d l DONE 0 l
-  told-long one most h =
-      let t = told-done one most (long-not-over s d l w h) in
-      record { code = t .code; count = sym (nothing h) ∙ t .count; leaves = sym (long-stays s d l h) ∙ t .leaves }
+    -- and a good one: a value passes it, or none
+    module _ (good : belowOne w ≡ false) where
+      code-good : stepCode w s d l ≡ cond (stepOver (natAbs w) s d l) OVER DONE
+      code-good = code-size ∙ ap (λ b. cond b LIMIT (cond (stepOver (natAbs w) s d l) OVER DONE)) good
+
+      pub told-over : stepOver (natAbs w) s d l ≡ true → Told w s d l OVER 0 l
+      told-over o = told-by (code-good ∙ ap (λ b. cond b OVER DONE) o)
+
+      pub told-done : stepOver (natAbs w) s d l ≡ false → Told w s d l DONE (length l - d) (stepList s d l)
+      told-done o = told-by (code-good ∙ ap (λ b. cond b OVER DONE) o)
+
+      -- a size that is at least the length
+      pub told-long : length l ≤ d → Told w s d l DONE 0 l
+      told-long h =
+          let t = told-done (long-not-over s d l (natAbs w) h) in
+          record { code = t .code; count = sym (nothing h) ∙ t .count; leaves = sym (long-stays s d l h) ∙ t .leaves }
