@@ -1,52 +1,49 @@
--- A step that looks at each value: what its answer tells where the size is good, and that the entries stay in range.
-use Prim.Native.Nat.{ℕ, _≤_}
+-- A step that looks at each value: what it tells, whole or undone, and how large the magnitudes are then.
+use Prim.Native.Nat.{ℕ, _≤_, max}
 use mathlib.Core.Path.{_≡_, refl, sym, _∙_, ap}
-use mathlib.Core.Bool.{Bool, true, false, cond, not}
+use mathlib.Core.Bool.{Bool, true, false, true≢false, not, cond}
 use mathlib.Core.List.{List}
-use native.Mathlib.Nat.{le-refl}
-use lib.ListN.{length}
-use lib.Dec.{eqb}
+use native.Mathlib.Omega.{arith}
 use lib.IntN.{ℤ}
-use Rattle.definitions.specs.Codes.{DONE}
-use Rattle.definitions.specs.Steps.{Sort, entries, largest, stepOver, stepList, stepCode, stepLeaves}
+use Rattle.definitions.specs.Steps.{Sort, entries, stepOver, stepList}
 use Rattle.step_laws.specs.Bound.{Bounded, stays-inside}
-use Rattle.step_laws.specs.Step.{length-stepList}
-use Rattle.step_laws.specs.Tests.{by-test}
-use Rattle.step_laws.specs.Told.{Told, told-over, told-done}
+use Rattle.step_laws.specs.WorkingLimit.{over-more}
+use Rattle.passes.specs.Passes.{SteppedOrUndone}
 use Rattle.bounded.specs.Outcome.{StepOutcomeIs}
 
--- a step of good size
-module _ (s : Sort) (d : ℕ) (l : List ℤ) (one : 1 ≤ d) (small : d ≤ 65535) where
-  pub code-over : not (eqb (stepCode largest s d l) DONE) ≡ stepOver largest s d l
-  code-over =
-      by-test (stepOver largest s d l)
-      (λ t. ap (λ c. not (eqb c DONE)) (sym (told-over largest s d l one small t .code)) ∙ sym t)
-      (λ t. ap (λ c. not (eqb c DONE)) (sym (told-done largest s d l one small t .code)) ∙ sym t)
+module _ {s : Sort} {d : ℕ} {l m : List ℤ} where
+  -- whole under a limit w, and so under a larger one
+  pub done : {w w′ b : ℕ} {r : Bool} → SteppedOrUndone w s d l m r → r ≡ true → w ≤ w′ → Bounded b (entries l)
+      → StepOutcomeIs w′ s d b l m (record { over = false; bound = max b w })
+  done {w} {w′} {b} {r} t e more h =
+      record {
+        over = sym (over-more more s d l none);
+        leaves = is;
+        bounded = λ _. rw is (stays-inside (max b w) s d l (λ k. omega (arith, h k)) (over-more (omega arith) s d l none));
+        inside = λ k. omega arith;
+      }
+    where
+      none : stepOver w s d l ≡ false
+      none = t .over ∙ ap not e
 
-  pub leaves-done : stepOver largest s d l ≡ false → stepLeaves largest s d l ≡ stepList s d l
-  leaves-done t = sym (told-done largest s d l one small t .leaves)
+      is : m ≡ stepList s d l
+      is = t .leaves ∙ ap (λ x. cond x (stepList s d l) l) e
 
-leaves-length : (s : Sort) (d : ℕ) (l : List ℤ) → length (stepLeaves largest s d l) ≡ length l
-unfolding stepLeaves
-leaves-length s d l = go (eqb (stepCode largest s d l) DONE)
-  where
-    go : (b : Bool) → length (cond b (stepList s d l) l) ≡ length l
-    go true = length-stepList s d l
-    go false = refl
+  -- undone
+  pub back : {w : ℕ} {r : Bool} → SteppedOrUndone w s d l m r → r ≡ false → m ≡ l
+  back t e = t .leaves ∙ ap (λ x. cond x (stepList s d l) l) e
 
--- what a step's answer tells
-pub advanced :
-    (s : Sort) (d : ℕ) (l m : List ℤ) (code : ℕ) → 1 ≤ d → d ≤ 65535 → Bounded largest (entries l)
-    → code ≡ stepCode largest s d l → m ≡ stepLeaves largest s d l
-    → StepOutcomeIs s d l m (record { over = not (eqb code DONE); bound = largest })
-advanced s d l m code one small h e f =
-    record {
-      over = told;
-      leaves = λ t. f ∙ leaves-done s d l one small (sym told ∙ t);
-      bounded = λ t. rw (f ∙ leaves-done s d l one small (sym told ∙ t)) (stays-inside largest s d l h (sym told ∙ t));
-      inside = le-refl largest;
-      len = ap length f ∙ leaves-length s d l;
-    }
-  where
-    told : not (eqb code DONE) ≡ stepOver largest s d l
-    told = ap (λ c. not (eqb c DONE)) e ∙ code-over s d l one small
+  pub undone : {w b g : ℕ} {r : Bool} → SteppedOrUndone w s d l m r → r ≡ false → (b ≤ w → g ≤ w)
+      → StepOutcomeIs w s d b l m (record { over = true; bound = g })
+  undone t e inside =
+      record {
+        over = sym (t .over ∙ ap not e);
+        leaves = back t e;
+        bounded = λ f. absurd (true≢false f);
+        inside = inside;
+      }
+
+  pub either : {w b : ℕ} (r : Bool) → SteppedOrUndone w s d l m r → Bounded b (entries l)
+      → StepOutcomeIs w s d b l m (record { over = not r; bound = max b w })
+  either true t h = done t refl (omega arith) h
+  either false t h = undone t refl (λ k. omega arith)

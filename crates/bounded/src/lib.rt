@@ -1,24 +1,28 @@
-// Inner: nothing here is offered to callers; the `requires` is shown by `kept`. One step on entries whose magnitudes
-// are bounded: where they are known to be small enough it needs no test.
+// Inner: nothing here is offered to callers; the `requires` is shown by `kept` and `steps`. One step under a working
+// limit w, on entries whose magnitudes are bounded: where none can pass w it needs no test, and where all can be added
+// and taken away it needs that of w alone.
+use heights::larger;
 use passes::Sort;
-use steps::Step;
+use passes::step_or_undo;
 use untested::untested_step;
-ghost use Prim.Native.Nat.{ℕ, _+_, _*_, _≤_};
+ghost use Prim.Native.Nat.{ℕ, _+_, _*_, _≤_, _<_, min};
 ghost use mathlib.Core.Path.{_≡_};
-ghost use mathlib.Core.Bool.{false};
-ghost use Rattle.definitions.specs.Steps.{entries, largest, stepOver, stepList};
+ghost use mathlib.Core.Bool.{true};
+ghost use lib.ListN.{length};
+ghost use Rattle.definitions.specs.Steps.{entries, largest};
 ghost use Rattle.step_laws.specs.Bound.{Bounded, growth};
 ghost use Rattle.passes.specs.Sorts.{sortMeans};
+ghost use Rattle.passes.specs.Passes.{addable};
 ghost use Rattle.bounded.specs.Outcome.{StepOutcomeIs};
 
-// The outcome of one step: a value out of range, or the bound of the magnitudes after it.
+// The outcome of one step: a value that passes the working limit, or the bound of the magnitudes after it.
 pub struct StepOutcome {
     pub over: bool,
     pub bound: u64,
 }
 
-// The largest magnitude that is in range.
-const TOP: u64 = 9223372036854775807;
+// 2^62 - 1: two numbers that are no larger can be added and taken away.
+const ADDABLE: u64 = 4611686018427387903;
 
 // How often a step of size d can add the largest magnitude of n entries to itself.
 fn times_added(sort: Sort, d: u64, n: u64) -> u64
@@ -31,44 +35,74 @@ fn times_added(sort: Sort, d: u64, n: u64) -> u64
     }
 }
 
-// A step of which it is known that no value leaves the range, and how large the magnitudes are at most after it.
-fn take_untested(a: &mut [i64], sort: Sort, d: u64, grown: u64) -> StepOutcome
-    requires { ⌜ (1 ≤ d) × (stepOver largest (sortMeans sort) d (now a) ≡ false) ⌝ }
-    requires { ⌜ Bounded grown (entries (stepList (sortMeans sort) d (now a))) × (grown ≤ largest) ⌝ }
-    ensures { λ r. ⌜ StepOutcomeIs (sortMeans sort) d (now (a .entry)) (now (a .exit)) r ⌝ }
+// Whether a magnitude that is added to itself so often stays within w: one division, and no sum that is too large.
+fn stays_within(bound: u64, times: u64, w: u64) -> bool
+    requires { ⌜ 1 ≤ times ⌝ }
+    ensures { λ r. ⌜ (r ≡ true → bound * times + bound ≤ w) ⌝ }
 {
-    untested_step(sort, a, d as usize);
+    if w < bound {
+        return false;
+    }
+    bound <= (w - bound) / times
+}
+
+fn smaller(a: u64, b: u64) -> u64
+    ensures { λ r. ⌜ r ≡ min a b ⌝ }
+{
+    if a < b { a } else { b }
+}
+
+// A step that looks at each value, and before at whether it can be taken.
+fn take_wide(a: &mut [i64], sort: Sort, d: u64, bound: u64, w: u64) -> StepOutcome
+    requires { ⌜ (1 ≤ d) × (d < length (now a)) × Bounded bound (entries (now a)) × (w ≤ largest) ⌝ }
+    ensures { λ r. ⌜ StepOutcomeIs w (sortMeans sort) d bound (now (a .entry)) (now (a .exit)) r ⌝ }
+{
+    let done = step_or_undo(sort, false, w, a, d as usize);
     StepOutcome {
-        over: false,
-        bound: grown,
+        over: !done,
+        bound: larger(bound, w),
     }
 }
 
-// A step that looks at each value.
-fn take_tested(a: &mut [i64], sort: Sort, d: u64) -> StepOutcome
-    requires { ⌜ (1 ≤ d) × (d ≤ 65535) × Bounded largest (entries (now a)) ⌝ }
-    ensures { λ r. ⌜ StepOutcomeIs (sortMeans sort) d (now (a .entry)) (now (a .exit)) r ⌝ }
+// A step on entries that can all be added: first under a limit that keeps them so. Where that is passed and w is above
+// it, the step is taken once more.
+fn take_narrow(a: &mut [i64], sort: Sort, d: u64, bound: u64, w: u64) -> StepOutcome
+    requires { ⌜ (1 ≤ d) × (d < length (now a)) × Bounded bound (entries (now a)) × (w ≤ largest) × (bound ≤ addable) ⌝ }
+    ensures { λ r. ⌜ StepOutcomeIs w (sortMeans sort) d bound (now (a .entry)) (now (a .exit)) r ⌝ }
 {
-    let step = Step { sort, size: d };
-    let done = step.apply(a);
-    StepOutcome {
-        over: done.code != answers::DONE,
-        bound: TOP,
+    let most = smaller(w, ADDABLE);
+    if step_or_undo(sort, true, most, a, d as usize) {
+        return StepOutcome {
+            over: false,
+            bound: larger(bound, most),
+        };
     }
+    if w <= ADDABLE {
+        return StepOutcome { over: true, bound };
+    }
+    take_wide(a, sort, d, bound, w)
 }
 
-// One step on entries of magnitude at most `bound`: untested where these can't grow out of range.
-pub fn take_step(a: &mut [i64], sort: Sort, d: u64, bound: u64) -> StepOutcome
-    requires { ⌜ (1 ≤ d) × (d ≤ 65535) × Bounded bound (entries (now a)) × (bound ≤ largest) ⌝ }
-    ensures { λ r. ⌜ StepOutcomeIs (sortMeans sort) d (now (a .entry)) (now (a .exit)) r ⌝ }
+// One step on entries of magnitude at most `bound`: untested where these can't grow past w.
+pub fn take_step(a: &mut [i64], sort: Sort, d: u64, bound: u64, w: u64) -> StepOutcome
+    requires { ⌜ (1 ≤ d) × Bounded bound (entries (now a)) × (w ≤ largest) ⌝ }
+    ensures { λ r. ⌜ StepOutcomeIs w (sortMeans sort) d bound (now (a .entry)) (now (a .exit)) r ⌝ }
 {
     let n = a.len() as u64;
     if n <= d {
         return StepOutcome { over: false, bound };
     }
     let times = times_added(sort, d, n);
-    if bound <= (TOP - bound) / times {
-        return take_untested(a, sort, d, bound * times + bound);
+    if stays_within(bound, times, w) {
+        let grown = bound * times + bound;
+        untested_step(sort, a, d as usize);
+        return StepOutcome {
+            over: false,
+            bound: grown,
+        };
     }
-    take_tested(a, sort, d)
+    if bound <= ADDABLE {
+        return take_narrow(a, sort, d, bound, w);
+    }
+    take_wide(a, sort, d, bound, w)
 }

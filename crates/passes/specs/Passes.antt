@@ -10,7 +10,8 @@ use mir.Syntax.{w64}
 use mir.Val.{SFits}
 use Rattle.definitions.specs.Integers.{_⊕_, _⊝_, 0ℤ}
 use Rattle.definitions.specs.Series.{Series}
-use Rattle.definitions.specs.Steps.{Sort, comb, accumulate, stepped, inRange, largest, entries, stepOver, stepList}
+use Rattle.definitions.specs.Steps.{Sort, comb, accumulate, stepped, inRange, entries, stepOver, stepList}
+use Rattle.step_laws.specs.Bound.{Bounded}
 
 -- what a step makes of an entry x and the one y that stands d before it, and of the entry at i of a list
 abbrev pub newValue : Sort → ℤ → ℤ → ℤ
@@ -50,17 +51,29 @@ pub record PassedTo (s : Sort) (d : ℕ) (l m : List ℤ) (t : ℕ) : Type 0 whe
 abbrev pub Each : Sort → ℕ → List ℤ → ℕ → (ℕ → Type 0) → Type 0
 Each s d l t P = (k : ℕ) → d ≤ k → k < length l → earlier s d (length l) k < t → P k
 
--- a tested pass that has got so far: each new value is in range, and each old one, which was read, fits, so that it can
--- be put back
-pub record TestedTo (s : Sort) (d : ℕ) (l m : List ℤ) (t : ℕ) : Type 0 where
+-- a pass that has got so far, each old value, which was read, fits, so that it can be put back
+pub record ReadTo (s : Sort) (d : ℕ) (l m : List ℤ) (t : ℕ) : Type 0 where
   pub passed : PassedTo s d l m t
-  pub inside : Each s d l t (λ k. inRange largest (stepped s d (entries l) k) ≡ true)
   pub fit : Each s d l t (λ k. SFits w64 (entries l k))
+
+-- a tested one: each new value is within w
+pub record TestedTo (w : ℕ) (s : Sort) (d : ℕ) (l m : List ℤ) (t : ℕ) : Type 0 where
+  pub read : ReadTo s d l m t
+  pub inside : Each s d l t (λ k. inRange w (stepped s d (entries l) k) ≡ true)
 
 -- m is what such a pass left of some list
 pub record Undoable (s : Sort) (d : ℕ) (m : List ℤ) (t : ℕ) : Type 0 where
   pub before : List ℤ
-  pub tested : TestedTo s d before m t
+  pub read : ReadTo s d before m t
+
+-- 2^62 - 1: the sum and the difference of two numbers that are no larger are machine numbers
+abbrev pub addable : ℕ
+addable = 4611686018427387903
+
+-- no entry is larger, nor is a value within w
+pub record Narrow (w : ℕ) (l : List ℤ) : Type 0 where
+  pub limit : w ≤ addable
+  pub small : Bounded addable (entries l)
 
 -- all the values of f from i on and below n fit a machine number
 abbrev pub Fit : ℕ → ℕ → Series → Type 0
@@ -81,9 +94,9 @@ Near accumulate d t u = u < t + d
 abbrev pub FoursApart : Sort → ℕ → Type 0
 FoursApart s d = (t u : ℕ) → t ≤ u → u < t + 4 → Near s d t u
 
--- a step on l left m: all of it where `done`, and nothing where a value would be out of range
-pub record SteppedOrUndone (s : Sort) (d : ℕ) (l m : List ℤ) (done : Bool) : Type 0 where
-  pub over : stepOver largest s d l ≡ not done
+-- a step on l left m: all of it where `done`, and nothing where a value would pass w
+pub record SteppedOrUndone (w : ℕ) (s : Sort) (d : ℕ) (l m : List ℤ) (done : Bool) : Type 0 where
+  pub over : stepOver w s d l ≡ not done
   pub leaves : m ≡ cond done (stepList s d l) l
 
 -- A pass whose new entries need no others. `Split l n i f g`: the list l has n entries, those below i are f's and the

@@ -1,20 +1,24 @@
 // A step at one entry: the entry with the one that stands d before it added, or taken away.
 
 ghost use mathlib.Core.Path.{_≡_};
+ghost use mathlib.Core.Bool.{true};
 ghost use Prim.Native.Nat.{_≤_, _<_};
 ghost use lib.ListN.{length, set};
+ghost use lib.IntN.{natAbs};
 ghost use mir.Syntax.{w64};
 ghost use mir.Val.{SFits};
 ghost use Rattle.definitions.specs.Steps.{entries, inRange, largest};
+ghost use Rattle.step_laws.specs.Bound.{Bounded};
 ghost use Rattle.passes.specs.Sorts.{sortMeans};
-ghost use Rattle.passes.specs.Passes.{newValue, newEntry};
+ghost use Rattle.passes.specs.Passes.{addable, newValue, newEntry};
 use crate::Sort;
+use heights::magnitude;
 use range::difference_fits;
 use range::small;
 use range::sum_fits;
 
-// What a step makes of an entry x and the one y that stands d before it: whether it is in range, and the value. Of two
-// small numbers it is.
+// What a step makes of an entry x and the one y that stands d before it: whether it can be taken, of two small numbers it
+// can; the value; and whether that is within w.
 fn new_value_fits(sort: Sort, x: i64, y: i64) -> bool
     ensures { λ r. ⌜ r ≡ inRange largest (newValue (sortMeans sort) x y) ⌝ }
 {
@@ -39,14 +43,34 @@ pub fn new_value(sort: Sort, x: i64, y: i64) -> i64
     }
 }
 
-// The same at a place of the slice. That an entry fits its type is known where it is read, and an undoing needs it.
-pub(crate) fn new_entry_fits(sort: Sort, a: &[i64], i: usize, d: usize) -> bool
-    requires { ⌜ (d ≤ i) × (i < length (now a)) ⌝ }
-    ensures { λ r.
-        ⌜ (r ≡ inRange largest (newEntry (sortMeans sort) d (now (a .entry)) i))
-        × SFits w64 (entries (now (a .entry)) i) ⌝ }
+fn new_value_within(sort: Sort, w: u64, x: i64, y: i64) -> bool
+    requires { ⌜ SFits w64 (newValue (sortMeans sort) x y) ⌝ }
+    ensures { λ r. ⌜ r ≡ inRange w (newValue (sortMeans sort) x y) ⌝ }
 {
-    new_value_fits(sort, a[i], a[i - d])
+    magnitude(new_value(sort, x, y)) <= w
+}
+
+// The test of a step: of two numbers that are known to be small it is the value's alone.
+fn passes_test(sort: Sort, narrow: bool, w: u64, x: i64, y: i64) -> bool
+    requires { ⌜ (w ≤ largest) × (narrow ≡ true → (natAbs x ≤ addable) × (natAbs y ≤ addable)) ⌝ }
+    ensures { λ r. ⌜ r ≡ inRange w (newValue (sortMeans sort) x y) ⌝ }
+{
+    if narrow {
+        return new_value_within(sort, w, x, y);
+    }
+    if new_value_fits(sort, x, y) {
+        return new_value_within(sort, w, x, y);
+    }
+    false
+}
+
+// The same at a place of the slice. That an entry fits its type is known where it is read, and an undoing needs it.
+pub(crate) fn entry_passes_test(sort: Sort, narrow: bool, w: u64, a: &[i64], i: usize, d: usize) -> bool
+    requires { ⌜ (d ≤ i) × (i < length (now a)) × (w ≤ largest) × (narrow ≡ true → Bounded addable (entries (now a))) ⌝ }
+    ensures { λ r.
+        ⌜ (r ≡ inRange w (newEntry (sortMeans sort) d (now (a .entry)) i)) × SFits w64 (entries (now (a .entry)) i) ⌝ }
+{
+    passes_test(sort, narrow, w, a[i], a[i - d])
 }
 
 pub fn new_entry(sort: Sort, a: &[i64], i: usize, d: usize) -> i64

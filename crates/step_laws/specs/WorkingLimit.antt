@@ -17,7 +17,7 @@ use Rattle.step_laws.specs.Step.{not-over-each, not-over-all}
 use Rattle.step_laws.specs.Tests.{past}
 
 module _ {w w′ : ℕ} (more : w ≤ w′) where
-  range-more : (v : ℤ) → inRange w v ≡ true → inRange w′ v ≡ true
+  pub range-more : (v : ℤ) → inRange w v ≡ true → inRange w′ v ≡ true
   range-more v e = in-range w′ v (omega (arith, range-in w v e))
 
   pub over-more : (s : Sort) (d : ℕ) (l : List ℤ) → stepOver w s d l ≡ false → stepOver w′ s d l ≡ false

@@ -1,60 +1,73 @@
--- `take_step` meets its contract: a step that is too long changes nothing, and one whose growth stays within the range
--- needs no test (Untested).
+-- `take_step` meets its contract: a step that is too long changes nothing, and one whose growth stays within w needs no
+-- test (Untested).
+use mathlib.Core.Path.{_≡_}
+use mathlib.Core.Bool.{false}
 use borrow.Author.Needs.{needs}
-use Prim.Native.Nat.{_+_, _*_, _≤_}
-use native.Mathlib.Nat.{le-trans}
+use Prim.Native.Nat.{ℕ, _+_, _*_, _≤_}
 use native.Mathlib.Omega.{arith}
-use Rattle.definitions.specs.Steps.{largest}
+use Rattle.definitions.specs.Steps.{entries, largest, stepOver, stepList}
+use Rattle.step_laws.specs.Bound.{Bounded}
 use Rattle.passes.specs.Sorts.{sortMeans}
-use Rattle.bounded.proofs.Untested.{within, grown, long}
+use Rattle.bounded.proofs.Untested.{grown, under, long}
 use Rattle.bounded.proofs.take_step.Statement.{statement}
 use Rattle.bounded.proofs.take_step.Tie as tie
-
--- the growth is in range where the test held
-module _ (c : tie.Then2) where
-  abbrev start : tie.Start
-  start = c .before .before .before
-
-  small : start .args .bound * c .before .times-added .result + start .args .bound ≤ largest
-  small = within (c .before .times-added .ensures .0) (start .pre .3) (c .if2 .taken)
 
 returns : tie.Need-returns
 returns c =
     let p = c .before in
-    long (sortMeans (p .args .sort)) (p .args .d) (p .args .a .now) (c .if1 .taken) (p .pre .2) (p .pre .3)
+    long (p .args .w) (sortMeans (p .args .sort)) (p .args .d) (p .args .bound) (p .args .a .now) (c .if1 .taken)
+    (p .pre .1)
 
 times-added-requires : tie.Need-times-added-requires
 times-added-requires c κs = search needs
 
-sub-if2 : tie.Need-sub-if2
-sub-if2 c = search needs
+stays-within-requires : tie.Need-stays-within-requires
+stays-within-requires c κs = search needs
 
-div-if2 : tie.Need-div-if2
-div-if2 c = search needs
+-- the growth stays within w where the test held
+module _ (c : tie.Then2) where
+  abbrev start : tie.Start
+  start = c .before .before .before .before
 
-mul-take-untested : tie.Need-mul-take-untested
-mul-take-untested c = omega (arith, small (c .before))
+  abbrev times : ℕ
+  times = c .before .before .times-added .result
 
-add-take-untested : tie.Need-add-take-untested
-add-take-untested c = omega (arith, small (c .before))
+  most : start .args .bound * times + start .args .bound ≤ start .args .w
+  most = c .before .stays-within .ensures (c .if2 .taken)
 
-take-untested-requires : tie.Need-take-untested-requires
-take-untested-requires c κs =
-    let p = start (c .before) in
-    let f = grown (sortMeans (p .args .sort)) (p .args .d) (p .args .bound) (p .pre .0) (p .args .a .now) (p .pre .2)
-    (c .before .before .times-added .ensures .1 (p .args .bound)) (small (c .before)) in
-    ((p .pre .0, f .0), (f .1, small (c .before)))
+  none : (w : ℕ) → start .args .bound * times + start .args .bound ≤ w
+      → (stepOver w (sortMeans (start .args .sort)) (start .args .d) (start .args .a .now) ≡ false)
+      × Bounded (start .args .bound * times + start .args .bound)
+      (entries (stepList (sortMeans (start .args .sort)) (start .args .d) (start .args .a .now)))
+  none =
+      grown (sortMeans (start .args .sort)) (start .args .d) (start .args .bound) (start .pre .0) (start .args .a .now)
+      (start .pre .1) (c .before .before .times-added .ensures .1 (start .args .bound))
+
+mul-grown : tie.Need-mul-grown
+mul-grown c = omega (arith, most c, start c .pre .2)
+
+add-grown : tie.Need-add-grown
+add-grown c = omega (arith, most c, start c .pre .2)
+
+untested-step-requires : tie.Need-untested-step-requires
+untested-step-requires c κs =
+    let q = c .before in
+    (start q .pre .0, none q largest (omega (arith, most q, start q .pre .2)) .0)
 
 same-length : tie.Need-same-length
 same-length c = search needs
 
 returns-2 : tie.Need-returns-2
-returns-2 c = search needs
+returns-2 c =
+    let q = c .before .before .before in
+    let p = start q in
+    under (p .args .w) (sortMeans (p .args .sort)) (p .args .d) (p .args .bound) (p .args .a .now)
+    (none q (p .args .w) (most q)) (c .before .untested-step .ensures) (λ _. most q)
 
-take-tested-requires : tie.Need-take-tested-requires
-take-tested-requires c κs =
-    let p = c .before .before .before .before in
-    (p .pre .0, p .pre .1, λ k. le-trans (p .pre .2 k) (p .pre .3))
+take-narrow-requires : tie.Need-take-narrow-requires
+take-narrow-requires c κs =
+    let p = c .before .before .before .before .before .before in
+    (p .pre .0, omega arith, p .pre .1, p .pre .2, c .before .if3 .taken)
 
 same-length-2 : tie.Need-same-length-2
 same-length-2 c = search needs
@@ -62,19 +75,31 @@ same-length-2 c = search needs
 returns-3 : tie.Need-returns-3
 returns-3 c = search needs
 
+take-wide-requires : tie.Need-take-wide-requires
+take-wide-requires c κs =
+    let p = c .before .before .before .before .before .before in (p .pre .0, omega arith, p .pre .1, p .pre .2)
+
+same-length-3 : tie.Need-same-length-3
+same-length-3 c = search needs
+
+returns-4 : tie.Need-returns-4
+returns-4 c = search needs
+
 pub take-step-spec : {M : Type 1} → statement M
 take-step-spec =
     tie.close
     (tie.spec
     returns
     times-added-requires
-    sub-if2
-    div-if2
-    mul-take-untested
-    add-take-untested
-    take-untested-requires
+    stays-within-requires
+    mul-grown
+    add-grown
+    untested-step-requires
     same-length
     returns-2
-    take-tested-requires
+    take-narrow-requires
     same-length-2
-    returns-3)
+    returns-3
+    take-wide-requires
+    same-length-3
+    returns-4)

@@ -1,16 +1,13 @@
 -- `passes::entry::new_value_fits` meets its contract: the value of two small numbers is in range, and else each arm
 -- tests that of its own sort.
 use mathlib.Core.Path.{sym, _∙_, ap}
-use native.Mathlib.Omega.{arith}
 use borrow.Author.Needs.{needs}
-use Prim.Native.Nat.{_+_, _≤_}
-use lib.IntN.{ℤ, natAbs}
 use Rattle.definitions.specs.Integers.{_⊕_, _⊝_}
-use Rattle.definitions.specs.Steps.{Sort, comb, accumulate, inRange, largest}
-use Rattle.step_laws.specs.Signed.{abs-⊕, abs-⊝, in-range}
+use Rattle.definitions.specs.Steps.{inRange, largest}
 use Rattle.step_laws.specs.Machine.{seen-both, within}
 use Rattle.passes.specs.Sorts.{sortMeans}
-use Rattle.passes.specs.Passes.{newValue}
+use Rattle.passes.specs.Passes.{addable}
+use Rattle.passes.proofs.Values.{small-in-range}
 use Rattle.passes.proofs.entry.new_value_fits.Statement.{statement}
 use Rattle.passes.proofs.entry.new_value_fits.Tie as tie
 
@@ -20,17 +17,13 @@ small-requires c κs = search needs
 small-requires-2 : tie.Need-small-requires-2
 small-requires-2 c κs = search needs
 
-most : (s : Sort) (x y : ℤ) → natAbs (newValue s x y) ≤ natAbs x + natAbs y
-most comb x y = abs-⊝ x y
-most accumulate x y = abs-⊕ x y
-
 returns : tie.Need-returns
 returns c =
     let s = c .before .before .before .before in
-    let hx = within 4611686018427387903 (s .args .x) (s .fits .x) (c .before .before .before .small .ensures)
+    let hx = within addable (s .args .x) (s .fits .x) (c .before .before .before .small .ensures)
     (c .before .before .if1 .taken) in
-    let hy = within 4611686018427387903 (s .args .y) (s .fits .y) (c .before .small2 .ensures) (c .if2 .taken) in
-    sym (in-range largest _ (omega (arith, most (sortMeans (s .args .sort)) (s .args .x) (s .args .y))))
+    let hy = within addable (s .args .y) (s .fits .y) (c .before .small2 .ensures) (c .if2 .taken) in
+    sym (small-in-range (sortMeans (s .args .sort)) (s .args .x) (s .args .y) hx hy)
 
 enum-told : tie.Need-enum-told
 enum-told c = search needs

@@ -19,7 +19,7 @@ same-length c = search needs
 returns : tie.Need-returns
 returns c =
     let p = c .before .before .take-tested .ensures .0 in
-    whole p (omega (arith, p .passed .most, p .passed .len, c .if1 .taken))
+    whole p (omega (arith, p .read .passed .most, p .read .passed .len, c .if1 .taken))
 
 undo-requires : tie.Need-undo-requires
 undo-requires c κs = search needs
@@ -34,8 +34,8 @@ returns-2 c =
     let t = r .before .before .take-tested in
     let p = t .ensures .0 in
     let short : t .result + q .args .d < length (q .args .a .now) =
-    omega (arith, p .passed .most, p .passed .len, r .if1 .left) in
-    rw (c .before .undo .ensures (q .args .a .now) p) (undone (t .result) (omega arith) (t .ensures .1 short))
+    omega (arith, p .read .passed .most, p .read .passed .len, r .if1 .left) in
+    rw (c .before .undo .ensures (q .args .a .now) (p .read)) (undone (t .result) (omega arith) (t .ensures .1 short))
 
 pub step-or-undo-spec : {M : Type 1} → statement M
 step-or-undo-spec =

@@ -5,15 +5,15 @@ use Prim.Native.Nat.{_+_, _-_}
 use native.Mathlib.Omega.{arith}
 use lib.IntN.{ℤ}
 use Rattle.passes.specs.Sorts.{sortMeans}
-use Rattle.passes.specs.Passes.{PassedTo, TestedTo}
+use Rattle.passes.specs.Passes.{PassedTo, ReadTo}
 use Rattle.passes.proofs.PassedTo.{last-from, last-below, not-begun}
-use Rattle.passes.proofs.TestedTo.{tested-last, last-fits}
+use Rattle.passes.proofs.TestedTo.{read-last, last-fits}
 use Rattle.passes.proofs.tested.undo.Statement.{statement}
 use Rattle.passes.proofs.tested.undo.Tie as tie
 
 abbrev Inv-loop : tie.InvT-loop
 Inv-loop sort a₀ d taken t₀ a t =
-    (l : List ℤ) → TestedTo (sortMeans sort) d l a₀ taken → TestedTo (sortMeans sort) d l a t
+    (l : List ℤ) → ReadTo (sortMeans sort) d l a₀ taken → ReadTo (sortMeans sort) d l a t
 
 abbrev μ-loop : tie.MeasureT-loop
 μ-loop sort a₀ d taken t₀ a t = t
@@ -26,21 +26,21 @@ sub-t c = omega arith
 
 -- before a place is taken back
 at-last : (c : tie.In-loop Inv-loop μ-loop) → (l : List ℤ)
-    → TestedTo (sortMeans (c .before .before .args .sort)) (c .before .before .args .d) l
+    → ReadTo (sortMeans (c .before .before .args .sort)) (c .before .before .args .d) l
     (c .before .before .args .a .now) (c .before .before .args .taken)
-    → TestedTo (sortMeans (c .before .before .args .sort)) (c .before .before .args .d) l (c .before .loop .a)
+    → ReadTo (sortMeans (c .before .before .args .sort)) (c .before .before .args .d) l (c .before .loop .a)
     (c .before .loop .t - 1 + 1)
 at-last c l p =
     let e : c .before .loop .t ≡ c .before .loop .t - 1 + 1 = omega arith in
     subst
-    (TestedTo (sortMeans (c .before .before .args .sort)) (c .before .before .args .d) l (c .before .loop .a)) e
+    (ReadTo (sortMeans (c .before .before .args .sort)) (c .before .before .args .d) l (c .before .loop .a)) e
     (c .before .loop .inv l p)
 
 -- of the list that the contract knows
 known : (c : tie.In-loop Inv-loop μ-loop)
-    → TestedTo (sortMeans (c .before .before .args .sort)) (c .before .before .args .d)
+    → ReadTo (sortMeans (c .before .before .args .sort)) (c .before .before .args .d)
     (c .before .before .pre .1 .before) (c .before .loop .a) (c .before .loop .t - 1 + 1)
-known c = at-last c (c .before .before .pre .1 .before) (c .before .before .pre .1 .tested)
+known c = at-last c (c .before .before .pre .1 .before) (c .before .before .pre .1 .read)
 
 place-requires : tie.Need-place-requires Inv-loop μ-loop
 place-requires c κs = omega (arith, known c .passed .most, known c .passed .len)
@@ -66,13 +66,13 @@ loop-again c = λ l p.
     let o = c .before .before .before in
     let q = o .before in
     rw (c .before .step-entry .ensures, o .opposite .ensures)
-    (tested-last (q .before .before .loop .t - 1) (at-last (q .before) l p) (q .place .ensures)
+    (read-last (q .before .before .loop .t - 1) (at-last (q .before) l p) (q .place .ensures)
     (q .before .before .before .pre .0))
 
 same-length : tie.Need-same-length Inv-loop μ-loop
 same-length c =
     let u = c .before .before .pre .1 in
-    c .before .loop .inv (u .before) (u .tested) .passed .len ∙ sym (u .tested .passed .len)
+    c .before .loop .inv (u .before) (u .read) .passed .len ∙ sym (u .read .passed .len)
 
 returns : tie.Need-returns Inv-loop μ-loop
 returns c = λ l p.
