@@ -1,7 +1,7 @@
 -- A signed local is its bits, so a number that was read is `seen`: the number of its own bits. It is the number itself
 -- where that fits, and the tests of `Signed` are stated here of what the machine sees.
 use mathlib.Core.Path.{_≡_, sym, _∙_, ap, ap₂}
-use mathlib.Core.Bool.{Bool, true, false}
+use mathlib.Core.Bool.{Bool, true, false, true≢false}
 use Prim.Native.Nat.{ℕ, suc, _≤_}
 use native.Mathlib.Omega.{arith}
 use lib.IntN.{ℤ, pos, negsuc, natAbs, negℤ, _+ℤ_}
@@ -10,7 +10,7 @@ use mir.Syntax.{w64}
 use mir.Val.{SFits, toZ, ofZ}
 use mir.Facts.{toZ-ofZ}
 use Rattle.definitions.specs.Integers.{_⊝_}
-use Rattle.definitions.specs.Steps.{inRange, largest}
+use Rattle.definitions.specs.Steps.{inRange, largest, belowOne}
 use Rattle.step_laws.specs.Signed.{upper-test, lower-test, upper-fits, lower-fits, mag-abs, abs-mag, abs-negℤ}
 use Rattle.step_laws.specs.Signed.{range-in}
 
@@ -52,6 +52,16 @@ module _ (e : ℤ) (he : natAbs e ≤ suc largest) where
   pub lower-is : (a : ℤ) → SFits w64 a → ltZ e (pos 0) ≡ false → leZ (seen (negsuc 9223372036854775806 +ℤ e)) (seen a)
       ≡ inRange largest (a ⊝ e)
   lower-is a f t = rw (toZ-ofZ f, toZ-ofZ (lower t)) (lower-test 9223372036854775806 a e (f .sfits) he t)
+
+-- a limit that was read: whether it is below 1, and that it is in range where it is not
+pub below-one : (w : ℤ) {b : Bool} → SFits w64 w → ltZ (seen w) (pos 1) ≡ b → belowOne w ≡ b
+unfolding belowOne
+below-one w f e = ap (λ v. ltZ v (pos 1)) (sym (toZ-ofZ f)) ∙ e
+
+pub limit-within : (w : ℤ) → SFits w64 w → belowOne w ≡ false → natAbs w ≤ largest
+unfolding belowOne
+limit-within (pos k) f e = omega (arith, f .sfits)
+limit-within (negsuc k) f e = absurd (true≢false e)
 
 -- the magnitude of a machine number and of its negative
 pub machine-abs : (b : ℤ) → SFits w64 b → natAbs b ≤ suc largest

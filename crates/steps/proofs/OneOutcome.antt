@@ -15,5 +15,5 @@ module _ (κs : Lfts 1) (a : ArgsD apply.signature κs) (z z′ : ResD apply.sig
   pub one-answer : z ≡ z′
   one-answer = λ i. record { code = (p .0 ∙ sym (p′ .0)) i; count = (p .1 .0 ∙ sym (p′ .1 .0)) i }
 
-  pub one-slice : now (e .1 .0) ≡ now (e′ .1 .0)
+  pub one-slice : now (e .1 .1 .0) ≡ now (e′ .1 .1 .0)
   one-slice = p .1 .1 ∙ sym (p′ .1 .1)

@@ -1,10 +1,12 @@
-// One step on a lent slice: a comb or an accumulate, in place, in one pass, whole or not at all.
+// One step on a lent slice, under a working limit: a comb or an accumulate, in place, whole or not at all.
 
 ghost use mathlib.Core.Path.{_≡_};
-ghost use Rattle.definitions.specs.Steps.{largest, stepCode, stepCount, stepLeaves};
+ghost use Rattle.definitions.specs.Steps.{stepCode, stepCount, stepLeaves};
 ghost use Rattle.passes.specs.Sorts.{sortMeans};
+use bounded::take_step;
+use heights::height;
+use heights::magnitude;
 pub use passes::Sort;
-use passes::step_or_undo;
 
 pub struct Step {
     pub sort: Sort,
@@ -26,12 +28,12 @@ impl Stepped {
 }
 
 impl Step {
-    // One step on any slice: STEP for a size of 0 or above 65,535, then OVER, each with every entry as it was and the
-    // count 0.
-    pub fn apply(self, a: &mut [i64]) -> Stepped
-        ensures { λ r. ⌜ r .code ≡ stepCode largest (sortMeans (self .sort)) (self .size) (now (a .entry)) ⌝ }
-        ensures { λ r. ⌜ r .count ≡ stepCount largest (sortMeans (self .sort)) (self .size) (now (a .entry)) ⌝ }
-        ensures { λ r. ⌜ now (a .exit) ≡ stepLeaves largest (sortMeans (self .sort)) (self .size) (now (a .entry)) ⌝ }
+    // One step on any slice: STEP for a size of 0 or above 65,535, LIMIT for a working limit below 1, then OVER, each
+    // with every entry as it was and the count 0. A look at the entries tells mostly that no value can pass the limit.
+    pub fn apply(self, w: i64, a: &mut [i64]) -> Stepped
+        ensures { λ r. ⌜ r .code ≡ stepCode w (sortMeans (self .sort)) (self .size) (now (a .entry)) ⌝ }
+        ensures { λ r. ⌜ r .count ≡ stepCount w (sortMeans (self .sort)) (self .size) (now (a .entry)) ⌝ }
+        ensures { λ r. ⌜ now (a .exit) ≡ stepLeaves w (sortMeans (self .sort)) (self .size) (now (a .entry)) ⌝ }
     {
         let sort = self.sort;
         let size = self.size;
@@ -41,20 +43,24 @@ impl Step {
         if 65535 < size {
             return Stepped::refused(answers::STEP);
         }
-        let d = size as usize;
-        if a.len() <= d {
+        if w < 1 {
+            return Stepped::refused(answers::LIMIT);
+        }
+        let n = a.len() as u64;
+        if n <= size {
             return Stepped {
                 code: answers::DONE,
                 count: 0,
             };
         }
-        if step_or_undo(sort, a, d) {
-            let count = (a.len() - d) as u64;
-            return Stepped {
-                code: answers::DONE,
-                count: count,
-            };
+        let outcome = take_step(a, sort, size, height(a), magnitude(w));
+        if outcome.over {
+            return Stepped::refused(answers::OVER);
         }
-        Stepped::refused(answers::OVER)
+        let count = n - size;
+        Stepped {
+            code: answers::DONE,
+            count,
+        }
     }
 }

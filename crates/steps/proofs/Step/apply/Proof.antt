@@ -1,37 +1,42 @@
 -- `steps::Step::apply` meets its contract: each way out is one of the ways that a step can go (`Told`).
-use mathlib.Core.Path.{_≡_, _∙_, ap}
-use mathlib.Core.Bool.{Bool, true, false, not, cond}
+use mathlib.Core.Path.{_≡_, _∙_, sym, ap}
+use mathlib.Core.Bool.{Bool, true, false, cond}
 use mathlib.Core.List.{List}
 use Prim.Native.Nat.{ℕ, _≤_, _-_}
 use native.Mathlib.Omega.{arith}
 use borrow.Author.Needs.{needs}
 use lib.ListN.{length}
-use lib.IntN.{ℤ}
+use lib.IntN.{ℤ, natAbs}
+use mir.Facts.{toZ-ofZ}
 use Rattle.definitions.specs.Codes.{DONE, OVER}
-use Rattle.definitions.specs.Steps.{Sort, largest, stepCode, stepCount, stepLeaves, stepList}
-use Rattle.step_laws.specs.Step.{length-stepList}
-use Rattle.step_laws.specs.Told.{Told, told-zero, told-large, told-over, told-done, told-long}
-use Rattle.passes.specs.Passes.{SteppedOrUndone}
+use Rattle.definitions.specs.Steps.{Sort, entries, stepOver, stepList, belowOne, stepCode, stepCount, stepLeaves}
+use Rattle.step_laws.specs.Told.{Told, told-zero, told-large, told-limit, told-over, told-done, told-long}
+use Rattle.step_laws.specs.Machine.{seen, below-one, limit-within}
+use Rattle.heights.proofs.Looks.{entry-height}
+use Rattle.bounded.specs.Outcome.{StepOutcomeIs}
+use Rattle.bounded.specs.declared.StepOutcome.{StepOutcome}
 use Rattle.steps.proofs.Step.apply.Statement.{statement}
 use Rattle.steps.proofs.Step.apply.Tie as tie
 
 -- the contract's three clauses
-clauses : {s : Sort} {d : ℕ} {l : List ℤ} {code count : ℕ} {m : List ℤ} → Told largest s d l code count m
-    → (code ≡ stepCode largest s d l) × ((count ≡ stepCount largest s d l) × (m ≡ stepLeaves largest s d l))
+clauses : {w : ℤ} {s : Sort} {d : ℕ} {l : List ℤ} {code count : ℕ} {m : List ℤ} → Told w s d l code count m
+    → (code ≡ stepCode w s d l) × ((count ≡ stepCount w s d l) × (m ≡ stepLeaves w s d l))
 clauses t = (t .code, (t .count, t .leaves))
 
-module _ {s : Sort} {d : ℕ} {l m : List ℤ} {r : Bool} (t : SteppedOrUndone s d l m r) (one : 1 ≤ d)
-    (most : d ≤ 65535) where
-  -- a step that was taken, and one that was not
-  done : r ≡ true → Told largest s d l DONE (length m - d) m
-  done e =
-      let is : m ≡ stepList s d l = t .leaves ∙ ap (λ b. cond b (stepList s d l) l) e in
-      rw (is, length-stepList s d l) (told-done largest s d l one most (t .over ∙ ap not e))
+-- what a step of good size under a good limit tells
+module _ (w : ℤ) {s : Sort} {d b : ℕ} {l m : List ℤ} {r : StepOutcome} {limit : ℕ} (is : limit ≡ natAbs w)
+    (o : StepOutcomeIs limit s d b l m r) (one : 1 ≤ d) (most : d ≤ 65535) (good : belowOne w ≡ false) where
+  over-is : {x : Bool} → r .over ≡ x → stepOver (natAbs w) s d l ≡ x
+  over-is e = ap (λ k. stepOver k s d l) (sym is) ∙ sym (o .over) ∙ e
 
-  undone : r ≡ false → Told largest s d l OVER 0 m
-  undone e =
-      let is : m ≡ l = t .leaves ∙ ap (λ b. cond b (stepList s d l) l) e in
-      rw is (told-over largest s d l one most (t .over ∙ ap not e))
+  leaves-is : {x : Bool} → r .over ≡ x → m ≡ cond x l (stepList s d l)
+  leaves-is e = o .leaves ∙ ap (λ x. cond x l (stepList s d l)) e
+
+  over : r .over ≡ true → Told w s d l OVER 0 m
+  over e = rw (leaves-is e) (told-over w s d l one most good (over-is e))
+
+  done : r .over ≡ false → Told w s d l DONE (length l - d) m
+  done e = rw (leaves-is e) (told-done w s d l one most good (over-is e))
 
 refused-requires : tie.Need-refused-requires
 refused-requires c κs = search needs
@@ -40,7 +45,7 @@ returns : tie.Need-returns
 returns c =
     let q = c .before .before in
     rw (c .refused .ensures)
-    (clauses (told-zero largest _ (q .args .self .size) (q .args .a .now) (c .before .if1 .taken)))
+    (clauses (told-zero (q .args .w) _ (q .args .self .size) (q .args .a .now) (c .before .if1 .taken)))
 
 refused-requires-2 : tie.Need-refused-requires-2
 refused-requires-2 c κs = search needs
@@ -49,38 +54,91 @@ returns-2 : tie.Need-returns-2
 returns-2 c =
     let q = c .before .before .before in
     rw (c .refused2 .ensures)
-    (clauses (told-large largest _ (q .args .self .size) (q .args .a .now) (c .before .if2 .taken)))
-
-returns-3 : tie.Need-returns-3
-returns-3 c =
-    clauses (told-long largest _ (c .before .before .before .args .self .size) (c .before .before .before .args .a .now)
-    (omega arith) (c .before .if2 .left) (c .if3 .taken))
-
-step-or-undo-requires : tie.Need-step-or-undo-requires
-step-or-undo-requires c κs = search needs
-
-sub-count : tie.Need-sub-count
-sub-count c = search needs
-
-same-length : tie.Need-same-length
-same-length c = search needs
-
-returns-4 : tie.Need-returns-4
-returns-4 c =
-    clauses (done (c .before .before .step-or-undo .ensures) (omega arith)
-    (c .before .before .before .before .before .if2 .left) (c .if4 .taken))
+    (clauses (told-large (q .args .w) _ (q .args .self .size) (q .args .a .now) (c .before .if2 .taken)))
 
 refused-requires-3 : tie.Need-refused-requires-3
 refused-requires-3 c κs = search needs
 
-same-length-2 : tie.Need-same-length-2
-same-length-2 c = search needs
+returns-3 : tie.Need-returns-3
+returns-3 c =
+    let t = c .before in
+    let q = t .before .before .before in
+    rw (c .refused3 .ensures)
+    (clauses (told-limit (q .args .w) _ (q .args .self .size) (q .args .a .now) (omega arith) (t .before .if2 .left)
+    (below-one (q .args .w) (q .fits .w) (t .if3 .taken))))
+
+-- the size and the limit are good
+module _ (q : tie.Else3) where
+  abbrev start : tie.Start
+  start = q .before .before .before
+
+  one : 1 ≤ start .args .self .size
+  one = omega arith
+
+  most : start .args .self .size ≤ 65535
+  most = q .before .if2 .left
+
+  good : belowOne (start .args .w) ≡ false
+  good = below-one (start .args .w) (start .fits .w) (q .if3 .left)
+
+  limit : {m : ℕ} → m ≡ natAbs (seen (start .args .w)) → m ≡ natAbs (start .args .w)
+  limit e = e ∙ ap natAbs (toZ-ofZ (start .fits .w))
+
+returns-4 : tie.Need-returns-4
+returns-4 c =
+    let q = c .before in
+    let p = start q in
+    clauses (told-long (p .args .w) _ (p .args .self .size) (p .args .a .now) (one q) (most q) (good q) (c .if4 .taken))
+
+height-requires : tie.Need-height-requires
+height-requires c κs = search needs
+
+magnitude-requires : tie.Need-magnitude-requires
+magnitude-requires c κs = search needs
+
+take-step-requires : tie.Need-take-step-requires
+unfolding entries
+take-step-requires c κs =
+    let q = c .before .before .before .before .before in
+    let p = start q in (
+      one q,
+      λ k. rw (c .before .height .ensures) (entry-height (p .args .a .now) k),
+      rw (limit q (c .magnitude .ensures)) (limit-within (p .args .w) (p .fits .w) (good q)),
+    )
+
+-- the step was taken or not
+module _ (t : tie.After-take-step) where
+  abbrev asked : tie.Else3
+  asked = t .before .before .before .before .before .before
+
+  is-limit : t .before .magnitude .result ≡ natAbs (start asked .args .w)
+  is-limit = limit asked (t .before .magnitude .ensures)
+
+refused-requires-4 : tie.Need-refused-requires-4
+refused-requires-4 c κs = search needs
+
+same-length : tie.Need-same-length
+same-length c = search needs
 
 returns-5 : tie.Need-returns-5
 returns-5 c =
-    rw (c .refused3 .ensures)
-    (clauses (undone (c .before .before .before .step-or-undo .ensures) (omega arith)
-    (c .before .before .before .before .before .before .if2 .left) (c .before .if4 .left)))
+    let t = c .before .before .before in
+    let q = asked t in
+    rw (c .refused4 .ensures)
+    (clauses (over (start q .args .w) (is-limit t) (t .take-step .ensures) (one q) (most q) (good q)
+    (c .before .if5 .taken)))
+
+sub-count : tie.Need-sub-count
+sub-count c = search needs
+
+same-length-2 : tie.Need-same-length-2
+same-length-2 c = search needs
+
+returns-6 : tie.Need-returns-6
+returns-6 c =
+    let t = c .before .before in
+    let q = asked t in
+    clauses (done (start q .args .w) (is-limit t) (t .take-step .ensures) (one q) (most q) (good q) (c .if5 .left))
 
 pub apply-spec : {M : Type 1} → statement M
 apply-spec =
@@ -90,11 +148,15 @@ apply-spec =
     returns
     refused-requires-2
     returns-2
-    returns-3
-    step-or-undo-requires
-    sub-count
-    same-length
-    returns-4
     refused-requires-3
+    returns-3
+    returns-4
+    height-requires
+    magnitude-requires
+    take-step-requires
+    refused-requires-4
+    same-length
+    returns-5
+    sub-count
     same-length-2
-    returns-5)
+    returns-6)
