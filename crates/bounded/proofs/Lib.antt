@@ -1,3 +1,4 @@
--- Laws that the functions' proofs share.
+-- Laws that the functions' proofs share, and `kept`'s.
+pub mod Outcomes
 mod Tested
 mod Untested

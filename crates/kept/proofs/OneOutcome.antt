@@ -14,5 +14,5 @@ pub partial-one :
     (κs : Lfts 1) (a : ArgsD partial.signature κs) (z z′ : ResD partial.signature κs)
     (e e′ : AtExit (endedOf 1 partial-kinds.ps partial-kinds.r) κs) →
     partial-reads.Post κs a z e → partial-reads.Post κs a z′ e′
-    → (z ≡ z′) × (now (e .1 .1 .1 .0) ≡ now (e′ .1 .1 .1 .0))
+    → (z ≡ z′) × (now (e .1 .1 .1 .1 .0) ≡ now (e′ .1 .1 .1 .1 .0))
 partial-one κs a z z′ e e′ p p′ = (p .0 ∙ sym (p′ .0), p .1 ∙ sym (p′ .1))

@@ -1,5 +1,5 @@
 -- A run of the first j divisors' steps, turn by turn: where it stands after i of them, that a turn goes one further or
--- shows a value out of range, and what it has come to at the end.
+-- shows a value that passes the limit, and what it has come to at the end.
 use Prim.Native.Nat.{ℕ, zero, suc, _+_, _*_, _-_, _^_, _<_, _≤_}
 use mathlib.Core.Path.{_≡_, refl, sym, _∙_, ap, ap₂}
 use mathlib.Core.Bool.{Bool, true, false, true≢false, _||_}
@@ -27,7 +27,7 @@ use Rattle.step_laws.specs.Tests.{by-order}
 use Rattle.step_laws.specs.Firsts.{length-firsts, getD-firsts}
 use Rattle.divisors.specs.Walks.{Stands, taken, walkAt}
 use Rattle.divisors.proofs.Walking.{taken-at, stands-at}
-use Rattle.kept.specs.Halves.{KeptHalfAt, DivisorOutcomeIs, RunOutcomeIs, WalkAtStart, KeptHalfIs}
+use Rattle.kept.specs.Halves.{Workable, KeptHalfAt, DivisorOutcomeIs, RunOutcomeIs, WalkAtStart, KeptHalfIs}
 use Rattle.divisors.specs.declared.Walk.{Walk}
 use Rattle.kept.specs.declared.run.DivisorOutcome.{DivisorOutcome}
 use Rattle.kept.specs.declared.RunOutcome.{RunOutcome}
@@ -66,16 +66,17 @@ module _ (kind r : ℕ) (O : OddSquarefree r) (small : r ≤ 65535) (above : r �
       NatL.le-trans b (NatL.mul-le-mul n d)
 
 -- ---- where a run stands
-pub record Running (kind r i additions bound : ℕ) (at : Walk) (a : List ℤ) : Type 0 where
+pub record Running (limit kind r i additions bound : ℕ) (at : Walk) (a : List ℤ) : Type 0 where
   pub walk : at ≡ walkAt r i
   pub half : a ≡ keptHalf kind r i
   pub bounded : Bounded bound (entries a)
-  pub inside : bound ≤ largest
-  pub clear : overAmong largest kind r i ≡ false
+  pub inside : bound ≤ limit
+  pub range : limit ≤ largest
+  pub clear : overAmong limit kind r i ≡ false
   pub sum : additions ≡ additionsAfter kind r i
 
-module _ (kind r : ℕ) (O : OddSquarefree r) (small : r ≤ 65535) (above : r ≢ 1) {i additions bound : ℕ} {at : Walk}
-    {a : List ℤ} (s : Running kind r i additions bound at a) (h : i < divisorsDue r) where
+module _ (limit kind r : ℕ) (O : OddSquarefree r) (small : r ≤ 65535) (above : r ≢ 1) {i additions bound : ℕ}
+    {at : Walk} {a : List ℤ} (s : Running limit kind r i additions bound at a) (h : i < divisorsDue r) where
   of-r : at .r ≡ r
   unfolding walkAt
   of-r = ap (λ (w : Walk). w .r) (s .walk)
@@ -84,7 +85,7 @@ module _ (kind r : ℕ) (O : OddSquarefree r) (small : r ≤ 65535) (above : r �
   unfolding divisorsDue
   at-i = ap taken (s .walk) ∙ taken-at r i (omega arith)
 
-  pub stands : KeptHalfAt kind at bound a
+  pub stands : KeptHalfAt limit kind at bound a
   unfolding divisorsDue
   stands =
       record {
@@ -93,20 +94,21 @@ module _ (kind r : ℕ) (O : OddSquarefree r) (small : r ≤ 65535) (above : r �
         half = s .half ∙ sym (ap₂ (keptHalf kind) of-r at-i);
         bounded = s .bounded;
         inside = s .inside;
+        range = s .range;
       }
 
   pub more-due : 0 < at .due
   unfolding divisorsDue walkAt
   more-due = let e : at .due ≡ length (divisorsBelow r) - i = ap (λ (w : Walk). w .due) (s .walk) in omega arith
 
-  module _ {m : List ℤ} {t : DivisorOutcome} (u : DivisorOutcomeIs kind at m t) where
-    over-here : t .over ≡ overAt largest kind r i
-    over-here = u .over ∙ ap₂ (overAt largest kind) of-r at-i
+  module _ {m : List ℤ} {t : DivisorOutcome} (u : DivisorOutcomeIs limit kind at m t) where
+    over-here : t .over ≡ overAt limit kind r i
+    over-here = u .over ∙ ap₂ (overAt limit kind) of-r at-i
 
     pub count-here : t .count ≡ halfDegree kind r + 1 - nextDivisor r i
     count-here = u .count ∙ ap₂ (λ x k. halfDegree kind x + 1 - nextDivisor x k) of-r at-i
 
-    pub runs-on : t .over ≡ false → Running kind r (i + 1) (additions + t .count) (t .bound) (t .walk) m
+    pub runs-on : t .over ≡ false → Running limit kind r (i + 1) (additions + t .count) (t .bound) (t .walk) m
     unfolding overAmong
     runs-on o =
         rw (add-one i)
@@ -115,6 +117,7 @@ module _ (kind r : ℕ) (O : OddSquarefree r) (small : r ≤ 65535) (above : r �
           half = u .half o ∙ ap₂ (λ x k. keptHalf kind x (suc k)) of-r at-i;
           bounded = u .bounded o;
           inside = u .inside;
+          range = s .range;
           clear = ap₂ _||_ (s .clear) (sym over-here ∙ o);
           sum = ap₂ _+_ (s .sum) count-here ∙ sym (sum-next kind r i h);
         })
@@ -122,7 +125,7 @@ module _ (kind r : ℕ) (O : OddSquarefree r) (small : r ≤ 65535) (above : r �
     pub turned-length : length m ≡ halfDegree kind r + 1
     turned-length = u .len ∙ ap (λ x. halfDegree kind x + 1) of-r
 
-    pub stops : t .over ≡ true → overAmong largest kind r (suc i) ≡ true
+    pub stops : t .over ≡ true → overAmong limit kind r (suc i) ≡ true
     unfolding overAmong
     stops o = ap₂ _||_ (s .clear) (sym over-here ∙ o)
 
@@ -140,29 +143,30 @@ pub over-among : (w kind r i j : ℕ) → i ≤ j → overAmong w kind r i ≡ t
 over-among w kind r i j h e = ap (overAmong w kind r) (sym (NatL.add-sub-of-le h)) ∙ over-later w kind r i (j - i) e
 
 -- ---- the start and the end
-pub standing-length : {kind bound : ℕ} {w : Walk} {l : List ℤ} → KeptHalfAt kind w bound l
+pub standing-length : {limit kind bound : ℕ} {w : Walk} {l : List ℤ} → KeptHalfAt limit kind w bound l
     → length l ≡ halfDegree kind (w .r) + 1
-standing-length {kind} {w = w} s = ap length (s .half) ∙ kept-length kind (w .r) (taken w)
+standing-length {kind = kind} {w = w} s = ap length (s .half) ∙ kept-length kind (w .r) (taken w)
 
-pub run-start : (kind r : ℕ) (at : Walk) (a : List ℤ) → KeptHalfAt kind at 1 a → at ≡ walkAt r 0
-    → Running kind r 0 0 1 at a
+pub run-start : (limit kind r : ℕ) (at : Walk) (a : List ℤ) → KeptHalfAt limit kind at 1 a → at ≡ walkAt r 0
+    → Running limit kind r 0 0 1 at a
 unfolding overAmong additionsAfter sumOf walkAt divisorsDue
-run-start kind r at a s e =
+run-start limit kind r at a s e =
     record {
       walk = e;
       half = s .half ∙ ap₂ (keptHalf kind) (ap (λ (w : Walk). w .r) e) (ap taken e ∙ taken-at r 0 (omega arith));
       bounded = s .bounded;
       inside = s .inside;
+      range = s .range;
       clear = refl;
       sum = refl;
     }
 
-pub ran-over : (kind r i j : ℕ) (m : List ℤ) → i < j → overAmong largest kind r (suc i) ≡ true
+pub ran-over : (limit kind r i j : ℕ) (m : List ℤ) → i < j → overAmong limit kind r (suc i) ≡ true
     → length m ≡ halfDegree kind r + 1
-    → RunOutcomeIs kind r j m (record { over = true; additions = 0; due = 0 })
-ran-over kind r i j m h e n =
+    → RunOutcomeIs limit kind r j m (record { over = true; additions = 0; due = 0 })
+ran-over limit kind r i j m h e n =
     record {
-      over = sym (over-among largest kind r (suc i) j h e);
+      over = sym (over-among limit kind r (suc i) j h e);
       half = λ o. absurd (true≢false o);
       inside = λ o. absurd (true≢false o);
       additions = λ o. absurd (true≢false o);
@@ -170,10 +174,10 @@ ran-over kind r i j m h e n =
       len = n;
     }
 
-pub ran : (kind r j additions bound : ℕ) (at : Walk) (a : List ℤ) → Running kind r j additions bound at a
-    → RunOutcomeIs kind r j a (record { over = false; additions = additions; due = at .due })
+pub ran : (limit kind r j additions bound : ℕ) (at : Walk) (a : List ℤ) → Running limit kind r j additions bound at a
+    → RunOutcomeIs limit kind r j a (record { over = false; additions = additions; due = at .due })
 unfolding divisorsDue walkAt
-ran kind r j additions bound at a s =
+ran limit kind r j additions bound at a s =
     record {
       over = sym (s .clear);
       half = λ o. s .half;
@@ -196,25 +200,26 @@ start-bounded kind n k =
     (omega arith))
 
 pub fresh-stands :
-    (kind : ℕ) (w : Walk) (l : List ℤ) (n : ℕ) → WalkAtStart w → n ≡ halfDegree kind (w .r) + 1
+    (limit kind : ℕ) (w : Walk) (l : List ℤ) (n : ℕ) → Workable limit → WalkAtStart w → n ≡ halfDegree kind (w .r) + 1
     → l ≡ firsts n (start kind)
-    → KeptHalfAt kind w 1 l
+    → KeptHalfAt limit kind w 1 l
 unfolding divisorsDue
-fresh-stands kind w l n f len e =
+fresh-stands limit kind w l n good f len e =
     record {
       walk = rw (f .here) (stands-at (w .r) 0 (f .squarefree) (f .small) (omega arith));
       above = f .above;
       half = e ∙ ap (λ k. firsts k (start kind)) len ∙ sym (kept-start kind (w .r))
           ∙ sym (ap (keptHalf kind (w .r)) (ap taken (f .here) ∙ taken-at (w .r) 0 (omega arith)));
       bounded = rw e (start-bounded kind n);
-      inside = omega arith;
+      inside = good .0;
+      range = good .1;
     }
 
-pub made-zeros : (kind r j : ℕ) (m l : List ℤ) (h : RunOutcome) → RunOutcomeIs kind r j m h → h .over ≡ true
+pub made-zeros : (limit kind r j : ℕ) (m l : List ℤ) (h : RunOutcome) → RunOutcomeIs limit kind r j m h → h .over ≡ true
     → l ≡ zeros (length m)
-    → KeptHalfIs kind r j l h
+    → KeptHalfIs limit kind r j l h
 unfolding zeros
-made-zeros kind r j m l h t o e =
+made-zeros limit kind r j m l h t o e =
     record {
       ran =
           record {

@@ -10,12 +10,12 @@ use native.Mathlib.Nat as NatL
 use borrow.Author.Tests.{eq-eqb, ne-eqb, lt-ltb, le-ltb, le-leb, lt-leb}
 use lib.ListN.{length, drop, length-replicate}
 use lib.Dec.{eqb, ltb, leb}
-use lib.IntN.{ℤ}
+use lib.IntN.{ℤ, natAbs}
 use Rattle.definitions.specs.Integers.{0ℤ}
-use Rattle.definitions.specs.Codes.{DONE, KIND, INDEX, STEP, SHORT, OVER}
+use Rattle.definitions.specs.Codes.{DONE, KIND, INDEX, LIMIT, STEP, SHORT, OVER}
 use Rattle.definitions.specs.Numbers.{rOf, divisorsBelow}
 use Rattle.definitions.specs.Polynomials.{degree}
-use Rattle.definitions.specs.Steps.{largest}
+use Rattle.definitions.specs.Steps.{belowOne}
 use Rattle.definitions.specs.KeptHalf.{halfDegree, keptHalf, additionsAfter}
 use Rattle.definitions.specs.Requests.{knownKind, goodIndex, divisorsDue, overAmong, written, zeros}
 use Rattle.numbers.specs.Apart.{r-odd-squarefree}
@@ -58,12 +58,14 @@ module _ (kind n : ℕ) (x : Parts) (S : StepsDue kind n x) (w : Walk) (o : w �
   fresh-half len j e h = (walk-fresh, e ∙ ap (λ r. halfDegree kind r + 1) (sym walk-r), rw walk-r h)
 
   -- what the walk's r came to is what n's came to
-  pub of-r : (j : ℕ) {m : List ℤ} {h : RunOutcome} → KeptHalfIs kind (w .r) j m h → KeptHalfIs kind (rOf n) j m h
-  of-r j {m} {h} t = subst (λ r. KeptHalfIs kind r j m h) walk-r t
+  pub of-r : (j : ℕ) {limit : ℕ} {m : List ℤ} {h : RunOutcome} → KeptHalfIs limit kind (w .r) j m h
+      → KeptHalfIs limit kind (rOf n) j m h
+  of-r j {limit} {m} {h} t = subst (λ r. KeptHalfIs limit kind r j m h) walk-r t
 
-  pub of-all : {m : List ℤ} {h : RunOutcome} → KeptHalfIs kind (w .r) (w .due) m h
-      → KeptHalfIs kind (rOf n) (divisorsDue (rOf n)) m h
-  of-all {m} {h} t = of-r (divisorsDue (rOf n)) (subst (λ j. KeptHalfIs kind (w .r) j m h) walk-due t)
+  pub of-all : {limit : ℕ} {m : List ℤ} {h : RunOutcome} → KeptHalfIs limit kind (w .r) (w .due) m h
+      → KeptHalfIs limit kind (rOf n) (divisorsDue (rOf n)) m h
+  of-all {limit} {m} {h} t =
+      of-r (divisorsDue (rOf n)) (subst (λ j. KeptHalfIs limit kind (w .r) j m h) walk-due t)
 
 -- D, as it is computed
 pub half-is : (kind n : ℕ) (x : Parts) → StepsDue kind n x
@@ -73,88 +75,99 @@ half-is kind n x S d e =
     e ∙ ap₂ (λ f r. cond (eqb kind 1) f (r - f) / 2) (parts-free n x (S .parts)) (parts-r n x (S .parts))
 
 -- ---- codes
-module _ (kind n j room : ℕ) where
-  pub stop-kind : knownKind kind ≡ false → code kind n j room ≡ KIND
+module _ (kind n j : ℕ) (w : ℤ) (room : ℕ) where
+  pub stop-kind : knownKind kind ≡ false → code kind n j w room ≡ KIND
   unfolding code
   stop-kind e = rw e
 
-  pub stop-index : knownKind kind ≡ true → goodIndex n ≡ false → code kind n j room ≡ INDEX
+  pub stop-index : knownKind kind ≡ true → goodIndex n ≡ false → code kind n j w room ≡ INDEX
   unfolding code
   stop-index e f = rw (e, f)
 
-  pub stop-one : knownKind kind ≡ true → goodIndex n ≡ true → rOf n ≡ 1 → code kind n j room ≡ INDEX
+  pub stop-one : knownKind kind ≡ true → goodIndex n ≡ true → rOf n ≡ 1 → code kind n j w room ≡ INDEX
   unfolding code
   stop-one e f g = rw (e, f, eq-eqb (rOf n) 1 g)
 
   module _ (e : knownKind kind ≡ true) (f : goodIndex n ≡ true) (g : rOf n ≢ 1) where
-    pub stop-step : divisorsDue (rOf n) < j → code kind n j room ≡ STEP
+    pub stop-step : divisorsDue (rOf n) < j → code kind n j w room ≡ STEP
     unfolding code
     stop-step h = rw (e, f, ne-eqb (rOf n) 1 g, lt-ltb (divisorsDue (rOf n)) j h)
 
     module _ (few : j ≤ divisorsDue (rOf n)) where
-      pub stop-short : room ≤ halfDegree kind (rOf n) → code kind n j room ≡ SHORT
+      pub stop-limit : belowOne w ≡ true → code kind n j w room ≡ LIMIT
       unfolding code
-      stop-short h =
-          rw (e, f, ne-eqb (rOf n) 1 g, le-ltb (divisorsDue (rOf n)) j few, le-leb room (halfDegree kind (rOf n)) h)
+      stop-limit b = rw (e, f, ne-eqb (rOf n) 1 g, le-ltb (divisorsDue (rOf n)) j few, b)
 
-      pub stop-last : halfDegree kind (rOf n) < room → code kind n j room
-          ≡ cond (overAmong largest kind (rOf n) j) OVER DONE
-      unfolding code
-      stop-last h =
-          rw (e, f, ne-eqb (rOf n) 1 g, le-ltb (divisorsDue (rOf n)) j few, lt-leb room (halfDegree kind (rOf n)) h)
+      module _ (good : belowOne w ≡ false) where
+        stop-good : code kind n j w room
+            ≡ cond (leb room (halfDegree kind (rOf n))) SHORT (cond (overAmong (natAbs w) kind (rOf n) j) OVER DONE)
+        unfolding code
+        stop-good = rw (e, f, ne-eqb (rOf n) 1 g, le-ltb (divisorsDue (rOf n)) j few, good) refl
+
+        pub stop-short : room ≤ halfDegree kind (rOf n) → code kind n j w room ≡ SHORT
+        stop-short h = stop-good ∙ rw (le-leb room (halfDegree kind (rOf n)) h) refl
+
+        pub stop-last : halfDegree kind (rOf n) < room → code kind n j w room
+            ≡ cond (overAmong (natAbs w) kind (rOf n) j) OVER DONE
+        stop-last h = stop-good ∙ rw (lt-leb room (halfDegree kind (rOf n)) h) refl
 
 -- ---- outcomes: the answer and what is left, by the code
-module _ (kind n j : ℕ) (l : List ℤ) (c : ℕ) (e : code kind n j (length l) ≡ c) where
-  told : answer kind n j (length l) ≡ answered kind n j c
+module _ (kind n j : ℕ) (w : ℤ) (l : List ℤ) (c : ℕ) (e : code kind n j w (length l) ≡ c) where
+  told : answer kind n j w (length l) ≡ answered kind n j c
   unfolding answer
   told = ap (answered kind n j) e
 
-  stands-left : leaves kind n j l ≡ left kind n j c l
+  stands-left : leaves kind n j w l ≡ left kind n j c l
   unfolding leaves
   stands-left = ap (λ x. left kind n j x l) e
 
 -- a refusal that tells degree 0 and leaves all as it was
-abbrev pub Stopped : (kind n j : ℕ) → Stop → List ℤ → List ℤ → Type 0
-Stopped kind n j a m l = (a ≡ answer kind n j (length l)) × (m ≡ leaves kind n j l)
+abbrev pub Stopped : (kind n j : ℕ) → ℤ → Stop → List ℤ → List ℤ → Type 0
+Stopped kind n j w a m l = (a ≡ answer kind n j w (length l)) × (m ≡ leaves kind n j w l)
 
-module _ (kind n j : ℕ) (l : List ℤ) where
-  -- KIND, INDEX and STEP
+module _ (kind n j : ℕ) (w : ℤ) (l : List ℤ) where
+  -- KIND, INDEX, STEP and LIMIT
   pub plain-stop :
       (c : ℕ) → answered kind n j c ≡ record { code = c; degree = 0; additions = 0; due = 0 } → left kind n j c l ≡ l
-      → code kind n j (length l) ≡ c
-      → Stopped kind n j (record { code = c; degree = 0; additions = 0; due = 0 }) l l
-  plain-stop c a b e = (sym (told kind n j l c e ∙ a), sym (stands-left kind n j l c e ∙ b))
+      → code kind n j w (length l) ≡ c
+      → Stopped kind n j w (record { code = c; degree = 0; additions = 0; due = 0 }) l l
+  plain-stop c a b e = (sym (told kind n j w l c e ∙ a), sym (stands-left kind n j w l c e ∙ b))
 
-  pub at-kind : code kind n j (length l) ≡ KIND
-      → Stopped kind n j (record { code = KIND; degree = 0; additions = 0; due = 0 }) l l
+  pub at-kind : code kind n j w (length l) ≡ KIND
+      → Stopped kind n j w (record { code = KIND; degree = 0; additions = 0; due = 0 }) l l
   unfolding answered left
   at-kind e = plain-stop KIND refl refl e
 
-  pub at-index : code kind n j (length l) ≡ INDEX
-      → Stopped kind n j (record { code = INDEX; degree = 0; additions = 0; due = 0 }) l l
+  pub at-index : code kind n j w (length l) ≡ INDEX
+      → Stopped kind n j w (record { code = INDEX; degree = 0; additions = 0; due = 0 }) l l
   unfolding answered left
   at-index e = plain-stop INDEX refl refl e
 
-  pub at-step : code kind n j (length l) ≡ STEP
-      → Stopped kind n j (record { code = STEP; degree = 0; additions = 0; due = 0 }) l l
+  pub at-step : code kind n j w (length l) ≡ STEP
+      → Stopped kind n j w (record { code = STEP; degree = 0; additions = 0; due = 0 }) l l
   unfolding answered left
   at-step e = plain-stop STEP refl refl e
 
-  pub at-short : code kind n j (length l) ≡ SHORT
-      → Stopped kind n j (record { code = SHORT; degree = halfDegree kind (rOf n); additions = 0; due = 0 }) l l
+  pub at-limit : code kind n j w (length l) ≡ LIMIT
+      → Stopped kind n j w (record { code = LIMIT; degree = 0; additions = 0; due = 0 }) l l
   unfolding answered left
-  at-short e = (sym (told kind n j l SHORT e), sym (stands-left kind n j l SHORT e))
+  at-limit e = plain-stop LIMIT refl refl e
+
+  pub at-short : code kind n j w (length l) ≡ SHORT
+      → Stopped kind n j w (record { code = SHORT; degree = halfDegree kind (rOf n); additions = 0; due = 0 }) l l
+  unfolding answered left
+  at-short e = (sym (told kind n j w l SHORT e), sym (stands-left kind n j w l SHORT e))
 
   pub at-over :
-      code kind n j (length l) ≡ OVER
-      → Stopped kind n j (record { code = OVER; degree = halfDegree kind (rOf n); additions = 0; due = 0 })
+      code kind n j w (length l) ≡ OVER
+      → Stopped kind n j w (record { code = OVER; degree = halfDegree kind (rOf n); additions = 0; due = 0 })
       (written (zeros (halfDegree kind (rOf n) + 1)) l) l
   unfolding answered left
-  at-over e = (sym (told kind n j l OVER e), sym (stands-left kind n j l OVER e))
+  at-over e = (sym (told kind n j w l OVER e), sym (stands-left kind n j w l OVER e))
 
   pub at-done :
-      code kind n j (length l) ≡ DONE
-      → Stopped kind n j
+      code kind n j w (length l) ≡ DONE
+      → Stopped kind n j w
       (record {
         code = DONE;
         degree = halfDegree kind (rOf n);
@@ -163,27 +176,33 @@ module _ (kind n j : ℕ) (l : List ℤ) where
             divisorsDue (rOf n) - j;
       }) (written (keptHalf kind (rOf n) j) l) l
   unfolding answered left
-  at-done e = (sym (told kind n j l DONE e), sym (stands-left kind n j l DONE e))
+  at-done e = (sym (told kind n j w l DONE e), sym (stands-left kind n j w l DONE e))
 
 -- ---- after the tests: n is good and taken apart, and D is known
-module _ (kind n j : ℕ) (x : Parts) (S : StepsDue kind n x) (l : List ℤ) (d : ℕ)
+module _ (kind n j : ℕ) (w : ℤ) (x : Parts) (S : StepsDue kind n x) (l : List ℤ) (d : ℕ)
     (ed : d ≡ halfDegree kind (rOf n)) where
   pub too-many : divisorsDue (rOf n) < j
-      → Stopped kind n j (record { code = STEP; degree = 0; additions = 0; due = 0 }) l l
-  too-many h = at-step kind n j l (stop-step kind n j (length l) (S .known) (S .good) (S .above) h)
+      → Stopped kind n j w (record { code = STEP; degree = 0; additions = 0; due = 0 }) l l
+  too-many h = at-step kind n j w l (stop-step kind n j w (length l) (S .known) (S .good) (S .above) h)
 
-  module _ (few : j ≤ divisorsDue (rOf n)) where
-    pub too-short : length l ≤ d → Stopped kind n j (record { code = SHORT; degree = d; additions = 0; due = 0 }) l l
+  pub too-low : j ≤ divisorsDue (rOf n) → belowOne w ≡ true
+      → Stopped kind n j w (record { code = LIMIT; degree = 0; additions = 0; due = 0 }) l l
+  too-low few b = at-limit kind n j w l (stop-limit kind n j w (length l) (S .known) (S .good) (S .above) few b)
+
+  module _ (few : j ≤ divisorsDue (rOf n)) (good : belowOne w ≡ false) where
+    pub too-short : length l ≤ d → Stopped kind n j w (record { code = SHORT; degree = d; additions = 0; due = 0 }) l l
     too-short h =
-        let s = at-short kind n j l
-        (stop-short kind n j (length l) (S .known) (S .good) (S .above) few (omega arith)) in
+        let s = at-short kind n j w l
+        (stop-short kind n j w (length l) (S .known) (S .good) (S .above) few good (omega arith)) in
         (ap (λ k. record { code = SHORT; degree = k; additions = 0; due = 0 }) ed ∙ s .0, s .1)
 
     -- m stands in the first D + 1 entries after the steps
-    module _ (room : d < length l) (m : List ℤ) (h : RunOutcome) (made : KeptHalfIs kind (rOf n) j m h) where
-      last-code : code kind n j (length l) ≡ cond (h .over) OVER DONE
+    module _ (room : d < length l) (m : List ℤ) (h : RunOutcome) {limit : ℕ} (is : limit ≡ natAbs w)
+        (made : KeptHalfIs limit kind (rOf n) j m h) where
+      last-code : code kind n j w (length l) ≡ cond (h .over) OVER DONE
       last-code =
-          stop-last kind n j (length l) (S .known) (S .good) (S .above) few (omega arith)
+          stop-last kind n j w (length l) (S .known) (S .good) (S .above) few good (omega arith)
+          ∙ ap (λ k. cond (overAmong k kind (rOf n) j) OVER DONE) (sym is)
           ∙ ap (λ b. cond b OVER DONE) (sym (made .ran .over))
 
       in-front : (new : List ℤ) → length new ≡ halfDegree kind (rOf n) + 1 → m ≡ new
@@ -191,21 +210,21 @@ module _ (kind n j : ℕ) (x : Parts) (S : StepsDue kind n x) (l : List ℤ) (d 
       unfolding written
       in-front new len q = ap₂ (λ x k. x ++ drop k l) q (ap (λ x. x + 1) ed ∙ sym len)
 
-      pub made-over : h .over ≡ true → Stopped kind n j (record { code = OVER; degree = d; additions = 0; due = 0 })
+      pub made-over : h .over ≡ true → Stopped kind n j w (record { code = OVER; degree = d; additions = 0; due = 0 })
           (m ++ drop (d + 1) l) l
       unfolding zeros
       made-over o =
-          let s = at-over kind n j l (last-code ∙ ap (λ b. cond b OVER DONE) o) in (
+          let s = at-over kind n j w l (last-code ∙ ap (λ b. cond b OVER DONE) o) in (
             ap (λ k. record { code = OVER; degree = k; additions = 0; due = 0 }) ed ∙ s .0,
             in-front (zeros (halfDegree kind (rOf n) + 1)) (length-replicate (halfDegree kind (rOf n) + 1) 0ℤ)
                 (made .zeroed o) ∙ s .1,
           )
 
       pub made-done : h .over ≡ false
-          → Stopped kind n j (record { code = DONE; degree = d; additions = h .additions; due = h .due })
+          → Stopped kind n j w (record { code = DONE; degree = d; additions = h .additions; due = h .due })
           (m ++ drop (d + 1) l) l
       made-done o =
-          let s = at-done kind n j l (last-code ∙ ap (λ b. cond b OVER DONE) o) in (
+          let s = at-done kind n j w l (last-code ∙ ap (λ b. cond b OVER DONE) o) in (
             stop-same ed (made .ran .additions o) (made .ran .due o) ∙ s .0,
             in-front (keptHalf kind (rOf n) j) (kept-length kind (rOf n) j) (made .ran .half o) ∙ s .1,
           )

@@ -10,7 +10,7 @@ use lib.ListN.{length, getD}
 use lib.Dec.{eqb}
 use lib.IntN.{ℤ}
 use Rattle.definitions.specs.Numbers.{divides, listTo, divisorsBelow, muIsPlus}
-use Rattle.definitions.specs.Steps.{Sort, comb, accumulate, entries, largest, stepList}
+use Rattle.definitions.specs.Steps.{Sort, comb, accumulate, entries, stepList}
 use Rattle.definitions.specs.KeptHalf.{halfDegree, sortOf, keptSeries, keptHalf}
 use Rattle.definitions.specs.Requests.{divisorsDue, nextDivisor, overAt}
 use Rattle.numbers.specs.Lists.{entry-has}
@@ -19,6 +19,7 @@ use Rattle.cyclotomic.specs.Kept.{step-kept}
 use Rattle.divisors.specs.Walks.{Stands, taken, walkAt, nextAt, nextOf, divisorAt}
 use Rattle.divisors.proofs.Walking.{next-more}
 use Rattle.bounded.specs.Outcome.{StepOutcomeIs}
+use Rattle.bounded.proofs.Outcomes.{outcome-length}
 use Rattle.kept.specs.Halves.{KeptHalfAt, DivisorOutcomeIs}
 use Rattle.divisors.specs.declared.Walk.{Walk}
 use Rattle.divisors.specs.declared.NextAndWalk.{NextAndWalk}
@@ -36,7 +37,8 @@ pub divisor-in : (r j : ℕ) → j < divisorsDue r → (0 < nextDivisor r j) × 
 unfolding nextDivisor divisorsDue divisorsBelow
 divisor-in r j h = let e = entry-has (λ d. divides d r) (r - 1) j h in (e .0, e .1)
 
-module _ (kind : ℕ) (w : Walk) (bound : ℕ) (l : List ℤ) (st : KeptHalfAt kind w bound l) (more : 0 < w .due) where
+module _ (limit kind : ℕ) (w : Walk) (bound : ℕ) (l : List ℤ) (st : KeptHalfAt limit kind w bound l)
+    (more : 0 < w .due) where
   r : ℕ
   r = w .r
 
@@ -80,29 +82,28 @@ module _ (kind : ℕ) (w : Walk) (bound : ℕ) (l : List ℤ) (st : KeptHalfAt k
       unfolding nextDivisor
       plus-is = cc (same)
 
-      pub size-good : (1 ≤ size) × (size ≤ 65535)
-      size-good =
-          let d = divisor-in (w .r) (taken w) still in
-          (omega (arith, size-is, d .0), omega (arith, size-is, d .1, st .walk .small))
+      pub size-good : 1 ≤ size
+      size-good = omega (arith, size-is, divisor-in (w .r) (taken w) still .0)
 
       pub turned :
           (s : Sort) → s ≡ cond (cond (eqb kind 1) plus (not plus)) comb accumulate
           → (m : List ℤ) (v : StepOutcome) (count : ℕ)
-          → StepOutcomeIs s size l m v → count ≡ length l - size
-          → DivisorOutcomeIs kind w m (record { over = v .over; count = count; bound = v .bound; walk = t .walk })
+          → StepOutcomeIs limit s size bound l m v → count ≡ length l - size
+          → DivisorOutcomeIs limit kind w m (record { over = v .over; count = count; bound = v .bound; walk = t .walk })
       unfolding overAt sortOf divisorsDue
       turned s es m v count a ec =
           record {
-            over = a .over ∙ ap₂ (λ x d. Rattle.definitions.specs.Steps.stepOver largest x d l) sort-is size-is
-                ∙ ap (λ x. Rattle.definitions.specs.Steps.stepOver largest (sortOf kind (w .r) d) d x) (st .half);
+            over = a .over ∙ ap₂ (λ x d. Rattle.definitions.specs.Steps.stepOver limit x d l) sort-is size-is
+                ∙ ap (λ x. Rattle.definitions.specs.Steps.stepOver limit (sortOf kind (w .r) d) d x) (st .half);
             after = ap (λ (x : NextAndWalk). x .walk) (e ∙ handed);
-            half = λ o. a .leaves o ∙ ap₂ (λ x d. stepList x d l) sort-is size-is
+            half = λ o. a .leaves ∙ ap (λ b. cond b l (stepList s size l)) o
+                ∙ ap₂ (λ x d. stepList x d l) sort-is size-is
                 ∙ ap (stepList (sortOf kind (w .r) d) d) (st .half)
                 ∙ step-kept kind (w .r) (taken w) still (divisor-in (w .r) (taken w) still .0);
             bounded = a .bounded;
-            inside = a .inside;
+            inside = a .inside (st .inside);
             count = ec ∙ ap₂ (λ n d. n - d) l-length size-is;
-            len = a .len ∙ l-length;
+            len = outcome-length a ∙ l-length;
           }
         where
           d : ℕ

@@ -19,29 +19,35 @@ use Rattle.divisors.specs.declared.Walk.{Walk}
 use Rattle.kept.specs.declared.run.DivisorOutcome.{DivisorOutcome}
 use Rattle.kept.specs.declared.RunOutcome.{RunOutcome}
 
--- the walk over r's divisors stands at some place, and l is the kept half there, of magnitudes within the bound
-pub record KeptHalfAt (kind : ℕ) (w : Walk) (bound : ℕ) (l : List ℤ) : Type 0 where
+-- a working limit that is not below 1, nor above the largest
+abbrev pub Workable : ℕ → Type 0
+Workable limit = (1 ≤ limit) × (limit ≤ largest)
+
+-- the walk over r's divisors stands at some place, and l is the kept half there, of magnitudes within the bound, which
+-- is within the working limit
+pub record KeptHalfAt (limit kind : ℕ) (w : Walk) (bound : ℕ) (l : List ℤ) : Type 0 where
   pub walk : Stands w
   pub above : w .r ≢ 1
   pub half : l ≡ keptHalf kind (w .r) (taken w)
   pub bounded : Bounded bound (entries l)
-  pub inside : bound ≤ largest
+  pub inside : bound ≤ limit
+  pub range : limit ≤ largest
 
 -- the next divisor's step was taken, and left m
-pub record DivisorOutcomeIs (kind : ℕ) (w : Walk) (m : List ℤ) (r : DivisorOutcome) : Type 0 where
-  pub over : r .over ≡ overAt largest kind (w .r) (taken w)
+pub record DivisorOutcomeIs (limit kind : ℕ) (w : Walk) (m : List ℤ) (r : DivisorOutcome) : Type 0 where
+  pub over : r .over ≡ overAt limit kind (w .r) (taken w)
   pub after : r .walk ≡ walkAt (w .r) (suc (taken w))
   pub half : r .over ≡ false → m ≡ keptHalf kind (w .r) (suc (taken w))
   pub bounded : r .over ≡ false → Bounded (r .bound) (entries m)
-  pub inside : r .bound ≤ largest
+  pub inside : r .bound ≤ limit
   pub count : r .count ≡ halfDegree kind (w .r) + 1 - nextDivisor (w .r) (taken w)
   pub len : length m ≡ halfDegree kind (w .r) + 1
 
 -- the first j steps were taken, and left m
-pub record RunOutcomeIs (kind r j : ℕ) (m : List ℤ) (h : RunOutcome) : Type 0 where
-  pub over : h .over ≡ overAmong largest kind r j
+pub record RunOutcomeIs (limit kind r j : ℕ) (m : List ℤ) (h : RunOutcome) : Type 0 where
+  pub over : h .over ≡ overAmong limit kind r j
   pub half : h .over ≡ false → m ≡ keptHalf kind r j
-  pub inside : h .over ≡ false → Bounded largest (entries m)
+  pub inside : h .over ≡ false → Bounded limit (entries m)
   pub additions : h .over ≡ false → h .additions ≡ additionsAfter kind r j
   pub due : h .over ≡ false → h .due ≡ divisorsDue r - j
   pub len : length m ≡ halfDegree kind r + 1
@@ -61,6 +67,6 @@ pub record WalkAtStart (w : Walk) : Type 0 where
   pub here : w ≡ walkAt (w .r) 0
 
 -- the kept half after j divisors, or zeros
-pub record KeptHalfIs (kind r j : ℕ) (m : List ℤ) (h : RunOutcome) : Type 0 where
-  pub ran : RunOutcomeIs kind r j m h
+pub record KeptHalfIs (limit kind r j : ℕ) (m : List ℤ) (h : RunOutcome) : Type 0 where
+  pub ran : RunOutcomeIs limit kind r j m h
   pub zeroed : h .over ≡ true → m ≡ zeros (halfDegree kind r + 1)

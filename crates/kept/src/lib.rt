@@ -14,30 +14,29 @@ ghost use Rattle.definitions.specs.Numbers.{rOf};
 ghost use Rattle.definitions.specs.KeptHalf.{halfDegree};
 ghost use Rattle.definitions.specs.Requests.{divisorsDue};
 ghost use Rattle.answers.specs.Partial as Partial;
-ghost use Rattle.kept.specs.Halves.{StepsDue, KeptHalfIs};
+ghost use Rattle.kept.specs.Halves.{Workable, StepsDue, KeptHalfIs};
 
-// The outcome of a run of steps: a value out of range, or the additions and the divisors still due.
+// The outcome of a run of steps: a value that passes the working limit, or the additions and the divisors still due.
 pub struct RunOutcome {
     pub over: bool,
     pub additions: u64,
     pub due: u64,
 }
 
-// The kept half for n's r after all its divisors' steps, in a slice of D + 1 entries; zeros where a value would be out
-// of range.
-pub fn all_steps(kind: u64, n: u64, parts: Parts, a: &mut [i64]) -> RunOutcome
-    requires { ⌜ StepsDue kind n parts × (length (now a) ≡ halfDegree kind (rOf n) + 1) ⌝ }
-    ensures { λ r. ⌜ KeptHalfIs kind (rOf n) (divisorsDue (rOf n)) (now (a .exit)) r ⌝ }
+// The kept half for n's r after all its divisors' steps, in a slice of D + 1 entries; zeros where a value would pass w.
+pub fn all_steps(kind: u64, n: u64, parts: Parts, w: u64, a: &mut [i64]) -> RunOutcome
+    requires { ⌜ StepsDue kind n parts × (length (now a) ≡ halfDegree kind (rOf n) + 1) × Workable w ⌝ }
+    ensures { λ r. ⌜ KeptHalfIs w kind (rOf n) (divisorsDue (rOf n)) (now (a .exit)) r ⌝ }
 {
     let walk = Walk::over(parts);
     let all = walk.due;
-    make_kept_half(a, walk, kind, all)
+    make_kept_half(a, walk, kind, all, w)
 }
 
-// The kept half for n's r after the first j divisors' steps, in entries 0 to D.
-pub fn partial(kind: u64, n: u64, j: u64, buf: &mut [i64]) -> Stop
-    ensures { λ r. ⌜ r ≡ Partial.answer kind n j (length (now (buf .entry))) ⌝ }
-    ensures { λ _. ⌜ now (buf .exit) ≡ Partial.leaves kind n j (now (buf .entry)) ⌝ }
+// The kept half for n's r after the first j divisors' steps under the working limit w, in entries 0 to D.
+pub fn partial(kind: u64, n: u64, j: u64, w: i64, buf: &mut [i64]) -> Stop
+    ensures { λ r. ⌜ r ≡ Partial.answer kind n j w (length (now (buf .entry))) ⌝ }
+    ensures { λ _. ⌜ now (buf .exit) ≡ Partial.leaves kind n j w (now (buf .entry)) ⌝ }
 {
     if !answers::known_kind(kind) {
         return Stop::refused(answers::KIND, 0);
@@ -49,5 +48,5 @@ pub fn partial(kind: u64, n: u64, j: u64, buf: &mut [i64]) -> Stop
     if parts.r == 1 {
         return Stop::refused(answers::INDEX, 0);
     }
-    stop::stop_at(kind, n, parts, j, buf)
+    stop::stop_at(kind, n, parts, j, w, buf)
 }

@@ -14,10 +14,10 @@ ghost use Rattle.definitions.specs.Steps.{comb, accumulate};
 ghost use Rattle.definitions.specs.KeptHalf.{halfDegree, start};
 ghost use Rattle.definitions.specs.Requests.{divisorsDue};
 ghost use Rattle.passes.specs.Sorts.{sortMeans};
-ghost use Rattle.kept.specs.Halves.{DivisorOutcomeIs, RunOutcomeIs, KeptHalfAt, WalkAtStart, KeptHalfIs};
+ghost use Rattle.kept.specs.Halves.{Workable, DivisorOutcomeIs, RunOutcomeIs, KeptHalfAt, WalkAtStart, KeptHalfIs};
 ghost use Rattle.divisors.specs.Walks.{walkAt};
 
-// The outcome of one divisor's step: a value out of range, or its additions, the bound after it and the walk.
+// The outcome of one divisor's step: a value that passes the working limit, or its additions, the bound after it and the walk.
 pub(crate) struct DivisorOutcome {
     pub over: bool,
     pub count: u64,
@@ -44,9 +44,9 @@ fn count_of(n: u64, d: u64) -> u64
 }
 
 // The next divisor's step.
-fn take_divisor(a: &mut [i64], walk: Walk, kind: u64, bound: u64) -> DivisorOutcome
-    requires { ⌜ KeptHalfAt kind walk bound (now a) × (0 < walk .due) ⌝ }
-    ensures { λ r. ⌜ DivisorOutcomeIs kind walk (now (a .exit)) r ⌝ }
+fn take_divisor(a: &mut [i64], walk: Walk, kind: u64, bound: u64, w: u64) -> DivisorOutcome
+    requires { ⌜ KeptHalfAt w kind walk bound (now a) × (0 < walk .due) ⌝ }
+    ensures { λ r. ⌜ DivisorOutcomeIs w kind walk (now (a .exit)) r ⌝ }
 {
     let n = a.len() as u64;
     let step = walk.next();
@@ -55,7 +55,7 @@ fn take_divisor(a: &mut [i64], walk: Walk, kind: u64, bound: u64) -> DivisorOutc
     match next {
         Next::Divisor { size, plus } => {
             let sort = sort_for(kind, plus);
-            let outcome = take_step(a, sort, size, bound);
+            let outcome = take_step(a, sort, size, bound, w);
             DivisorOutcome {
                 over: outcome.over,
                 count: count_of(n, size),
@@ -73,16 +73,16 @@ fn take_divisor(a: &mut [i64], walk: Walk, kind: u64, bound: u64) -> DivisorOutc
 }
 
 // The first j divisors' steps.
-fn take_divisors(a: &mut [i64], walk: Walk, kind: u64, j: u64) -> RunOutcome
-    requires { ⌜ KeptHalfAt kind walk 1 (now a) × (walk ≡ walkAt (walk .r) 0) × (j ≤ divisorsDue (walk .r)) ⌝ }
-    ensures { λ r. ⌜ RunOutcomeIs kind (walk .r) j (now (a .exit)) r ⌝ }
+fn take_divisors(a: &mut [i64], walk: Walk, kind: u64, j: u64, w: u64) -> RunOutcome
+    requires { ⌜ KeptHalfAt w kind walk 1 (now a) × (walk ≡ walkAt (walk .r) 0) × (j ≤ divisorsDue (walk .r)) ⌝ }
+    ensures { λ r. ⌜ RunOutcomeIs w kind (walk .r) j (now (a .exit)) r ⌝ }
 {
     let mut at = walk;
     let mut additions: u64 = 0;
     let mut bound: u64 = 1;
     let mut i: u64 = 0;
     while i < j {
-        let outcome = take_divisor(a, at, kind, bound);
+        let outcome = take_divisor(a, at, kind, bound, w);
         at = outcome.walk;
         if outcome.over {
             return RunOutcome {
@@ -119,13 +119,14 @@ fn start_kept_half(a: &mut [i64], kind: u64)
     a[0] = first;
 }
 
-// The kept half after the first j divisors, in a slice of D + 1 entries; zeros where a value would be out of range.
-pub(crate) fn make_kept_half(a: &mut [i64], walk: Walk, kind: u64, j: u64) -> RunOutcome
+// The kept half after the first j divisors, in a slice of D + 1 entries; zeros where a value would pass w.
+pub(crate) fn make_kept_half(a: &mut [i64], walk: Walk, kind: u64, j: u64, w: u64) -> RunOutcome
     requires { ⌜ WalkAtStart walk × (length (now a) ≡ halfDegree kind (walk .r) + 1) × (j ≤ divisorsDue (walk .r)) ⌝ }
-    ensures { λ r. ⌜ KeptHalfIs kind (walk .r) j (now (a .exit)) r ⌝ }
+    requires { ⌜ Workable w ⌝ }
+    ensures { λ r. ⌜ KeptHalfIs w kind (walk .r) j (now (a .exit)) r ⌝ }
 {
     start_kept_half(a, kind);
-    let outcome = take_divisors(a, walk, kind, j);
+    let outcome = take_divisors(a, walk, kind, j, w);
     if outcome.over {
         shapes::clear(a);
     }

@@ -15,9 +15,13 @@ make-kept-half-requires : tie.Need-make-kept-half-requires
 make-kept-half-requires c κs =
     let q = c .before in
     let p = q .before in
-    fresh-half (p .args .kind) (p .args .n) (p .args .parts) (p .pre .0) (q .over .result) (q .over .ensures) _ _
-    (p .pre .1)
-    (le-of-eq (walk-due (p .args .kind) (p .args .n) (p .args .parts) (p .pre .0) (q .over .result) (q .over .ensures)))
+    (
+      fresh-half (p .args .kind) (p .args .n) (p .args .parts) (p .pre .0) (q .over .result) (q .over .ensures) _ _
+          (p .pre .1)
+          (le-of-eq (walk-due (p .args .kind) (p .args .n) (p .args .parts) (p .pre .0) (q .over .result)
+          (q .over .ensures))),
+      p .pre .2,
+    )
 
 same-length : tie.Need-same-length
 same-length c = search needs

@@ -2,6 +2,7 @@
 use mathlib.Core.Path.{_≡_, sym, _∙_}
 use mathlib.Core.Bool.{true}
 use borrow.Author.Tests.{not-true, not-false}
+use mir.Facts.{toZ-ofZ}
 use Rattle.definitions.specs.Requests.{knownKind, goodIndex}
 use Rattle.index.specs.Parts.{partsOf}
 use Rattle.index.proofs.Laws.{taken-good, parts-r}
@@ -37,7 +38,7 @@ returns : tie.Need-returns
 returns c =
     let p = c .before .before .before in
     let k = sym (c .before .before .known-kind .ensures) ∙ not-true _ (c .before .if1 .taken) in
-    let s = at-kind (p .args .kind) (p .args .n) (p .args .j) (p .args .buf .now) (stop-kind _ _ _ _ k) in
+    let s = at-kind (p .args .kind) (p .args .n) (p .args .j) (p .args .w) (p .args .buf .now) (stop-kind _ _ _ _ _ k) in
     (c .refused .ensures ∙ s .0, s .1)
 
 good-index-requires : tie.Need-good-index-requires
@@ -50,8 +51,8 @@ returns-2 : tie.Need-returns-2
 returns-2 c =
     let p = c .before .before .before .before .before in
     let g = sym (c .before .before .good-index .ensures) ∙ not-true _ (c .before .if2 .taken) in
-    let s = at-index (p .args .kind) (p .args .n) (p .args .j) (p .args .buf .now)
-    (stop-index _ _ _ _ (known (c .before .before .before)) g) in
+    let s = at-index (p .args .kind) (p .args .n) (p .args .j) (p .args .w) (p .args .buf .now)
+    (stop-index _ _ _ _ _ (known (c .before .before .before)) g) in
     (c .refused2 .ensures ∙ s .0, s .1)
 
 take-apart-requires : tie.Need-take-apart-requires
@@ -64,8 +65,8 @@ returns-3 : tie.Need-returns-3
 returns-3 c =
     let t = c .before .before .before in
     let p = start t in
-    let s = at-index (p .args .kind) (p .args .n) (p .args .j) (p .args .buf .now)
-    (stop-one _ _ _ _ (kind-known t) (good t) (sym (parts-r _ _ (apart t)) ∙ c .before .if3 .taken)) in
+    let s = at-index (p .args .kind) (p .args .n) (p .args .j) (p .args .w) (p .args .buf .now)
+    (stop-one _ _ _ _ _ (kind-known t) (good t) (sym (parts-r _ _ (apart t)) ∙ c .before .if3 .taken)) in
     (c .refused3 .ensures ∙ s .0, s .1)
 
 stop-at-requires : tie.Need-stop-at-requires
@@ -82,7 +83,9 @@ same-length : tie.Need-same-length
 same-length c = search needs
 
 returns-4 : tie.Need-returns-4
-returns-4 c = search needs
+returns-4 c =
+    let p = c .before .before .before .before .before .before .before .before .before .before in
+    rw (toZ-ofZ (p .fits .w)) at (c .before .stop-at .ensures)
 
 pub partial-spec : {M : Type 1} → statement M
 partial-spec =

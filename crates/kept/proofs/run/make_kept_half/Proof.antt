@@ -1,4 +1,4 @@
--- `make_kept_half` meets its contract: the start, the run, and zeros where a value would be out of range.
+-- `make_kept_half` meets its contract: the start, the run, and zeros where a value would pass the limit.
 use mathlib.Core.Path.{_≡_, sym, _∙_, ap}
 use mathlib.Core.Bool.{true≢false}
 use lib.ListN.{length}
@@ -13,10 +13,10 @@ start-kept-half-requires c κs = search needs
 take-divisors-requires : tie.Need-take-divisors-requires
 take-divisors-requires c κs =
     let p = c .before .before .before .before in (
-      fresh-stands (p .args .kind) (p .args .walk) _ _ (p .pre .0) (p .pre .1)
+      fresh-stands (p .args .w) (p .args .kind) (p .args .walk) _ _ (p .pre .1) (p .pre .0 .0) (p .pre .0 .1)
           (c .before .before .start-kept-half .ensures),
-      p .pre .0 .here,
-      p .pre .2,
+      p .pre .0 .0 .here,
+      p .pre .0 .2,
     )
 
 clear-requires : tie.Need-clear-requires
@@ -26,7 +26,7 @@ same-length : tie.Need-same-length
 same-length c = search needs
 
 returns : tie.Need-returns
-returns c = made-zeros _ _ _ _ _ _ (c .before .before .before .before .before .take-divisors .ensures)
+returns c = made-zeros _ _ _ _ _ _ _ (c .before .before .before .before .before .take-divisors .ensures)
     (c .before .before .before .if1 .taken) (c .before .clear .ensures)
 
 same-length-2 : tie.Need-same-length-2

@@ -20,10 +20,10 @@ take-step-requires : tie.Need-take-step-requires
 take-step-requires c κs =
     let q = c .before .before .before in
     let p = q .before .before .before .before in
-    let g = size-good (p .args .kind) (p .args .walk) (p .args .bound) (p .args .a .now) (p .pre .0) (p .pre .1) _
+    let g = size-good (p .args .w) (p .args .kind) (p .args .walk) (p .args .bound) (p .args .a .now) (p .pre .0) (p .pre .1) _
     (q .before .before .before .next .ensures) (q .next2 .given .0 .0) (q .next2 .given .0 .1 .0)
     (q .next2 .given .1) in
-    (g .0, g .1, p .pre .0 .bounded, p .pre .0 .inside)
+    (g, p .pre .0 .bounded, p .pre .0 .range)
 
 count-of-requires : tie.Need-count-of-requires
 count-of-requires c κs = search needs
@@ -38,7 +38,7 @@ returns : tie.Need-returns
 returns c =
     let q = c .before .before .before .before .before .before in
     let p = q .before .before .before .before in
-    turned (p .args .kind) (p .args .walk) (p .args .bound) (p .args .a .now) (p .pre .0) (p .pre .1)
+    turned (p .args .w) (p .args .kind) (p .args .walk) (p .args .bound) (p .args .a .now) (p .pre .0) (p .pre .1)
     (q .before .before .before .next .result) (q .before .before .before .next .ensures) (q .next2 .given .0 .0)
     (q .next2 .given .0 .1 .0) (q .next2 .given .1) (sortMeans (c .before .before .before .before .sort-for .result))
     (c .before .before .before .before .sort-for .ensures) (c .before .before .take-step .last .0)
@@ -48,7 +48,7 @@ returns c =
 returns-2 : tie.Need-returns-2
 returns-2 c =
     let p = c .before .before .before .before in
-    absurd (not-nothing (p .args .kind) (p .args .walk) (p .args .bound) (p .args .a .now) (p .pre .0) (p .pre .1) _
+    absurd (not-nothing (p .args .w) (p .args .kind) (p .args .walk) (p .args .bound) (p .args .a .now) (p .pre .0) (p .pre .1) _
     (c .before .before .before .next .ensures) (c .enum-told .given .1))
 
 pub take-divisor-spec : {M : Type 1} → statement M

@@ -10,16 +10,16 @@ use Rattle.kept.proofs.run.take_divisors.Statement.{statement}
 use Rattle.kept.proofs.run.take_divisors.Tie as tie
 
 abbrev Inv-loop : tie.InvT-loop
-Inv-loop a₀ kind j at₀ additions₀ bound₀ i₀ a at additions bound i =
-    (i ≤ j) × Running kind (at₀ .r) i additions bound at a
+Inv-loop a₀ kind j w at₀ additions₀ bound₀ i₀ a at additions bound i =
+    (i ≤ j) × Running w kind (at₀ .r) i additions bound at a
 
 abbrev μ-loop : tie.MeasureT-loop
-μ-loop a₀ kind j at₀ additions₀ bound₀ i₀ a at additions bound i = j - i
+μ-loop a₀ kind j w at₀ additions₀ bound₀ i₀ a at additions bound i = j - i
 
 loop-holds : tie.Need-loop-holds Inv-loop μ-loop
 loop-holds c = (
   omega arith,
-  run-start (c .args .kind) (c .args .walk .r) (c .args .walk) (c .args .a .now) (c .pre .0)
+  run-start (c .args .w) (c .args .kind) (c .args .walk .r) (c .args .walk) (c .args .a .now) (c .pre .0)
       (c .pre .1),
 )
 
@@ -27,10 +27,10 @@ take-divisor-requires : tie.Need-take-divisor-requires Inv-loop μ-loop
 take-divisor-requires c κs =
     let q = c .before .before in
     let p = q .before in (
-      stands (p .args .kind) (p .args .walk .r) (p .pre .0 .walk .squarefree) (p .pre .0 .walk .small)
+      stands (p .args .w) (p .args .kind) (p .args .walk .r) (p .pre .0 .walk .squarefree) (p .pre .0 .walk .small)
           (p .pre .0 .above)
           (q .loop .inv .1) (omega arith),
-      more-due (p .args .kind) (p .args .walk .r) (p .pre .0 .walk .squarefree)
+      more-due (p .args .w) (p .args .kind) (p .args .walk .r) (p .pre .0 .walk .squarefree)
           (p .pre .0 .walk .small) (p .pre .0 .above) (q .loop .inv .1) (omega arith),
     )
 
@@ -38,7 +38,7 @@ same-length : tie.Need-same-length Inv-loop μ-loop
 same-length c =
     let q = c .before .before .before .before .before .before in
     let p = q .before in
-    turned-length (p .args .kind) (p .args .walk .r) (p .pre .0 .walk .squarefree) (p .pre .0 .walk .small)
+    turned-length (p .args .w) (p .args .kind) (p .args .walk .r) (p .pre .0 .walk .squarefree) (p .pre .0 .walk .small)
     (p .pre .0 .above) (q .loop .inv .1) (omega arith) (c .before .before .before .take-divisor .ensures)
     ∙ sym (standing-length (p .pre .0))
 
@@ -46,17 +46,17 @@ returns : tie.Need-returns Inv-loop μ-loop
 returns c =
     let q = c .before .before .before .before .before .before in
     let p = q .before in
-    ran-over (p .args .kind) (p .args .walk .r) (q .loop .i) (p .args .j) _ (omega arith)
-    (stops (p .args .kind) (p .args .walk .r) (p .pre .0 .walk .squarefree) (p .pre .0 .walk .small) (p .pre .0 .above)
+    ran-over (p .args .w) (p .args .kind) (p .args .walk .r) (q .loop .i) (p .args .j) _ (omega arith)
+    (stops (p .args .w) (p .args .kind) (p .args .walk .r) (p .pre .0 .walk .squarefree) (p .pre .0 .walk .small) (p .pre .0 .above)
     (q .loop .inv .1) (omega arith) (c .before .before .before .take-divisor .ensures) (c .if1 .taken))
-    (turned-length (p .args .kind) (p .args .walk .r) (p .pre .0 .walk .squarefree) (p .pre .0 .walk .small)
+    (turned-length (p .args .w) (p .args .kind) (p .args .walk .r) (p .pre .0 .walk .squarefree) (p .pre .0 .walk .small)
     (p .pre .0 .above) (q .loop .inv .1) (omega arith) (c .before .before .before .take-divisor .ensures))
 
 add-additions : tie.Need-add-additions Inv-loop μ-loop
 add-additions c =
     let q = c .before .before .before .before .before .before .before in
     let p = q .before in
-    let u = runs-on (p .args .kind) (p .args .walk .r) (p .pre .0 .walk .squarefree) (p .pre .0 .walk .small)
+    let u = runs-on (p .args .w) (p .args .kind) (p .args .walk .r) (p .pre .0 .walk .squarefree) (p .pre .0 .walk .small)
     (p .pre .0 .above) (q .loop .inv .1) (omega arith) (c .before .before .before .before .take-divisor .ensures)
     (c .before .if1 .left) in
     omega (
@@ -77,7 +77,7 @@ loop-again c =
     let q = c .before .before .before .before .before .before .before in
     let p = q .before in (
       omega arith,
-      runs-on (p .args .kind) (p .args .walk .r) (p .pre .0 .walk .squarefree) (p .pre .0 .walk .small)
+      runs-on (p .args .w) (p .args .kind) (p .args .walk .r) (p .pre .0 .walk .squarefree) (p .pre .0 .walk .small)
           (p .pre .0 .above) (q .loop .inv .1) (omega arith) (c .before .before .before .before .take-divisor .ensures)
           (c .before .if1 .left),
     )
@@ -93,7 +93,7 @@ returns-2 c =
     let q = c .before in
     let p = q .before in
     let e : q .loop .i ≡ p .args .j = omega arith in
-    ran (p .args .kind) (p .args .walk .r) (p .args .j) (q .loop .additions) (q .loop .bound) (q .loop .at) (q .loop .a)
+    ran (p .args .w) (p .args .kind) (p .args .walk .r) (p .args .j) (q .loop .additions) (q .loop .bound) (q .loop .at) (q .loop .a)
     (rw e at (q .loop .inv .1))
 
 pub take-divisors-spec : {M : Type 1} → statement M

@@ -2,16 +2,21 @@
 -- once the walk is made, and what `Stopping` takes, is named here once.
 use Prim.Native.Nat.{ℕ, _+_, _<_, _≤_}
 use mathlib.Core.Path.{_≡_, sym, _∙_, ap}
+use mathlib.Core.Bool.{false}
 use mathlib.Core.List.{List}
 use native.Mathlib.Omega.{arith}
-use lib.IntN.{ℤ}
+use lib.IntN.{ℤ, natAbs}
 use lib.ListN.{length}
 use lib.Seq.{length-take-le}
+use mir.Facts.{toZ-ofZ}
 use Rattle.definitions.specs.Numbers.{rOf}
+use Rattle.definitions.specs.Steps.{belowOne}
 use Rattle.definitions.specs.KeptHalf.{halfDegree}
 use Rattle.definitions.specs.Requests.{divisorsDue}
+use Rattle.step_laws.specs.Machine.{seen, below-one, limit-within}
+use Rattle.step_laws.specs.WorkingLimit.{good-limit}
 use Rattle.index.proofs.Laws.{parts-few}
-use Rattle.kept.specs.Halves.{KeptHalfIs}
+use Rattle.kept.specs.Halves.{Workable, KeptHalfIs}
 use Rattle.kept.specs.declared.RunOutcome.{RunOutcome}
 use Rattle.kept.proofs.Stopping as Stopping
 use borrow.Author.Needs.{needs}
@@ -51,8 +56,8 @@ module _ (q : tie.After-over) where
 
 -- what the steps came to
 module _ (q : tie.After-over) {m : List ℤ} {h : RunOutcome} where
-  walk-of-r : KeptHalfIs (kind q) (q .over .result .r) (start q .args .j) m h
-      → KeptHalfIs (kind q) (rOf (n q)) (start q .args .j) m h
+  walk-of-r : {limit : ℕ} → KeptHalfIs limit (kind q) (q .over .result .r) (start q .args .j) m h
+      → KeptHalfIs limit (kind q) (rOf (n q)) (start q .args .j) m h
   walk-of-r = Stopping.of-r (kind q) (n q) (start q .args .parts) (start q .pre) (q .over .result) (q .over .ensures) _
 
 half-degree-requires : tie.Need-half-degree-requires
@@ -67,7 +72,7 @@ refused-requires c κs = search needs
 returns : tie.Need-returns
 returns c =
     let q = c .before .before .before in
-    let s = Stopping.too-many (kind q) (n q) (start q .args .j) _ (start q .pre) (old q) _ (d-is q)
+    let s = Stopping.too-many (kind q) (n q) (start q .args .j) (start q .args .w) _ (start q .pre) (old q) _ (d-is q)
     (omega (arith, due-is q)) in
     (c .refused .ensures ∙ s .0, s .1)
 
@@ -77,9 +82,39 @@ refused-requires-2 c κs = search needs
 returns-2 : tie.Need-returns-2
 returns-2 c =
     let q = c .before .before .before .before in
-    let s = Stopping.too-short (kind q) (n q) (start q .args .j) _ (start q .pre) (old q) _ (d-is q)
-    (few-due q (omega arith)) (omega arith) in
+    let s = Stopping.too-low (kind q) (n q) (start q .args .j) (start q .args .w) _ (start q .pre) (old q) _ (d-is q)
+    (few-due q (omega arith)) (below-one (start q .args .w) (start q .fits .w) (c .before .if2 .taken)) in
     (c .refused2 .ensures ∙ s .0, s .1)
+
+-- the working limit is good
+module _ (e : tie.Else2) where
+  abbrev walked : tie.After-over
+  walked = e .before .before .before
+
+  abbrev w : ℤ
+  w = start walked .args .w
+
+  good : belowOne w ≡ false
+  good = below-one w (start walked .fits .w) (e .if2 .left)
+
+  limit-is : {m : ℕ} → m ≡ natAbs (seen w) → m ≡ natAbs w
+  limit-is is = is ∙ ap natAbs (toZ-ofZ (start walked .fits .w))
+
+  workable : {m : ℕ} → m ≡ natAbs (seen w) → Workable m
+  workable is =
+      let g = good-limit w good in
+      (omega (arith, limit-is is, g .1), omega (arith, limit-is is, limit-within w (start walked .fits .w) good))
+
+refused-requires-3 : tie.Need-refused-requires-3
+refused-requires-3 c κs = search needs
+
+returns-3 : tie.Need-returns-3
+returns-3 c =
+    let e = c .before .before in
+    let q = walked e in
+    let s = Stopping.too-short (kind q) (n q) (start q .args .j) (w e) _ (start q .pre) (old q) _ (d-is q)
+    (few-due q (omega arith)) (good e) (omega arith) in
+    (c .refused3 .ensures ∙ s .0, s .1)
 
 add-h : tie.Need-add-h
 add-h c = search needs
@@ -89,38 +124,47 @@ slice-relend-prefix-make-kept-half c = search needs
 
 slice-aggregate-make-kept-half : tie.Need-slice-aggregate-make-kept-half
 slice-aggregate-make-kept-half c =
-    let q = c .before .before .before .before in sym (part-length q (omega arith) (omega arith))
+    let q = walked (c .before .before) in sym (part-length q (omega arith) (omega arith))
+
+magnitude-requires : tie.Need-magnitude-requires
+magnitude-requires c κs = search needs
 
 make-kept-half-requires : tie.Need-make-kept-half-requires
 make-kept-half-requires c κs =
-    let q = c .before .before .before .before in
-    Stopping.fresh-half (kind q) (n q) _ (start q .pre) (q .over .result) (q .over .ensures) _ _
-    (part-length q (omega arith) (omega arith) ∙ ap (λ k. k + 1) (d-is q)) (few-due q (omega arith))
+    let e = c .before .before .before in
+    let q = walked e in (
+      Stopping.fresh-half (kind q) (n q) _ (start q .pre) (q .over .result) (q .over .ensures) _ _
+          (part-length q (omega arith) (omega arith) ∙ ap (λ k. k + 1) (d-is q)) (few-due q (omega arith)),
+      workable e (c .magnitude .ensures),
+    )
 
-refused-requires-3 : tie.Need-refused-requires-3
-refused-requires-3 c κs = search needs
+refused-requires-4 : tie.Need-refused-requires-4
+refused-requires-4 c κs = search needs
 
 same-length : tie.Need-same-length
 same-length c = search needs
 
-returns-3 : tie.Need-returns-3
-returns-3 c =
-    let q = c .before .before .before .before .before .before .before .before in
-    let s = Stopping.made-over (kind q) (n q) (start q .args .j) _ (start q .pre) (old q) _ (d-is q)
-    (few-due q (omega arith)) (omega arith) _ _
-    (walk-of-r q (c .before .before .before .make-kept-half .ensures))
-    (c .before .if3 .taken) in
-    (c .refused3 .ensures ∙ s .0, s .1)
+returns-4 : tie.Need-returns-4
+returns-4 c =
+    let m = c .before .before .before in
+    let e = m .before .before .before .before in
+    let q = walked e in
+    let s = Stopping.made-over (kind q) (n q) (start q .args .j) (w e) _ (start q .pre) (old q) _ (d-is q)
+    (few-due q (omega arith)) (good e) (omega arith) _ _ (limit-is e (m .before .magnitude .ensures))
+    (walk-of-r q (m .make-kept-half .ensures)) (c .before .if4 .taken) in
+    (c .refused4 .ensures ∙ s .0, s .1)
 
 same-length-2 : tie.Need-same-length-2
 same-length-2 c = search needs
 
-returns-4 : tie.Need-returns-4
-returns-4 c =
-    let q = c .before .before .before .before .before .before .before in
-    Stopping.made-done (kind q) (n q) (start q .args .j) _ (start q .pre) (old q) _ (d-is q)
-    (few-due q (omega arith)) (omega arith) _ _
-    (walk-of-r q (c .before .before .make-kept-half .ensures)) (c .if3 .left)
+returns-5 : tie.Need-returns-5
+returns-5 c =
+    let m = c .before .before in
+    let e = m .before .before .before .before in
+    let q = walked e in
+    Stopping.made-done (kind q) (n q) (start q .args .j) (w e) _ (start q .pre) (old q) _ (d-is q)
+    (few-due q (omega arith)) (good e) (omega arith) _ _ (limit-is e (m .before .magnitude .ensures))
+    (walk-of-r q (m .make-kept-half .ensures)) (c .if4 .left)
 
 pub stop-at-spec : {M : Type 1} → statement M
 stop-at-spec =
@@ -132,12 +176,15 @@ stop-at-spec =
     returns
     refused-requires-2
     returns-2
+    refused-requires-3
+    returns-3
     add-h
     slice-relend-prefix-make-kept-half
     slice-aggregate-make-kept-half
+    magnitude-requires
     make-kept-half-requires
-    refused-requires-3
+    refused-requires-4
     same-length
-    returns-3
+    returns-4
     same-length-2
-    returns-4)
+    returns-5)
