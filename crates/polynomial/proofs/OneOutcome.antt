@@ -14,5 +14,5 @@ pub polynomial-one :
     (κs : Lfts 1) (a : ArgsD polynomial.signature κs) (z z′ : ResD polynomial.signature κs)
     (e e′ : AtExit (endedOf 1 polynomial-kinds.ps polynomial-kinds.r) κs) →
     polynomial-reads.Post κs a z e → polynomial-reads.Post κs a z′ e′
-    → (z ≡ z′) × (now (e .1 .1 .1 .0) ≡ now (e′ .1 .1 .1 .0))
+    → (z ≡ z′) × (now (e .1 .1 .1 .1 .0) ≡ now (e′ .1 .1 .1 .1 .0))
 polynomial-one κs a z z′ e e′ p p′ = (p .0 ∙ sym (p′ .0), p .1 ∙ sym (p′ .1))

@@ -8,11 +8,11 @@ use mathlib.Core.List.{List, _++_}
 use native.Mathlib.Omega.{arith}
 use native.Mathlib.Nat as NatL
 use native.Mathlib.Numerals.{add-one}
+use borrow.Author.Tests.{le-ltb}
 use lib.ListN.{length, getD, take, drop, length-append, length-drop, List·getD-append}
 use lib.Seq.{take-at}
-use lib.Dec.{eqb}
-use lib.IntN.{ℤ, pos, natAbs}
-use lib.Signed.{ltZ}
+use lib.Dec.{eqb, ltb}
+use lib.IntN.{ℤ, natAbs}
 use Rattle.definitions.specs.Integers.{0ℤ}
 use Rattle.definitions.specs.Codes.{DONE, OVER, TALL}
 use Rattle.definitions.specs.Series.{firsts}
@@ -39,27 +39,28 @@ pub steps-due : {kind n : ℕ} {a : Parts} {l : List ℤ} → Ready kind n a l �
 steps-due R above = record { parts = R .parts; known = R .known; good = R .good; above = above }
 
 -- what the making goes by once all steps are taken on the first d + 1 entries of l and have left m there
-pub record Halfway (kind n : ℕ) (a : Parts) (l : List ℤ) (d : ℕ) (m : List ℤ) (h : RunOutcome) : Type 0 where
+pub record Halfway (w kind n : ℕ) (a : Parts) (l : List ℤ) (d : ℕ) (m : List ℤ) (h : RunOutcome) : Type 0 where
   pub rest-length : length (m ++ drop (d + 1) l) ≡ length l
   pub ready : Ready kind n a (m ++ drop (d + 1) l)
-  pub over : (lim : ℤ) (x : List ℤ) → h .over ≡ true → x ≡ zeros (length (m ++ drop (d + 1) l))
-      → MakingOutcomeIs kind n lim x (record { code = OVER; additions = 0; height = 0 })
+  pub over : (lim : ℕ) (x : List ℤ) → h .over ≡ true → x ≡ zeros (length (m ++ drop (d + 1) l))
+      → MakingOutcomeIs kind n lim w x (record { code = OVER; additions = 0; height = 0 })
   pub lower : h .over ≡ false → Lower kind (rOf n) (m ++ drop (d + 1) l)
   pub height-is : h .over ≡ false → (x : ℕ) → x ≡ heightOf (take (d + 1) (m ++ drop (d + 1) l)) → x ≡ height kind n
-  pub tall : h .over ≡ false → (lim : ℤ) (x : List ℤ) → ltZ lim (pos (height kind n)) ≡ true
+  pub tall : h .over ≡ false → (lim : ℕ) (x : List ℤ) → ltb lim (height kind n) ≡ true
       → x ≡ zeros (length (m ++ drop (d + 1) l))
-      → MakingOutcomeIs kind n lim x (record { code = TALL; additions = 0; height = 0 })
-  pub done : h .over ≡ false → (lim : ℤ) (x : List ℤ) (y : ℕ) → ltZ lim (pos (height kind n)) ≡ false
+      → MakingOutcomeIs kind n lim w x (record { code = TALL; additions = 0; height = 0 })
+  pub done : h .over ≡ false → (lim : ℕ) (x : List ℤ) (y : ℕ) → ltb lim (height kind n) ≡ false
       → x ≡ coefficients kind n
       → y ≡ height kind n
-      → MakingOutcomeIs kind n lim x (record { code = DONE; additions = h .additions; height = y })
+      → MakingOutcomeIs kind n lim w x (record { code = DONE; additions = h .additions; height = y })
 
 module _ (kind n : ℕ) (a : Parts) (l : List ℤ) (R : Ready kind n a l) (above : rOf n ≢ 1) (d : ℕ)
     (ed : d ≡ halfDegree kind (rOf n)) where
   pub half-room : d + 1 ≤ length l
   half-room = omega (arith, half-within kind (rOf n), r-fits kind n a l R)
 
-  module _ (m : List ℤ) (h : RunOutcome) (made : KeptHalfIs kind (rOf n) (divisorsDue (rOf n)) m h) where
+  module _ (w : ℕ) (range : w ≤ largest) (m : List ℤ) (h : RunOutcome)
+      (made : KeptHalfIs w kind (rOf n) (divisorsDue (rOf n)) m h) where
     m-length : length m ≡ d + 1
     m-length = made .ran .len ∙ ap (λ k. k + 1) (sym ed)
 
@@ -70,12 +71,12 @@ module _ (kind n : ℕ) (a : Parts) (l : List ℤ) (R : Ready kind n a l) (above
     still-ready = record { parts = R .parts; known = R .known; good = R .good; room = rest-length ∙ R .room }
 
     -- a value would be out of range
-    laid-over : (lim : ℤ) (x : List ℤ) → h .over ≡ true → x ≡ zeros (length (m ++ drop (d + 1) l))
-        → MakingOutcomeIs kind n lim x (record { code = OVER; additions = 0; height = 0 })
+    laid-over : (lim : ℕ) (x : List ℤ) → h .over ≡ true → x ≡ zeros (length (m ++ drop (d + 1) l))
+        → MakingOutcomeIs kind n lim w x (record { code = OVER; additions = 0; height = 0 })
     unfolding makingCode
     laid-over lim x o e =
         record {
-          code = sym (ap (λ b. cond b OVER (cond (ltZ lim (pos (height kind n))) TALL DONE))
+          code = sym (ap (λ b. cond b OVER (cond (ltb lim (height kind n)) TALL DONE))
               (sym (made .ran .over) ∙ o));
           leaves = e ∙ ap zeros (rest-length ∙ R .room ∙ add-one (degree kind n));
           additions = λ q. absurd (never q);
@@ -99,7 +100,7 @@ module _ (kind n : ℕ) (a : Parts) (l : List ℤ) (R : Ready kind n a l) (above
             half = λ i b. List·getD-append m (drop (d + 1) l) 0ℤ i (omega (arith, m-length))
                 ∙ front-entry (halfDegree kind (rOf n) + 1) (polynomial kind (rOf n)) m m-is i b;
             inside = λ i b. rw (sym (front-entry (halfDegree kind (rOf n) + 1) (polynomial kind (rOf n)) m m-is i b))
-                (made .ran .inside o i);
+                (NatL.le-trans (made .ran .inside o i) range);
           }
 
       height-is : (x : ℕ) → x ≡ heightOf (take (d + 1) (m ++ drop (d + 1) l)) → x ≡ height kind n
@@ -107,9 +108,9 @@ module _ (kind n : ℕ) (a : Parts) (l : List ℤ) (R : Ready kind n a l) (above
           e ∙ ap heightOf (take-at m (drop (d + 1) l) (d + 1) m-length ∙ m-is)
           ∙ sym (height-half kind n (above-zero kind n a l R) above)
 
-      laid-tall : (lim : ℤ) (x : List ℤ) → ltZ lim (pos (height kind n)) ≡ true
+      laid-tall : (lim : ℕ) (x : List ℤ) → ltb lim (height kind n) ≡ true
           → x ≡ zeros (length (m ++ drop (d + 1) l))
-          → MakingOutcomeIs kind n lim x (record { code = TALL; additions = 0; height = 0 })
+          → MakingOutcomeIs kind n lim w x (record { code = TALL; additions = 0; height = 0 })
       unfolding makingCode
       laid-tall lim x t e =
           record {
@@ -123,9 +124,9 @@ module _ (kind n : ℕ) (a : Parts) (l : List ℤ) (R : Ready kind n a l) (above
           never q = omega arith
 
       laid-done :
-          (lim : ℤ) (x : List ℤ) (y : ℕ) → ltZ lim (pos (height kind n)) ≡ false → x ≡ coefficients kind n
+          (lim : ℕ) (x : List ℤ) (y : ℕ) → ltb lim (height kind n) ≡ false → x ≡ coefficients kind n
           → y ≡ height kind n
-          → MakingOutcomeIs kind n lim x (record { code = DONE; additions = h .additions; height = y })
+          → MakingOutcomeIs kind n lim w x (record { code = DONE; additions = h .additions; height = y })
       unfolding makingCode additionsFor divisorsDue
       laid-done lim x y t e q =
           record {
@@ -135,7 +136,7 @@ module _ (kind n : ℕ) (a : Parts) (l : List ℤ) (R : Ready kind n a l) (above
             height = λ z. q;
           }
 
-    pub halfway : Halfway kind n a l d m h
+    pub halfway : Halfway w kind n a l d m h
     halfway =
         record {
           rest-length = rest-length;
@@ -149,13 +150,13 @@ module _ (kind n : ℕ) (a : Parts) (l : List ℤ) (R : Ready kind n a l) (above
 
 -- ---- r = 1: no step is taken, and the height is 1
 pub laid-one :
-    (kind n : ℕ) (h : ℤ) (x : List ℤ) → 0 < n → rOf n ≡ 1 → ltZ h (pos 1) ≡ false → x ≡ coefficients kind n
-    → MakingOutcomeIs kind n h x (record { code = DONE; additions = 0; height = 1 })
+    (kind n h w : ℕ) (x : List ℤ) → 0 < n → rOf n ≡ 1 → 1 ≤ h → x ≡ coefficients kind n
+    → MakingOutcomeIs kind n h w x (record { code = DONE; additions = 0; height = 1 })
 unfolding makingCode additionsFor divisorsDue divisorsBelow listTo overAmong additions sumOf
-laid-one kind n h x l o t e =
+laid-one kind n h w x l o t e =
     record {
-      code = sym (ap₂ (λ r y. cond (overAmong largest kind r (divisorsDue r)) OVER (cond (ltZ h (pos y)) TALL DONE)) o
-          (height-one kind n l o) ∙ ap (λ b. cond b TALL DONE) t);
+      code = sym (ap₂ (λ r y. cond (overAmong w kind r (divisorsDue r)) OVER (cond (ltb h y) TALL DONE)) o
+          (height-one kind n l o) ∙ ap (λ b. cond b TALL DONE) (le-ltb h 1 t));
       leaves = e;
       additions = λ z. sym (ap (additions kind) o);
       height = λ z. sym (height-one kind n l o);

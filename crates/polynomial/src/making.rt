@@ -1,16 +1,17 @@
-// The polynomial request, once kind, index and limit are good.
+// The polynomial request, once kind, index and both limits are good.
 use answers::Answer;
 use index::Parts;
 ghost use mathlib.Core.Path.{_≡_};
-ghost use mathlib.Core.Bool.{true, false};
+ghost use mathlib.Core.Bool.{true};
 ghost use mathlib.Core.Logic.{_≢_};
+ghost use Prim.Native.Nat.{_≤_};
 ghost use lib.ListN.{length};
 ghost use lib.IntN.{pos};
-ghost use lib.Signed.{ltZ};
 ghost use Rattle.definitions.specs.Numbers.{rOf};
 ghost use Rattle.definitions.specs.Requests.{knownKind, goodIndex};
 ghost use Rattle.answers.specs.Polynomial as Polynomial;
 ghost use Rattle.index.specs.Parts.{partsOf};
+ghost use Rattle.kept.specs.Halves.{Workable};
 ghost use Rattle.laying.specs.Ready.{Ready};
 ghost use Rattle.polynomial.specs.Making.{MakingOutcomeIs};
 
@@ -34,19 +35,19 @@ impl MakingOutcome {
 }
 
 // r > 1: the kept half after all divisors, and the polynomial laid out from it. The height is that of the kept half, so
-// a polynomial too tall is never laid out; h is at least 1, so a cast keeps it.
-fn make_by_steps(b: &mut [i64], kind: u64, n: u64, parts: Parts, h: i64) -> MakingOutcome
-    requires { ⌜ Ready kind n parts (now b) × (rOf n ≢ 1) × (ltZ h (pos 1) ≡ false) ⌝ }
-    ensures { λ r. ⌜ MakingOutcomeIs kind n h (now (b .exit)) r ⌝ }
+// a polynomial too tall is never laid out.
+fn make_by_steps(b: &mut [i64], kind: u64, n: u64, parts: Parts, h: u64, w: u64) -> MakingOutcome
+    requires { ⌜ Ready kind n parts (now b) × (rOf n ≢ 1) × Workable w ⌝ }
+    ensures { λ r. ⌜ MakingOutcomeIs kind n h w (now (b .exit)) r ⌝ }
 {
     let half = index::half_degree(kind, parts.r, parts.free) + 1;
-    let run = kept::all_steps(kind, n, parts, &mut b[..half]);
+    let run = kept::all_steps(kind, n, parts, w, &mut b[..half]);
     if run.over {
         shapes::clear(b);
         return MakingOutcome::refused(answers::OVER);
     }
     let height = heights::height(&b[..half]);
-    if (h as u64) < height {
+    if h < height {
         shapes::clear(b);
         return MakingOutcome::refused(answers::TALL);
     }
@@ -59,9 +60,9 @@ fn make_by_steps(b: &mut [i64], kind: u64, n: u64, parts: Parts, h: i64) -> Maki
 }
 
 // The polynomial of n, or zeros and the code of the refusal.
-fn make(b: &mut [i64], kind: u64, n: u64, parts: Parts, h: i64) -> MakingOutcome
-    requires { ⌜ Ready kind n parts (now b) × (ltZ h (pos 1) ≡ false) ⌝ }
-    ensures { λ r. ⌜ MakingOutcomeIs kind n h (now (b .exit)) r ⌝ }
+fn make(b: &mut [i64], kind: u64, n: u64, parts: Parts, h: u64, w: u64) -> MakingOutcome
+    requires { ⌜ Ready kind n parts (now b) × (1 ≤ h) × Workable w ⌝ }
+    ensures { λ r. ⌜ MakingOutcomeIs kind n h w (now (b .exit)) r ⌝ }
 {
     if parts.r == 1 {
         laying::without_steps(b, kind, n, parts);
@@ -71,21 +72,21 @@ fn make(b: &mut [i64], kind: u64, n: u64, parts: Parts, h: i64) -> MakingOutcome
             height: 1,
         };
     }
-    make_by_steps(b, kind, n, parts, h)
+    make_by_steps(b, kind, n, parts, h, w)
 }
 
 // SHORT, or what the making came to.
-pub(crate) fn answer_in(kind: u64, n: u64, parts: Parts, h: i64, buf: &mut [i64]) -> Answer
-    requires { ⌜ (parts ≡ partsOf n) × (knownKind kind ≡ true) × (goodIndex n ≡ true) × (ltZ h (pos 1) ≡ false) ⌝ }
-    ensures { λ r. ⌜ r ≡ Polynomial.answer kind n h (length (now (buf .entry))) ⌝ }
-    ensures { λ _. ⌜ now (buf .exit) ≡ Polynomial.leaves kind n h (now (buf .entry)) ⌝ }
+pub(crate) fn answer_in(kind: u64, n: u64, parts: Parts, h: u64, w: u64, buf: &mut [i64]) -> Answer
+    requires { ⌜ (parts ≡ partsOf n) × (knownKind kind ≡ true) × (goodIndex n ≡ true) × (1 ≤ h) × Workable w ⌝ }
+    ensures { λ r. ⌜ r ≡ Polynomial.answer kind n (pos h) (pos w) (length (now (buf .entry))) ⌝ }
+    ensures { λ _. ⌜ now (buf .exit) ≡ Polynomial.leaves kind n (pos h) (pos w) (now (buf .entry)) ⌝ }
 {
     let degree = index::degree_from(kind, n, parts.phi);
     if buf.len() as u64 <= degree {
         return Answer::refused(answers::SHORT, degree);
     }
     let size = degree as usize + 1;
-    let made = make(&mut buf[..size], kind, n, parts, h);
+    let made = make(&mut buf[..size], kind, n, parts, h, w);
     if made.code != answers::DONE {
         return Answer::refused(made.code, degree);
     }

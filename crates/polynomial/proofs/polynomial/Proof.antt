@@ -1,11 +1,19 @@
 -- `polynomial` meets its contract: each test's code (Answering), and then `answer_in`'s. What each test showed is named
 -- once.
-use mathlib.Core.Path.{_≡_, sym, _∙_}
-use mathlib.Core.Bool.{true}
+use mathlib.Core.Path.{_≡_, refl, sym, _∙_, ap}
+use mathlib.Core.Bool.{true, false, or-true}
+use Prim.Native.Nat.{ℕ, _≤_}
+use native.Mathlib.Omega.{arith}
 use borrow.Author.Tests.{not-true, not-false}
+use lib.IntN.{ℤ, pos, natAbs}
+use mir.Syntax.{w64}
+use mir.Val.{SFits}
+use mir.Facts.{toZ-ofZ}
+use Rattle.definitions.specs.Steps.{largest, belowOne}
 use Rattle.definitions.specs.Requests.{knownKind, goodIndex}
 use Rattle.index.proofs.Laws.{taken-good}
-use Rattle.shapes.proofs.Negation.{read-back}
+use Rattle.step_laws.specs.Machine.{seen, below-one, limit-within}
+use Rattle.step_laws.specs.WorkingLimit.{good-limit}
 use Rattle.polynomial.proofs.Answering.{ask-kind, ask-index, ask-limit, at-kind, at-index, at-limit}
 use borrow.Author.Needs.{needs}
 use Rattle.polynomial.proofs.polynomial.Statement.{statement}
@@ -34,7 +42,7 @@ returns : tie.Need-returns
 returns c =
     let p = c .before .before .before in
     let k = sym (c .before .before .known-kind .ensures) ∙ not-true _ (c .before .if1 .taken) in
-    let s = at-kind (p .args .kind) (p .args .n) (p .args .h) (p .args .buf .now) (ask-kind _ _ _ _ k) in
+    let s = at-kind (p .args .kind) (p .args .n) (p .args .h) (p .args .w) (p .args .buf .now) (ask-kind _ _ _ _ _ k) in
     (c .refused .ensures ∙ s .0, s .1)
 
 good-index-requires : tie.Need-good-index-requires
@@ -47,8 +55,8 @@ returns-2 : tie.Need-returns-2
 returns-2 c =
     let p = c .before .before .before .before .before in
     let g = sym (c .before .before .good-index .ensures) ∙ not-true _ (c .before .if2 .taken) in
-    let s = at-index (p .args .kind) (p .args .n) (p .args .h) (p .args .buf .now)
-    (ask-index _ _ _ _ (known (c .before .before .before)) g) in
+    let s = at-index (p .args .kind) (p .args .n) (p .args .h) (p .args .w) (p .args .buf .now)
+    (ask-index _ _ _ _ _ (known (c .before .before .before)) g) in
     (c .refused2 .ensures ∙ s .0, s .1)
 
 refused-requires-3 : tie.Need-refused-requires-3
@@ -58,30 +66,71 @@ returns-3 : tie.Need-returns-3
 returns-3 c =
     let t = c .before .before in
     let p = start t in
-    let s = at-limit (p .args .kind) (p .args .n) (p .args .h) (p .args .buf .now)
-    (ask-limit _ _ _ _ (kind-known t) (good t)
-    (rw (read-back (p .args .h) (p .fits .h .sfits)) at (c .before .if3 .taken))) in
+    let s = at-limit (p .args .kind) (p .args .n) (p .args .h) (p .args .w) (p .args .buf .now)
+    (ask-limit _ _ _ _ _ (kind-known t) (good t) (rw (below-one (p .args .h) (p .fits .h) (c .before .if3 .taken)) refl)) in
     (c .refused3 .ensures ∙ s .0, s .1)
+
+refused-requires-4 : tie.Need-refused-requires-4
+refused-requires-4 c κs = search needs
+
+returns-4 : tie.Need-returns-4
+returns-4 c =
+    let t = c .before .before .before in
+    let p = start t in
+    let s = at-limit (p .args .kind) (p .args .n) (p .args .h) (p .args .w) (p .args .buf .now)
+    (ask-limit _ _ _ _ _ (kind-known t) (good t)
+    (rw (below-one (p .args .w) (p .fits .w) (c .before .if4 .taken)) (or-true (belowOne (p .args .h))))) in
+    (c .refused4 .ensures ∙ s .0, s .1)
+
+-- both limits are good
+module _ (c : tie.Else4) where
+  abbrev asked : tie.Start
+  asked = start (c .before .before)
+
+  good-h : belowOne (asked .args .h) ≡ false
+  good-h = below-one (asked .args .h) (asked .fits .h) (c .before .if3 .left)
+
+  good-w : belowOne (asked .args .w) ≡ false
+  good-w = below-one (asked .args .w) (asked .fits .w) (c .if4 .left)
+
+-- a limit, as it is handed on
+handed-on : (v : ℤ) {m : ℕ} → SFits w64 v → belowOne v ≡ false → m ≡ natAbs (seen v) → (pos m ≡ v) × (1 ≤ m) × (m ≤ largest)
+handed-on v f g e =
+    let is : _ ≡ natAbs v = e ∙ ap natAbs (toZ-ofZ f) in
+    let l = good-limit v g in
+    (ap pos is ∙ sym (l .0), omega (arith, is, l .1), omega (arith, is, limit-within v f g))
 
 take-apart-requires : tie.Need-take-apart-requires
 take-apart-requires c κs = search needs
 
+magnitude-requires : tie.Need-magnitude-requires
+magnitude-requires c κs = search needs
+
+magnitude-requires-2 : tie.Need-magnitude-requires-2
+magnitude-requires-2 c κs = search needs
+
 answer-in-requires : tie.Need-answer-in-requires
 answer-in-requires c κs =
-    let t = c .before .before .before in (
-      c .before .take-apart .ensures ∙ taken-good _ (good t),
+    let e = c .before .before .before .before in
+    let t = e .before .before in
+    let w = handed-on (asked e .args .w) (asked e .fits .w) (good-w e) (c .before .magnitude2 .ensures) in (
+      c .before .before .before .take-apart .ensures ∙ taken-good _ (good t),
       kind-known t,
       good t,
-      c .before .before .if3 .left,
+      handed-on (asked e .args .h) (asked e .fits .h) (good-h e) (c .before .before .magnitude .ensures) .1,
+      (w .1, w .2),
     )
 
 same-length : tie.Need-same-length
 same-length c = search needs
 
-returns-4 : tie.Need-returns-4
-returns-4 c =
-    let p = start (c .before .before .before .before .before) in
-    rw (read-back (p .args .h) (p .fits .h .sfits)) at (c .before .answer-in .ensures)
+returns-5 : tie.Need-returns-5
+returns-5 c =
+    let e = c .before .before .before .before .before .before in
+    let h = handed-on (asked e .args .h) (asked e .fits .h) (good-h e)
+    (c .before .before .before .before .magnitude .ensures) in
+    let w = handed-on (asked e .args .w) (asked e .fits .w) (good-w e) (c .before .before .before .magnitude2 .ensures) in
+    rw (h .0, w .0) at (c .before .answer-in .ensures)
 
 pub polynomial-spec : {M : Type 1} → statement M
 polynomial-spec =
@@ -95,7 +144,11 @@ polynomial-spec =
     returns-2
     refused-requires-3
     returns-3
+    refused-requires-4
+    returns-4
     take-apart-requires
+    magnitude-requires
+    magnitude-requires-2
     answer-in-requires
     same-length
-    returns-4)
+    returns-5)

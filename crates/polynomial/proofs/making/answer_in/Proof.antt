@@ -7,8 +7,6 @@ use lib.Seq.{length-take-le}
 use Rattle.definitions.specs.Codes.{SHORT}
 use Rattle.definitions.specs.Polynomials.{degree}
 use Rattle.index.proofs.Laws.{index-good, parts-phi, parts-degree}
-use Rattle.shapes.proofs.Negation.{read-back}
-use Rattle.polynomial.specs.Making.{MakingOutcomeIs}
 use Rattle.polynomial.proofs.Answering.{told-only, ask-short, at-short, refuses, delivers}
 use borrow.Author.Needs.{needs}
 use Rattle.polynomial.proofs.making.answer_in.Statement.{statement}
@@ -21,14 +19,6 @@ module _ (g : tie.After-degree-from) where
   degree-is : g .degree-from .result ≡ degree (start .args .kind) (start .args .n)
   degree-is = parts-degree (start .args .n) _ (start .pre .0) (start .args .kind) _ (g .degree-from .ensures)
 
--- what the making came to, with h as it was asked
-made : (c : tie.After-make)
-    → MakingOutcomeIs (start (c .before .before .before) .args .kind) (start (c .before .before .before) .args .n)
-    (start (c .before .before .before) .args .h) (c .make .last .0) (c .make .result)
-made c =
-    let p = start (c .before .before .before) in
-    rw (read-back (p .args .h) (p .fits .h .sfits)) at (c .make .ensures)
-
 degree-from-requires : tie.Need-degree-from-requires
 degree-from-requires c κs = search needs
 
@@ -40,8 +30,8 @@ returns c =
     let g = c .before .before in
     let p = start g in
     let d = degree-is g in
-    let s = at-short (p .args .kind) (p .args .n) (p .args .h) (p .args .buf .now)
-    (ask-short _ _ _ _ (p .pre .1) (p .pre .2) (p .pre .3) (omega arith)) in
+    let s = at-short (p .args .kind) (p .args .n) _ _ (p .args .buf .now)
+    (ask-short _ _ (p .args .h) (p .args .w) _ (p .pre .1) (p .pre .2) (p .pre .3) (p .pre .4 .0) (omega arith)) in
     (c .refused .ensures ∙ ap (told-only SHORT) d ∙ s .0, s .1)
 
 add-size : tie.Need-add-size
@@ -64,7 +54,8 @@ make-requires c κs =
         good = p .pre .2;
         room = length-take-le _ (p .args .buf .now) (omega arith) ∙ ap (λ k. k + 1) (degree-is g);
       },
-      rw (read-back (p .args .h) (p .fits .h .sfits)) (p .pre .3),
+      p .pre .3,
+      p .pre .4,
     )
 
 refused-requires-2 : tie.Need-refused-requires-2
@@ -77,8 +68,8 @@ returns-2 : tie.Need-returns-2
 returns-2 c =
     let g = c .before .before .before .before .before .before .before in
     let p = start g in
-    let s = refuses (p .args .kind) (p .args .n) (p .args .h) (p .args .buf .now) (p .pre .1) (p .pre .2) (p .pre .3) _
-    (degree-is g) (omega arith) _ _ (made (c .before .before .before .before)) (c .before .if2 .taken) in
+    let s = refuses (p .args .kind) (p .args .n) (p .args .h) (p .args .w) (p .args .buf .now) (p .pre .1) (p .pre .2)
+    (p .pre .3) (p .pre .4 .0) _ (degree-is g) (omega arith) _ _ (c .before .before .before .before .make .ensures) (c .before .if2 .taken) in
     (c .refused2 .ensures ∙ s .0, s .1)
 
 gain-of-requires : tie.Need-gain-of-requires
@@ -94,8 +85,8 @@ returns-3 : tie.Need-returns-3
 returns-3 c =
     let g = c .before .before .before .before .before .before .before in
     let p = start g in
-    delivers (p .args .kind) (p .args .n) (p .args .h) (p .args .buf .now) (p .pre .1) (p .pre .2) (p .pre .3) _
-    (degree-is g) (omega arith) _ _ (made (c .before .before .before .before)) (c .before .if2 .left) _
+    delivers (p .args .kind) (p .args .n) (p .args .h) (p .args .w) (p .args .buf .now) (p .pre .1) (p .pre .2)
+    (p .pre .3) (p .pre .4 .0) _ (degree-is g) (omega arith) _ _ (c .before .before .before .before .make .ensures) (c .before .if2 .left) _
     (c .gain-of .ensures)
 
 pub answer-in-spec : {M : Type 1} → statement M

@@ -1,9 +1,5 @@
 -- `make` meets its contract, by r (Stepping).
-use mathlib.Core.Path.{_≡_, sym, _∙_, ap}
-use lib.IntN.{pos}
-use lib.Signed.{ltZ}
-use Rattle.polynomial.specs.Making.{MakingOutcomeIs}
-use Rattle.shapes.proofs.Negation.{read-back}
+use mathlib.Core.Path.{sym, _∙_}
 use Rattle.laying.proofs.Laying.{above-zero, r-is}
 use Rattle.polynomial.proofs.Stepping.{laid-one}
 use borrow.Author.Needs.{needs}
@@ -24,7 +20,7 @@ same-length c = search needs
 returns : tie.Need-returns
 returns c =
     let p = c .before .before .before .before .before in
-    laid-one (p .args .kind) (p .args .n) (p .args .h) _
+    laid-one (p .args .kind) (p .args .n) (p .args .h) (p .args .w) _
     (above-zero _ _ _ _ (p .pre .0))
     (sym (r-is _ _ _ _ (p .pre .0))
     ∙ c .before .before .before .if1 .taken) (p .pre .1) (c .before .without-steps .ensures)
@@ -35,16 +31,14 @@ make-by-steps-requires c κs =
       p .pre .0,
       λ e. c .before .if1 .left (r-is _ _ _ _ (p .pre .0)
           ∙ e),
-      rw (read-back (p .args .h) (p .fits .h .sfits)) (p .pre .1),
+      p .pre .2,
     )
 
 same-length-2 : tie.Need-same-length-2
 same-length-2 c = search needs
 
 returns-2 : tie.Need-returns-2
-returns-2 c =
-    let p = c .before .before .before .before .before in
-    rw (read-back (p .args .h) (p .fits .h .sfits)) at (c .before .make-by-steps .ensures)
+returns-2 c = search needs
 
 pub make-spec : {M : Type 1} → statement M
 make-spec =

@@ -7,16 +7,13 @@ use mathlib.Core.List.{List, _++_}
 use native.Mathlib.Omega.{arith}
 use borrow.Author.Tests.{lt-ltb, le-ltb}
 use lib.Dec.{ltb}
-use lib.IntN.{ℤ, pos, natAbs}
+use lib.IntN.{ℤ}
 use lib.ListN.{length, take, drop}
 use lib.Seq.{length-take-le}
-use lib.Signed.{ltZ}
 use Rattle.definitions.specs.Numbers.{rOf}
 use Rattle.definitions.specs.KeptHalf.{halfDegree}
 use Rattle.definitions.specs.Answer.{height}
 use Rattle.kept.proofs.Stopping.{half-is}
-use Rattle.step_laws.specs.Machine.{seen}
-use Rattle.polynomial.proofs.Limits.{limit-casts, limit-test}
 use Rattle.polynomial.proofs.Stepping.{steps-due, half-room, Halfway, halfway}
 use borrow.Author.Needs.{needs}
 use Rattle.polynomial.proofs.making.make_by_steps.Statement.{statement}
@@ -46,11 +43,13 @@ module _ (c : tie.After-all-steps) where
   abbrev at-start : tie.After-half-degree
   at-start = c .before .before
 
-  mid : Halfway (start at-start .args .kind) (start at-start .args .n) (start at-start .args .parts) (old at-start)
-      (D at-start) (c .all-steps .last .1 .1 .1 .0) (c .all-steps .result)
-  mid = halfway _ _ _ _ (start at-start .pre .0) (start at-start .pre .1) _ (d-is at-start) _ _ (c .all-steps .ensures)
+  mid : Halfway (start at-start .args .w) (start at-start .args .kind) (start at-start .args .n) (start at-start .args .parts) (old at-start)
+      (D at-start) (c .all-steps .last .1 .1 .1 .1 .0) (c .all-steps .result)
+  mid =
+      halfway _ _ _ _ (start at-start .pre .0) (start at-start .pre .1) _ (d-is at-start) _ (start at-start .pre .2 .1) _ _
+      (c .all-steps .ensures)
 
-  part-room : D at-start + 1 ≤ length (c .all-steps .last .1 .1 .1 .0 ++ drop (D at-start + 1) (old at-start))
+  part-room : D at-start + 1 ≤ length (c .all-steps .last .1 .1 .1 .1 .0 ++ drop (D at-start + 1) (old at-start))
   part-room = omega (arith, mid .rest-length, room at-start)
 
 -- after the height
@@ -67,10 +66,8 @@ module _ (t : tie.After-height) where
   high : t .height .result ≡ height (begin .args .kind) (begin .args .n)
   high = mid steps .height-is inside _ (t .height .ensures)
 
-  told : ltb (natAbs (seen (begin .args .h))) (t .height .result)
-      ≡ ltZ (begin .args .h) (pos (height (begin .args .kind) (begin .args .n)))
-  told = limit-test (begin .args .h) _ (begin .fits .h .sfits) (begin .pre .2)
-      ∙ ap (λ y. ltZ (begin .args .h) (pos y)) high
+  told : ltb (begin .args .h) (t .height .result) ≡ ltb (begin .args .h) (height (begin .args .kind) (begin .args .n))
+  told = ap (ltb (begin .args .h)) high
 
 half-degree-requires : tie.Need-half-degree-requires
 half-degree-requires c κs = search needs
@@ -87,7 +84,7 @@ slice-aggregate-all-steps c = sym (part-length (c .before))
 all-steps-requires : tie.Need-all-steps-requires
 all-steps-requires c κs =
     let q = c .before in
-    (steps-due (start q .pre .0) (start q .pre .1), part-length q ∙ ap (λ k. k + 1) (d-is q))
+    (steps-due (start q .pre .0) (start q .pre .1), part-length q ∙ ap (λ k. k + 1) (d-is q), start q .pre .2)
 
 clear-requires : tie.Need-clear-requires
 clear-requires c κs = search needs
@@ -112,9 +109,6 @@ slice-aggregate-height c = sym (length-take-le _ _ (part-room (c .before .before
 
 height-requires : tie.Need-height-requires
 height-requires c κs = search needs
-
-cast-if2 : tie.Need-cast-if2
-cast-if2 c = limit-casts (begin c .args .h) (begin c .fits .h .sfits) (begin c .pre .2)
 
 clear-requires-2 : tie.Need-clear-requires-2
 clear-requires-2 c κs = search needs
@@ -161,7 +155,6 @@ make-by-steps-spec =
     slice-reshare-prefix-height
     slice-aggregate-height
     height-requires
-    cast-if2
     clear-requires-2
     refused-requires-2
     same-length-2
