@@ -29,6 +29,7 @@ pub const FIELD: u64 = 10;
 pub const WIDTH: u64 = 11;
 
 // A polynomial request's answer.
+#[repr(C)]
 pub struct Answer {
     pub code: u64,
     pub degree: u64,
@@ -38,6 +39,7 @@ pub struct Answer {
 }
 
 // A partial request's answer.
+#[repr(C)]
 pub struct Stop {
     pub code: u64,
     pub degree: u64,

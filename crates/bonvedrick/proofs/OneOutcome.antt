@@ -29,14 +29,14 @@ pub polynomial-one :
     (κs : Lfts 1) (a : ArgsD polynomial.signature κs) (z z′ : ResD polynomial.signature κs)
     (e e′ : AtExit (endedOf 1 polynomial-kinds.ps polynomial-kinds.r) κs) →
     polynomial-reads.Post κs a z e → polynomial-reads.Post κs a z′ e′
-    → (z ≡ z′) × (now (e .1 .1 .1 .0) ≡ now (e′ .1 .1 .1 .0))
+    → (z ≡ z′) × (now (e .1 .1 .1 .1 .0) ≡ now (e′ .1 .1 .1 .1 .0))
 polynomial-one κs a z z′ e e′ p p′ = (p .0 ∙ sym (p′ .0), p .1 ∙ sym (p′ .1))
 
 pub partial-one :
     (κs : Lfts 1) (a : ArgsD partial.signature κs) (z z′ : ResD partial.signature κs)
     (e e′ : AtExit (endedOf 1 partial-kinds.ps partial-kinds.r) κs) →
     partial-reads.Post κs a z e → partial-reads.Post κs a z′ e′
-    → (z ≡ z′) × (now (e .1 .1 .1 .0) ≡ now (e′ .1 .1 .1 .0))
+    → (z ≡ z′) × (now (e .1 .1 .1 .1 .0) ≡ now (e′ .1 .1 .1 .1 .0))
 partial-one κs a z z′ e e′ p p′ = (p .0 ∙ sym (p′ .0), p .1 ∙ sym (p′ .1))
 
 pub write-one :
@@ -54,13 +54,13 @@ read-one κs a z z′ e e′ p p′ = (p .0 ∙ sym (p′ .0), p .1 ∙ sym (p�
 pub comb-one :
     (κs : Lfts 1) (a : ArgsD comb.signature κs) (z z′ : ResD comb.signature κs)
     (e e′ : AtExit (endedOf 1 comb-kinds.ps comb-kinds.r) κs) →
-    comb-reads.Post κs a z e → comb-reads.Post κs a z′ e′ → (z ≡ z′) × (now (e .1 .0) ≡ now (e′ .1 .0))
+    comb-reads.Post κs a z e → comb-reads.Post κs a z′ e′ → (z ≡ z′) × (now (e .1 .1 .0) ≡ now (e′ .1 .1 .0))
 comb-one κs a z z′ e e′ p p′ =
     ((λ i. record { code = (p .0 ∙ sym (p′ .0)) i; count = (p .1 .0 ∙ sym (p′ .1 .0)) i }), p .1 .1 ∙ sym (p′ .1 .1))
 
 pub accumulate-one :
     (κs : Lfts 1) (a : ArgsD accumulate.signature κs) (z z′ : ResD accumulate.signature κs)
     (e e′ : AtExit (endedOf 1 accumulate-kinds.ps accumulate-kinds.r) κs) →
-    accumulate-reads.Post κs a z e → accumulate-reads.Post κs a z′ e′ → (z ≡ z′) × (now (e .1 .0) ≡ now (e′ .1 .0))
+    accumulate-reads.Post κs a z e → accumulate-reads.Post κs a z′ e′ → (z ≡ z′) × (now (e .1 .1 .0) ≡ now (e′ .1 .1 .0))
 accumulate-one κs a z z′ e e′ p p′ =
     ((λ i. record { code = (p .0 ∙ sym (p′ .0)) i; count = (p .1 .0 ∙ sym (p′ .1 .0)) i }), p .1 .1 ∙ sym (p′ .1 .1))

@@ -3,6 +3,7 @@ use Prim.Native.Nat.{ℕ}
 use mathlib.Core.Bool.{cond}
 use mathlib.Core.List.{List}
 use lib.IntN.{pos}
+use Rattle.definitions.specs.Steps.{largest}
 use Rattle.definitions.specs.Answer.{coefficients}
 use Rattle.answers.specs.Polynomial.{answer}
 use Rattle.answer_lines.specs.Printed.{goodLine, wrongLine}
@@ -13,10 +14,10 @@ use Rattle.lines.specs.declared.Request.{Request}
 abbrev pub LENT : ℕ
 LENT = 4096
 
--- what is printed for the request that a line makes, and for a line, given its number
+-- what is printed for the request that a line makes, under the largest working limit, and for a line, given its number
 unfoldable pub replyTo : ℕ → Request → List ℕ
 replyTo number q =
-    let good = goodLine (q .kind) (q .n) (answer (q .kind) (q .n) (pos (q .h)) LENT) (coefficients (q .kind) (q .n)) in
+    let good = goodLine (q .kind) (q .n) (answer (q .kind) (q .n) (pos (q .h)) (pos largest) LENT) (coefficients (q .kind) (q .n)) in
     cond (q .good) good (wrongLine number)
 
 unfoldable pub reply : ℕ → List ℕ → List ℕ

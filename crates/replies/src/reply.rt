@@ -14,6 +14,9 @@ use answer_lines::put_tail;
 use answer_lines::put_wrong;
 use lines::read_line;
 
+// The listing has no working limit: 2^63 - 1.
+const LARGEST: i64 = 9223372036854775807;
+
 pub fn put_reply(out: &mut [u8], at: usize, line: &[u8], number: u64, entries: &mut [i64]) -> usize
     requires { ⌜ (length (now entries) ≡ LENT) × (at + Most ≤ length (now out)) ⌝ }
     ensures { λ r. ⌜ Puts (reply number (now (line .entry))) at (now (out .entry)) (now (out .exit)) r ⌝ }
@@ -23,7 +26,7 @@ pub fn put_reply(out: &mut [u8], at: usize, line: &[u8], number: u64, entries: &
     if !q.good {
         return put_wrong(out, at, number);
     }
-    let a = polynomial::polynomial(q.kind, q.n, q.h as i64, entries);
+    let a = polynomial::polynomial(q.kind, q.n, q.h as i64, LARGEST, entries);
     let p = put_head(out, at, q.kind, q.n, a);
     put_tail(out, p, a, entries)
 }

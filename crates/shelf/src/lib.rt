@@ -9,6 +9,7 @@ ghost use Rattle.definitions.specs.Polynomials.{degree};
 ghost use Rattle.shelf.specs.Format.{degreeIn, writeAnswer, writeLeaves, readAnswer, readLeaves};
 
 // What the writer answers: the code, the degree, and the bytes used.
+#[repr(C)]
 pub struct Written {
     pub code: u64,
     pub degree: u64,
@@ -29,6 +30,7 @@ impl Written {
 }
 
 // What the reader answers: the code, the degree, the bytes used, and the kind and the index of the record.
+#[repr(C)]
 pub struct Record {
     pub code: u64,
     pub degree: u64,

@@ -13,6 +13,7 @@ pub struct Step {
     pub size: u64,
 }
 
+#[repr(C)]
 pub struct Stepped {
     pub code: u64,
     pub count: u64,

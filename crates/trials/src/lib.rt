@@ -2,13 +2,17 @@
 // line has what was asked, what came back, how many entries were written, and a checksum over those.
 use printing::numbers;
 
+// The largest working limit, 2^63 - 1.
+pub const LARGEST: i64 = 9223372036854775807;
+
 // A polynomial request over the first `asked` entries.
-pub fn polynomial(kind: u64, n: u64, h: i64, asked: usize, buf: &mut [i64]) {
+pub fn polynomial(kind: u64, n: u64, h: i64, w: i64, asked: usize, buf: &mut [i64]) {
     printing::fill(buf);
     let room = printing::within(asked, buf);
-    let a = polynomial::polynomial(kind, n, h, &mut buf[..room]);
+    let a = polynomial::polynomial(kind, n, h, w, &mut buf[..room]);
     numbers(b"", &[kind, n], b" ");
     printing::signed_item(h);
+    printing::signed_item(w);
     numbers(
         b"",
         &[room as u64, a.code, a.degree, a.additions, a.height, a.gain],
@@ -18,22 +22,15 @@ pub fn polynomial(kind: u64, n: u64, h: i64, asked: usize, buf: &mut [i64]) {
 }
 
 // A partial request over the first `asked` entries.
-pub fn partial(kind: u64, n: u64, j: u64, asked: usize, buf: &mut [i64]) {
+pub fn partial(kind: u64, n: u64, j: u64, w: i64, asked: usize, buf: &mut [i64]) {
     printing::fill(buf);
     let room = printing::within(asked, buf);
-    let a = kept::partial(kind, n, j, &mut buf[..room]);
+    let a = kept::partial(kind, n, j, w, &mut buf[..room]);
+    numbers(b"", &[kind, n, j], b" ");
+    printing::signed_item(w);
     numbers(
         b"",
-        &[
-            kind,
-            n,
-            j,
-            room as u64,
-            a.code,
-            a.degree,
-            a.additions,
-            a.due,
-        ],
+        &[room as u64, a.code, a.degree, a.additions, a.due],
         b" ",
     );
     printing::close(buf);
@@ -41,6 +38,6 @@ pub fn partial(kind: u64, n: u64, j: u64, asked: usize, buf: &mut [i64]) {
 
 // The entries that a polynomial request leaves in the buffer, on a line.
 pub fn coefficients(kind: u64, n: u64, h: i64, buf: &mut [i64]) {
-    polynomial::polynomial(kind, n, h, buf);
+    polynomial::polynomial(kind, n, h, LARGEST, buf);
     printing::entries(b"", buf, b" ");
 }

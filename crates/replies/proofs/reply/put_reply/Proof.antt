@@ -44,8 +44,8 @@ put-tail-requires c κs =
     let q = c .before .before .before .before .before .before .before .before .before .before .before .before .read-line
     .result in
     let a = c .before .before .before .before .before .before .before .polynomial in (
-      omega (arith, a .kept .1 .1 .1 .0, c .before .before .before .before .put-head .ensures .1, s .pre .0, s .pre .1),
-      λ z. omega (arith, a .kept .1 .1 .1 .0, degree-fits (q .kind) (q .n) _ _ (a .ensures .0) z),
+      omega (arith, a .kept .1 .1 .1 .1 .0, c .before .before .before .before .put-head .ensures .1, s .pre .0, s .pre .1),
+      λ z. omega (arith, a .kept .1 .1 .1 .1 .0, degree-fits (q .kind) (q .n) _ _ _ (a .ensures .0) z),
     )
 
 same-length-2 : tie.Need-same-length-2
@@ -63,7 +63,7 @@ returns-2 c =
     let a = c .before .before .before .before .before .before .before .before .before .before .polynomial in
     let f : SFits w64 (pos (q .result .h)) = record { sfits = omega (arith, q .ensures .1) } in
     rw (← replied (s .args .number) (s .args .line .now) (q .result) (q .ensures .0) (a .result) (s .args .entries .now)
-    (a .last .1 .1 .1 .0)
+    (a .last .1 .1 .1 .1 .0)
     (not-false _
     (c .before .before .before .before .before .before .before .before .before .before .before .before .before .if1
     .left)) (s .pre .0) (rw (toZ-ofZ f) at (a .ensures .0)) (rw (toZ-ofZ f) at (a .ensures .1))) (
@@ -73,7 +73,7 @@ returns-2 c =
         arith,
         c .before .before .before .before .before .before .before .put-head .ensures .1,
         c .before .before .put-tail .ensures .1,
-        a .kept .1 .1 .1 .0,
+        a .kept .1 .1 .1 .1 .0,
         s .pre .0,
       ),
     )
