@@ -4,7 +4,7 @@
 fn stops(kind: u64, r: u64, end: u64, buf: &mut [i64]) {
     let mut j = 0;
     while j < end {
-        trials::partial(kind, r, j, 33000, buf);
+        trials::partial(kind, r, j, trials::LARGEST, 33000, buf);
         j += 1;
     }
 }

@@ -1,20 +1,20 @@
 // Requests at the edges of docs/RULES.md, 'The codes' (asked.rt, made by second/): each refusal, the order of refusals,
-// the least room and limit that are enough, and the figures of 'The worked polynomials'.
+// the least room and limits that are enough, and the figures of 'The worked polynomials'.
 mod asked;
 
 use asked::COUNT;
 use asked::TABLE;
 
-// A request: kind, index, then the limit or the number of steps, and the room.
+// A request: kind, index, then the height limit or the number of steps, the working limit and the room.
 pub enum Request {
-    Polynomial(u64, u64, i64, usize),
-    Partial(u64, u64, u64, usize),
+    Polynomial(u64, u64, i64, i64, usize),
+    Partial(u64, u64, u64, i64, usize),
 }
 
 fn ask(request: Request, buf: &mut [i64]) {
     match request {
-        Request::Polynomial(kind, n, h, room) => trials::polynomial(kind, n, h, room, buf),
-        Request::Partial(kind, n, j, room) => trials::partial(kind, n, j, room, buf),
+        Request::Polynomial(kind, n, h, w, room) => trials::polynomial(kind, n, h, w, room, buf),
+        Request::Partial(kind, n, j, w, room) => trials::partial(kind, n, j, w, room, buf),
     }
 }
 

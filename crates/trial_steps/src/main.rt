@@ -1,5 +1,5 @@
 // Takes steps on awkward slices and prints what becomes of them, a line for each: the sort's letter, the size, the
-// code, the count, a colon and the entries. `second/steps.py` makes the same lines from the definition.
+// working limit, the code, the count, a colon and the entries. `second/steps.py` makes the same lines from the definition.
 
 ghost use Prim.Native.Nat.{_≤_};
 use steps::Sort;
@@ -16,36 +16,46 @@ fn letter(sort: Sort) {
     }
 }
 
-fn show(sort: Sort, size: u64, a: &mut [i64]) {
-    let step = Step {
-        sort: sort,
-        size: size,
-    };
-    let told = step.apply(a);
+fn show(sort: Sort, size: u64, w: i64, a: &mut [i64]) {
+    let step = Step { sort, size };
+    let told = step.apply(w, a);
     letter(sort);
-    printing::numbers(b"", &[size, told.code, told.count], b" ");
+    printing::numbers(b"", &[size], b" ");
+    printing::signed_item(w);
+    printing::numbers(b"", &[told.code, told.count], b" ");
     io::write_all(1, b":");
     printing::entries(b" ", a, b"");
 }
 
 // Both sorts, each on the first n entries of a.
-fn both(a: [i64; 8], n: usize, size: u64)
+fn both(a: [i64; 8], n: usize, size: u64, w: i64)
     requires { ⌜ n ≤ 8 ⌝ }
 {
     let mut c = a;
-    show(Sort::Comb, size, &mut c[..n]);
+    show(Sort::Comb, size, w, &mut c[..n]);
     let mut s = a;
-    show(Sort::Accumulate, size, &mut s[..n]);
+    show(Sort::Accumulate, size, w, &mut s[..n]);
 }
+
+const LIMITS: [i64; 7] = [
+    -9223372036854775808,
+    0,
+    1,
+    4,
+    4611686018427387903,
+    4611686018427387904,
+    9223372036854775807,
+];
 
 const SIZES: [u64; 10] = [0, 1, 2, 3, 7, 8, 9, 65535, 65536, 18446744073709551615];
 
+// Every size with every limit.
 fn sizes(a: [i64; 8], n: usize)
     requires { ⌜ n ≤ 8 ⌝ }
 {
     let mut i = 0;
-    while i < 10 {
-        both(a, n, SIZES[i]);
+    while i < 70 {
+        both(a, n, SIZES[i / 7], LIMITS[i % 7]);
         i += 1;
     }
 }
@@ -74,4 +84,5 @@ fn main() {
         ],
         8,
     );
+    sizes([3, -2, 5, 100, -100, 4, -4, 1], 8);
 }

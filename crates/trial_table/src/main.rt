@@ -4,13 +4,11 @@ mod choice;
 
 use choice::CHOICE;
 use choice::CHOSEN;
-
-// The largest limit there is.
-const NO_LIMIT: i64 = 9223372036854775807;
+use trials::LARGEST;
 
 fn both(n: u64, room: usize, buf: &mut [i64]) {
-    trials::polynomial(1, n, NO_LIMIT, room, buf);
-    trials::polynomial(2, n, NO_LIMIT, room, buf);
+    trials::polynomial(1, n, LARGEST, LARGEST, room, buf);
+    trials::polynomial(2, n, LARGEST, LARGEST, room, buf);
 }
 
 fn small() {

@@ -5,10 +5,10 @@ use Rattle.trial_steps.proofs.sizes.Statement.{statement}
 use Rattle.trial_steps.proofs.sizes.Tie as tie
 
 abbrev Inv-loop : tie.InvT-loop
-Inv-loop a n i₀ i = i ≤ 10
+Inv-loop a n i₀ i = i ≤ 70
 
 abbrev μ-loop : tie.MeasureT-loop
-μ-loop a n i₀ i = 10 - i
+μ-loop a n i₀ i = 70 - i
 
 loop-holds : tie.Need-loop-holds Inv-loop μ-loop
 loop-holds c = omega arith
@@ -18,6 +18,12 @@ mul-both c = omega arith
 
 array-read-both : tie.Need-array-read-both Inv-loop μ-loop
 array-read-both c = omega arith
+
+mul-both-2 : tie.Need-mul-both-2 Inv-loop μ-loop
+mul-both-2 c = omega arith
+
+array-copy-out-both : tie.Need-array-copy-out-both Inv-loop μ-loop
+array-copy-out-both c = omega arith
 
 both-requires : tie.Need-both-requires Inv-loop μ-loop
 both-requires c κs = omega arith
@@ -43,6 +49,8 @@ sizes-spec =
     loop-holds
     mul-both
     array-read-both
+    mul-both-2
+    array-copy-out-both
     both-requires
     add-i
     loop-less
