@@ -52,14 +52,15 @@ def asked():
 def table():
     for n in choice.table():
         for kind in (1, 2):
-            yield polynomial_line(kind, n, choice.LARGEST_LIMIT, 512 if n <= choice.ALL_TO else 65536)
+            room = 512 if n <= choice.ALL_TO else 65536
+            yield polynomial_line(kind, n, choice.LARGEST_LIMIT, choice.LARGEST_LIMIT, room)
 
 
 def partials():
     for r in choice.PARTIAL_ORDERS:
         for kind in (1, 2):
             for j in range(len(divisors_below(r)) + 2):
-                yield partial_line(kind, r, j, refusals.ROOM)
+                yield partial_line(kind, r, j, choice.LARGEST_LIMIT, refusals.ROOM)
 
 
 def refused():
@@ -67,7 +68,7 @@ def refused():
         yield polynomial_line(*asked)
     for asked in refusals.PARTIALS:
         yield partial_line(*asked)
-    yield "".join("%d " % c for c in polynomial(1, 105, 2, 49)[1]) + "\n"
+    yield "".join("%d " % c for c in polynomial(1, 105, 2, choice.LARGEST_LIMIT, 49)[1]) + "\n"
 
 
 def printed(script):
