@@ -34,8 +34,12 @@ def indices():
 
 
 def rows(request, asked):
+    """Laid out as the formatter does: arguments of more than 60 characters take a line each."""
     for arguments in asked:
-        yield "    Request::%s(%s),\n" % (request, ", ".join(map(str, arguments)))
+        flat = ", ".join(map(str, arguments))
+        if len(flat) > 60:
+            flat = "\n" + "".join("        %d,\n" % a for a in arguments) + "    "
+        yield "    Request::%s(%s),\n" % (request, flat)
 
 
 def asked():
