@@ -61,7 +61,10 @@ pub fn any(random: &mut Random) -> u64 {
         _ => random.below(len + 2) as u64,
     };
     let comb = random.one_in(2);
-    let before = if (1..len as u64).contains(&size) && random.one_in(4) { undone(random, comb, size as usize, len) } else { random.slice(len) };
+    let before = match (1..len as u64).contains(&size) && random.one_in(4) {
+        true => undone(random, comb, size as usize, len),
+        false => random.slice(len),
+    };
     let w = random.limit(least(comb, size, &before));
     let (answer, after) = expected(comb, size, w, &before);
     let mut buf = before.clone();
