@@ -1,6 +1,8 @@
 //! F for all odd n to 65,535: our library, plain Rust, and FLINT where it is there (`--cfg flint`), one after the other at each n.
 //! The buffers are cleared before the clock runs. Prints the median over the rounds of each total, and its ratio to plain Rust.
+//! Then what a working limit costs (limits.rs).
 
+mod limits;
 mod plain;
 
 use plain::Answer as Told;
@@ -19,12 +21,20 @@ struct Answer {
     gain: u64,
 }
 
+#[repr(C)]
+struct Step {
+    code: u64,
+    count: u64,
+}
+
 extern "C" {
-    fn bv_polynomial(kind: u64, n: u64, h: i64, buf: *mut i64, len: usize) -> Answer;
+    fn bv_polynomial(kind: u64, n: u64, h: i64, w: i64, buf: *mut i64, len: usize) -> Answer;
+    fn bv_comb(size: u64, w: i64, buf: *mut i64, len: usize) -> Step;
+    fn bv_accumulate(size: u64, w: i64, buf: *mut i64, len: usize) -> Step;
 }
 
 fn ours(n: u64, buf: &mut [i64]) -> Told {
-    let a = unsafe { bv_polynomial(1, n, NO_LIMIT, buf.as_mut_ptr(), buf.len()) };
+    let a = unsafe { bv_polynomial(1, n, NO_LIMIT, NO_LIMIT, buf.as_mut_ptr(), buf.len()) };
     Told { code: a.code, degree: a.degree, additions: a.additions, height: a.height, gain: a.gain }
 }
 
@@ -139,4 +149,5 @@ fn main() {
         }
         println!();
     }
+    limits::print();
 }

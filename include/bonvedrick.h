@@ -46,14 +46,23 @@ extern "C" {
 #define BV_MOST UINT64_C(65535)
 
 /*
- * The codes. A delivered coefficient lies from -(2^63 - 1) to 2^63 - 1, here called the range: each one can be negated.
+ * No limit: for the height limit h and for the working limit w.
+ *
+ * A working limit is for the registers of a chip. No step may then make a value larger in magnitude than w: a value of w or -w is fine.
+ * For registers of b bits with sign pass 2^(b-1) - 1: 32767 for 16 bits, 524287 for 20, 8388607 for 24. What is delivered under one
+ * working limit is delivered under every larger one, with the same answer and the same contents.
+ */
+#define BV_NO_LIMIT INT64_MAX
+
+/*
+ * The codes. A delivered coefficient lies from -(2^63 - 1) to 2^63 - 1: each one can be negated.
  */
 #define BV_DONE UINT64_C(0)   /* done: all that was asked for is there */
 #define BV_KIND UINT64_C(1)   /* kind is not 1 or 2 */
 #define BV_INDEX UINT64_C(2)  /* n is 0 or above 65535; bv_partial: also where n has no odd prime factor */
-#define BV_LIMIT UINT64_C(3)  /* the height limit h is below 1 */
+#define BV_LIMIT UINT64_C(3)  /* the height limit h or the working limit w is below 1 */
 #define BV_SHORT UINT64_C(4)  /* the slice to be filled is too short */
-#define BV_OVER UINT64_C(5)   /* a value would be outside the range; bv_write: a coefficient is -2^63 */
+#define BV_OVER UINT64_C(5)   /* a step would make a value larger in magnitude than w; bv_write: a coefficient is -2^63 */
 #define BV_TALL UINT64_C(6)   /* a coefficient is larger in magnitude than h */
 #define BV_STEP UINT64_C(7)   /* size is 0 or above 65535; bv_partial: there are fewer than j divisors */
 #define BV_CUT UINT64_C(8)    /* bv_read: the record ends early */
@@ -100,23 +109,28 @@ typedef struct bv_record {
 } bv_record;
 
 /*
- * The polynomial of a kind and an index n, unless a coefficient is larger in magnitude than h (pass INT64_MAX for no limit).
- * 65536 entries have room for every polynomial.
+ * The polynomial of a kind and an index n, unless a step on the way would make a value larger in magnitude than w, or a coefficient is
+ * larger in magnitude than h (pass BV_NO_LIMIT for no limit, to each). 65536 entries have room for every polynomial.
  *
  *   code      given where                                degree told   buf
  *   BV_DONE   nothing below applies                      yes           entries 0 to degree: the polynomial
  *   BV_KIND   kind is not 1 or 2                         0             untouched
  *   BV_INDEX  n is 0 or above 65535                      0             untouched
- *   BV_LIMIT  h is below 1                               0             untouched
+ *   BV_LIMIT  h is below 1, or w is                      0             untouched
  *   BV_SHORT  len is below degree + 1                    yes           untouched
- *   BV_OVER   a step on the way would leave the range    yes           entries 0 to degree: 0
- *             (found by running them: none does)
+ *   BV_OVER   a step on the way would pass w             yes           entries 0 to degree: 0
+ *             (found by running them: no index gives
+ *             this with BV_NO_LIMIT)
  *   BV_TALL   the height is above h                      yes           entries 0 to degree: 0
  *
  * The order is that of the table. On refusal additions, height and gain are 0. So a call with len 0 asks how many entries are needed:
  * it answers BV_SHORT and the degree.
+ *
+ * The steps are those that bv_partial tells of, for all divisors; the values they make are far larger than the coefficients at some
+ * indices: I(15015) has height 11 and needs w = 1113164. An index that is 1 or a power of two takes no step. Found by running them:
+ * every F is delivered with w = 32767, so in registers of 16 bits; every I with w = 16777215, of 25 bits.
  */
-bv_answer bv_polynomial(uint64_t kind, uint64_t n, int64_t h, int64_t *buf, size_t len);
+bv_answer bv_polynomial(uint64_t kind, uint64_t n, int64_t h, int64_t w, int64_t *buf, size_t len);
 
 /*
  * The polynomial half-built, to watch it grow. Let r be the product of the distinct odd primes of n, and D half the degree for r, rounded
@@ -130,27 +144,33 @@ bv_answer bv_polynomial(uint64_t kind, uint64_t n, int64_t h, int64_t *buf, size
  *   BV_KIND   kind is not 1 or 2                         0             untouched
  *   BV_INDEX  n is 0, above 65535 or a power of two      0             untouched
  *   BV_STEP   j is above the number of divisors          0             untouched
+ *   BV_LIMIT  w is below 1                               0             untouched
  *   BV_SHORT  len is below D + 1                         D             untouched
- *   BV_OVER   one of the j steps would leave the range   D             entries 0 to D: 0
+ *   BV_OVER   one of the j steps would make a value      D             entries 0 to D: 0
+ *             larger in magnitude than w
  *
- * The order is that of the table. On refusal additions and due are 0.
+ * The order is that of the table. On refusal additions and due are 0. What later steps would make counts for nothing, so the least j that
+ * is BV_OVER tells which step a register is too small for.
  */
-bv_stop bv_partial(uint64_t kind, uint64_t n, uint64_t j, int64_t *buf, size_t len);
+bv_stop bv_partial(uint64_t kind, uint64_t n, uint64_t j, int64_t w, int64_t *buf, size_t len);
 
 /*
  * One step on any slice. A comb of size d multiplies by 1 - z^d: each entry i from d on becomes the old entry i minus the old entry i - d.
  * An accumulate divides by it: each entry i from d on becomes the old entry i plus the new entry i - d. Entries below d stay as they are.
  * A comb and an accumulate of one size undo each other, where neither is refused.
  *
- *   code      given where                                                       buf
- *   BV_DONE   nothing below applies                                             the step is taken
- *   BV_STEP   size is 0 or above 65535                                          untouched
- *   BV_OVER   a new value, at a place from d on, would be outside the range     untouched
+ *   code      given where                                               buf
+ *   BV_DONE   nothing below applies                                     the step is taken
+ *   BV_STEP   size is 0 or above 65535                                  untouched
+ *   BV_LIMIT  w is below 1                                              untouched
+ *   BV_OVER   a new value, at a place from d on, would be larger in     untouched
+ *             magnitude than w
  *
- * The order is that of the table. On refusal count is 0. A size of len or more changes nothing and is BV_DONE with count 0.
+ * The order is that of the table. On refusal count is 0. Old entries, and those below d, may be anything: larger than w, -2^63 too.
+ * A size from len to 65535 changes nothing and, unless it is BV_LIMIT, is BV_DONE with count 0.
  */
-bv_step bv_comb(uint64_t size, int64_t *buf, size_t len);
-bv_step bv_accumulate(uint64_t size, int64_t *buf, size_t len);
+bv_step bv_comb(uint64_t size, int64_t w, int64_t *buf, size_t len);
+bv_step bv_accumulate(uint64_t size, int64_t w, int64_t *buf, size_t len);
 
 /*
  * Writes a record: C9 50; the kind in 1 byte; the width w in 1 byte; n in 2 bytes; the number of coefficients in 4 bytes; then each

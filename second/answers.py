@@ -21,19 +21,19 @@ def gain(kind, n):
     return n if is_prime(n) else 1
 
 
-def polynomial(kind, n, h, room):
+def polynomial(kind, n, h, w, room):
     """(code, degree, additions, height, gain), entries."""
     if kind not in (1, 2):
         return (KIND, 0, 0, 0, 0), []
     if not 1 <= n <= MOST_INDEX:
         return (INDEX, 0, 0, 0, 0), []
-    if h < 1:
+    if h < 1 or w < 1:
         return (LIMIT, 0, 0, 0, 0), []
     top = degree(kind, n)
     if room < top + 1:
         return (SHORT, top, 0, 0, 0), []
     r = odd_part(n)
-    if over_after(kind, r) is not None:
+    if over_after(kind, r, w) is not None:
         return (OVER, top, 0, 0, 0), [0] * (top + 1)
     coefficients = made(kind, n)
     assert len(coefficients) == top + 1
@@ -43,7 +43,7 @@ def polynomial(kind, n, h, room):
     return (DONE, top, count, height(coefficients), gain(kind, n)), coefficients
 
 
-def partial(kind, n, j, room):
+def partial(kind, n, j, w, room):
     """(code, degree, additions, divisors due), entries."""
     if kind not in (1, 2):
         return (KIND, 0, 0, 0), []
@@ -53,10 +53,12 @@ def partial(kind, n, j, room):
     divisors = divisors_below(r)
     if j > len(divisors):
         return (STEP, 0, 0, 0), []
+    if w < 1:
+        return (LIMIT, 0, 0, 0), []
     top = half_degree(kind, r)
     if room < top + 1:
         return (SHORT, top, 0, 0), []
-    taken = over_after(kind, r)
+    taken = over_after(kind, r, w)
     if taken is not None and taken < j:
         return (OVER, top, 0, 0), [0] * (top + 1)
     return (DONE, top, additions(kind, r, j), len(divisors) - j), stops(kind, r)[j]

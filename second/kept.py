@@ -6,10 +6,8 @@ that of polynomials.py. The divisors come from trial division.
 
 from functools import lru_cache
 
-from polynomials import height, product
+from polynomials import product
 from whole import divisors_below, mu, phi
-
-LARGEST = 2**63 - 1
 
 
 def degree(kind, n):
@@ -62,11 +60,21 @@ def bound(kind, r):
 
 
 @lru_cache(None)
-def over_after(kind, r):
-    """How many steps can be taken before one puts a value out of range; None where all can."""
-    if bound(kind, r) <= LARGEST:
+def met(kind, r):
+    """For each step the largest magnitude among its new values, those from place d on; 0 where there are none."""
+    return [max(map(abs, now[d:]), default=0) for d, now in zip(divisors_below(r), stops(kind, r)[1:])]
+
+
+def least_limit(kind, r):
+    """The least working limit under which every step can be taken."""
+    return max(1, *met(kind, r))
+
+
+def over_after(kind, r, w):
+    """How many steps can be taken before one makes a value above w in magnitude; None where all can."""
+    if bound(kind, r) <= w:
         return None
-    for j, now in enumerate(stops(kind, r)):
-        if height(now) > LARGEST:
-            return j - 1
+    for taken, largest in enumerate(met(kind, r)):
+        if largest > w:
+            return taken
     return None

@@ -24,9 +24,9 @@ def line(asked, answer, entries):
     return " ".join(map(str, words)) + "\n"
 
 
-def polynomial_line(kind, n, h, room):
-    return line((kind, n, h, room), *polynomial(kind, n, h, room))
+def polynomial_line(kind, n, h, w, room):
+    return line((kind, n, h, w, room), *polynomial(kind, n, h, w, room))
 
 
-def partial_line(kind, n, j, room):
-    return line((kind, n, j, room), *partial(kind, n, j, room))
+def partial_line(kind, n, j, w, room):
+    return line((kind, n, j, w, room), *partial(kind, n, j, w, room))

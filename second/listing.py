@@ -4,6 +4,7 @@ import re
 import sys
 
 from answers import polynomial
+from choice import LARGEST_LIMIT
 
 ROOM = 4096
 LINE = re.compile(rb"([FI]) ([0-9]{1,9}) ([0-9]{1,9})")
@@ -14,7 +15,7 @@ def listed(number, line):
     if not good:
         return "? %d\n" % number
     letter, n, h = good.group(1).decode(), int(good.group(2)), int(good.group(3))
-    answer, entries = polynomial(1 if letter == "F" else 2, n, h, ROOM)
+    answer, entries = polynomial(1 if letter == "F" else 2, n, h, LARGEST_LIMIT, ROOM)
     coefficients = entries if answer[0] == 0 else []
     return " ".join(map(str, [letter, n, *answer, ":", *coefficients])) + "\n"
 

@@ -34,8 +34,12 @@ def indices():
 
 
 def rows(request, asked):
+    """Laid out as the formatter does: arguments of more than 60 characters take a line each."""
     for arguments in asked:
-        yield "    Request::%s(%s),\n" % (request, ", ".join(map(str, arguments)))
+        flat = ", ".join(map(str, arguments))
+        if len(flat) > 60:
+            flat = "\n" + "".join("        %d,\n" % a for a in arguments) + "    "
+        yield "    Request::%s(%s),\n" % (request, flat)
 
 
 def asked():
@@ -52,14 +56,15 @@ def asked():
 def table():
     for n in choice.table():
         for kind in (1, 2):
-            yield polynomial_line(kind, n, choice.LARGEST_LIMIT, 512 if n <= choice.ALL_TO else 65536)
+            room = 512 if n <= choice.ALL_TO else 65536
+            yield polynomial_line(kind, n, choice.LARGEST_LIMIT, choice.LARGEST_LIMIT, room)
 
 
 def partials():
     for r in choice.PARTIAL_ORDERS:
         for kind in (1, 2):
             for j in range(len(divisors_below(r)) + 2):
-                yield partial_line(kind, r, j, refusals.ROOM)
+                yield partial_line(kind, r, j, choice.LARGEST_LIMIT, refusals.ROOM)
 
 
 def refused():
@@ -67,7 +72,7 @@ def refused():
         yield polynomial_line(*asked)
     for asked in refusals.PARTIALS:
         yield partial_line(*asked)
-    yield "".join("%d " % c for c in polynomial(1, 105, 2, 49)[1]) + "\n"
+    yield "".join("%d " % c for c in polynomial(1, 105, 2, choice.LARGEST_LIMIT, 49)[1]) + "\n"
 
 
 def printed(script):

@@ -8,15 +8,17 @@ MOST = 2**63 - 1
 NONE = -(2**63)
 
 
-def step(sort, d, a):
-    """The code, the count and what stands in the slice afterwards."""
+def step(sort, d, w, a):
+    """The code, the count and what stands in the slice afterwards, under the working limit w."""
     if d < 1 or d > 65535:
         return 7, 0, a
+    if w < 1:
+        return 3, 0, a
     if sort == "C":
         new = [a[i] - a[i - d] if i >= d else a[i] for i in range(len(a))]
     else:
         new = [sum(a[i - j * d] for j in range(i // d + 1)) for i in range(len(a))]
-    if any(abs(new[i]) > MOST for i in range(d, len(a))):
+    if any(abs(new[i]) > w for i in range(d, len(a))):
         return 5, 0, a
     return 0, max(len(a) - d, 0), new
 
@@ -29,10 +31,15 @@ SLICES = [
     [-1, 0, NONE, 0, -1, NONE, 1, NONE],
     [1, 0, NONE, 1, 0, MOST, 0, NONE],
     [0, 2**62, 2**62 - 1, 0, 0, -(2**62), -(2**62), 0],
+    # old entries above the small limits
+    [3, -2, 5, 100, -100, 4, -4, 1],
 ]
+
+LIMITS = (NONE, 0, 1, 4, 2**62 - 1, 2**62, MOST)
 
 for a in SLICES:
     for d in (0, 1, 2, 3, 7, 8, 9, 65535, 65536, 2**64 - 1):
-        for sort in "CA":
-            code, count, left = step(sort, d, a)
-            print(sort, d, code, count, ":" + "".join(f" {v}" for v in left))
+        for w in LIMITS:
+            for sort in "CA":
+                code, count, left = step(sort, d, w, a)
+                print(sort, d, w, code, count, ":" + "".join(f" {v}" for v in left))

@@ -1,7 +1,8 @@
 /*
  * A mains notch in C. At 5250 samples a second 50 Hz is one turn in 105 samples, so F(105) as a filter stops 50 Hz (and 100, 200, 400 Hz
  * and the other multiples k * 50 Hz where k shares no factor with 105), and lets a steady level through times its gain.
- * It asks for the stage, filters a level with a hum on it, writes the stage as a record and reads it back.
+ * It asks for the stage, filters a level with a hum on it, writes the stage as a record and reads it back. Then it asks which registers of a
+ * chip the steps of a larger stage fit.
  */
 #include <inttypes.h>
 #include <math.h>
@@ -10,7 +11,7 @@
 
 #include "bonvedrick.h"
 
-enum { RATE = 5250, MAINS = 50, N = RATE / MAINS, ROOM = 64, BYTES = 128 };
+enum { RATE = 5250, MAINS = 50, N = RATE / MAINS, ROOM = 64, BYTES = 128, LARGE = 15015, MUCH = 9256 };
 
 static const double PI = 3.14159265358979323846;
 
@@ -27,17 +28,23 @@ static double out(const int64_t *stage, uint64_t degree, int t) {
     return sum;
 }
 
+/* I(15015), if no step on the way needs more than a register of so many bits, sign included. */
+static bv_answer in_registers(int bits) {
+    static int64_t large[MUCH];
+    return bv_polynomial(BV_KIND_I, LARGE, BV_NO_LIMIT, INT64_MAX >> (64 - bits), large, MUCH);
+}
+
 int main(void) {
     int64_t stage[ROOM] = {0}, again[ROOM] = {0};
     uint8_t bytes[BYTES] = {0};
 
     printf("notch for %d Hz at %d samples a second: F(%d)\n", MAINS, RATE, N);
 
-    bv_answer need = bv_polynomial(BV_KIND_F, N, 1, NULL, 0);
+    bv_answer need = bv_polynomial(BV_KIND_F, N, 1, BV_NO_LIMIT, NULL, 0);
     printf("no room:      %s, degree %" PRIu64 "\n", name(need.code), need.degree);
-    bv_answer tall = bv_polynomial(BV_KIND_F, N, 1, stage, ROOM);
+    bv_answer tall = bv_polynomial(BV_KIND_F, N, 1, BV_NO_LIMIT, stage, ROOM);
     printf("height 1:     %s, degree %" PRIu64 "\n", name(tall.code), tall.degree);
-    bv_answer a = bv_polynomial(BV_KIND_F, N, 2, stage, ROOM);
+    bv_answer a = bv_polynomial(BV_KIND_F, N, 2, BV_NO_LIMIT, stage, ROOM);
     printf("height 2:     %s, degree %" PRIu64 ", %" PRIu64 " additions, height %" PRIu64 ", gain %" PRIu64 "\n", name(a.code), a.degree,
            a.additions, a.height, a.gain);
     if (a.code != BV_DONE)
@@ -61,5 +68,12 @@ int main(void) {
     bv_record r = bv_read(bytes, w.used, again, ROOM);
     printf("read:         %s, %s(%" PRIu64 "), degree %" PRIu64 ", %s\n", name(r.code), r.kind == BV_KIND_F ? "F" : "I", r.n, r.degree,
            memcmp(stage, again, sizeof stage) == 0 ? "the same coefficients" : "OTHER COEFFICIENTS");
-    return r.code != BV_DONE;
+
+    int bits = 20;
+    bv_answer in = in_registers(bits);
+    printf("registers:    I(%d) in %d bits: %s, degree %" PRIu64 "\n", LARGE, bits, name(in.code), in.degree);
+    while (in.code == BV_OVER)
+        in = in_registers(++bits);
+    printf("              I(%d) in %d bits: %s, height %" PRIu64 "\n", LARGE, bits, name(in.code), in.height);
+    return r.code != BV_DONE || in.code != BV_DONE;
 }

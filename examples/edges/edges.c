@@ -1,12 +1,15 @@
 /*
  * The edges of every argument: NULL with length 0, 0, the largest numbers, the places just inside and just outside each range. Each call
- * is held to its whole outcome: the answer's fields and the contents of the slice. Prints how many calls were made.
+ * is held to its whole outcome: the answer's fields and the contents of the slice. Prints how many outcomes were held.
  */
 #include <stdio.h>
 #include <stdlib.h>
 #include <string.h>
 
 #include "bonvedrick.h"
+
+/* no working limit */
+static const int64_t NONE = BV_NO_LIMIT;
 
 static int calls;
 
@@ -58,55 +61,212 @@ static void polynomial(void) {
     static const uint64_t no_index[] = {0, 65536, 65537, UINT64_C(1) << 32 | 1, UINT64_MAX};
     static const int64_t no_limit[] = {0, -1, INT64_MIN};
     for (size_t i = 0; i < 5; i++) {
-        HOLD(answers(bv_polynomial(no_kind[i], 0, 0, NULL, 0), BV_KIND, 0, 0, 0, 0));
-        HOLD(answers(bv_polynomial(no_kind[i], 6, 1, buf, 9), BV_KIND, 0, 0, 0, 0) && untouched_from(0));
-        HOLD(answers(bv_polynomial(1 + i % 2, no_index[i], 0, NULL, 0), BV_INDEX, 0, 0, 0, 0));
-        HOLD(answers(bv_polynomial(1 + i % 2, no_index[i], 1, buf, 9), BV_INDEX, 0, 0, 0, 0) && untouched_from(0));
+        HOLD(answers(bv_polynomial(no_kind[i], 0, 0, NONE, NULL, 0), BV_KIND, 0, 0, 0, 0));
+        HOLD(answers(bv_polynomial(no_kind[i], 6, 1, NONE, buf, 9), BV_KIND, 0, 0, 0, 0) && untouched_from(0));
+        HOLD(answers(bv_polynomial(1 + i % 2, no_index[i], 0, NONE, NULL, 0), BV_INDEX, 0, 0, 0, 0));
+        HOLD(answers(bv_polynomial(1 + i % 2, no_index[i], 1, NONE, buf, 9), BV_INDEX, 0, 0, 0, 0) && untouched_from(0));
     }
     for (size_t i = 0; i < 3; i++)
-        HOLD(answers(bv_polynomial(BV_KIND_F, 65535, no_limit[i], NULL, 0), BV_LIMIT, 0, 0, 0, 0));
-    HOLD(answers(bv_polynomial(BV_KIND_F, 15, 1, NULL, 0), BV_SHORT, 8, 0, 0, 0));
-    HOLD(answers(bv_polynomial(BV_KIND_F, 15, 1, buf, 8), BV_SHORT, 8, 0, 0, 0) && untouched_from(0));
-    HOLD(answers(bv_polynomial(BV_KIND_F, 15, 1, buf, 9), BV_DONE, 8, 6, 1, 1) && buf[8] == 1 && untouched_from(9));
-    HOLD(fresh() && answers(bv_polynomial(BV_KIND_F, 105, 1, buf, 60), BV_TALL, 48, 0, 0, 0) && untouched_from(49));
+        HOLD(answers(bv_polynomial(BV_KIND_F, 65535, no_limit[i], NONE, NULL, 0), BV_LIMIT, 0, 0, 0, 0));
+    HOLD(answers(bv_polynomial(BV_KIND_F, 15, 1, NONE, NULL, 0), BV_SHORT, 8, 0, 0, 0));
+    HOLD(answers(bv_polynomial(BV_KIND_F, 15, 1, NONE, buf, 8), BV_SHORT, 8, 0, 0, 0) && untouched_from(0));
+    HOLD(answers(bv_polynomial(BV_KIND_F, 15, 1, NONE, buf, 9), BV_DONE, 8, 6, 1, 1) && buf[8] == 1 && untouched_from(9));
+    HOLD(fresh() && answers(bv_polynomial(BV_KIND_F, 105, 1, NONE, buf, 60), BV_TALL, 48, 0, 0, 0) && untouched_from(49));
     for (size_t i = 0; i <= 48; i++)
         HOLD(buf[i] == 0);
-    HOLD(answers(bv_polynomial(BV_KIND_F, 105, 2, buf, 60), BV_DONE, 48, 98, 2, 1) && buf[7] == -2 && buf[41] == -2 && untouched_from(49));
-    HOLD(fresh() && answers(bv_polynomial(BV_KIND_F, 1, 1, buf, 2), BV_DONE, 1, 0, 1, 0) && buf[0] == -1 && buf[1] == 1);
-    HOLD(answers(bv_polynomial(BV_KIND_I, 1, INT64_MAX, buf, 1), BV_DONE, 0, 0, 1, 1) && buf[0] == 1 && buf[1] == 1 && untouched_from(2));
-    HOLD(fresh() && answers(bv_polynomial(BV_KIND_F, 65535, INT64_MAX, buf, 32768), BV_SHORT, 32768, 0, 0, 0) && untouched_from(0));
-    HOLD(bv_polynomial(BV_KIND_F, 65535, INT64_MAX, buf, 32769).code == BV_DONE && buf[32768] == 1 && untouched_from(32769));
-    HOLD(fresh() && answers(bv_polynomial(BV_KIND_F, 65521, 1, buf, 65536), BV_DONE, 65520, 32760, 1, 65521) && untouched_from(65521));
+    HOLD(answers(bv_polynomial(BV_KIND_F, 105, 2, NONE, buf, 60), BV_DONE, 48, 98, 2, 1) && buf[7] == -2 && buf[41] == -2 &&
+         untouched_from(49));
+    HOLD(fresh() && answers(bv_polynomial(BV_KIND_F, 1, 1, NONE, buf, 2), BV_DONE, 1, 0, 1, 0) && buf[0] == -1 && buf[1] == 1);
+    HOLD(answers(bv_polynomial(BV_KIND_I, 1, INT64_MAX, NONE, buf, 1), BV_DONE, 0, 0, 1, 1) && buf[0] == 1 && buf[1] == 1 &&
+         untouched_from(2));
+    HOLD(fresh() && answers(bv_polynomial(BV_KIND_F, 65535, INT64_MAX, NONE, buf, 32768), BV_SHORT, 32768, 0, 0, 0) && untouched_from(0));
+    HOLD(bv_polynomial(BV_KIND_F, 65535, INT64_MAX, NONE, buf, 32769).code == BV_DONE && buf[32768] == 1 && untouched_from(32769));
+    HOLD(fresh() && answers(bv_polynomial(BV_KIND_F, 65521, 1, NONE, buf, 65536), BV_DONE, 65520, 32760, 1, 65521) &&
+         untouched_from(65521));
 }
 
 static void partial(void) {
-    HOLD(fresh() && stops(bv_partial(0, 15, 0, NULL, 0), BV_KIND, 0, 0, 0));
-    HOLD(stops(bv_partial(UINT64_MAX, 0, UINT64_MAX, buf, 4), BV_KIND, 0, 0, 0));
-    HOLD(stops(bv_partial(1, 0, 0, NULL, 0), BV_INDEX, 0, 0, 0));
-    HOLD(stops(bv_partial(2, 65536, 0, buf, 4), BV_INDEX, 0, 0, 0));
-    HOLD(stops(bv_partial(1, 32768, 0, buf, 4), BV_INDEX, 0, 0, 0));
-    HOLD(stops(bv_partial(1, 15, 4, NULL, 0), BV_STEP, 0, 0, 0));
-    HOLD(stops(bv_partial(1, 15, UINT64_MAX, buf, 9), BV_STEP, 0, 0, 0));
-    HOLD(stops(bv_partial(1, 15, 3, NULL, 0), BV_SHORT, 4, 0, 0));
-    HOLD(stops(bv_partial(1, 15, 3, buf, 4), BV_SHORT, 4, 0, 0) && untouched_from(0));
-    HOLD(stops(bv_partial(1, 15, 0, buf, 5), BV_DONE, 4, 0, 3) && buf[0] == 1 && buf[1] == 0 && buf[4] == 0 && untouched_from(5));
-    HOLD(stops(bv_partial(1, 15, 3, buf, 9), BV_DONE, 4, 6, 0) && buf[0] == 1 && buf[1] == -1 && buf[4] == -1 && untouched_from(5));
-    HOLD(stops(bv_partial(2, 60, 0, buf, 4), BV_DONE, 3, 0, 3) && buf[0] == -1 && buf[4] == -1 && untouched_from(5));
+    HOLD(fresh() && stops(bv_partial(0, 15, 0, NONE, NULL, 0), BV_KIND, 0, 0, 0));
+    HOLD(stops(bv_partial(UINT64_MAX, 0, UINT64_MAX, NONE, buf, 4), BV_KIND, 0, 0, 0));
+    HOLD(stops(bv_partial(1, 0, 0, NONE, NULL, 0), BV_INDEX, 0, 0, 0));
+    HOLD(stops(bv_partial(2, 65536, 0, NONE, buf, 4), BV_INDEX, 0, 0, 0));
+    HOLD(stops(bv_partial(1, 32768, 0, NONE, buf, 4), BV_INDEX, 0, 0, 0));
+    HOLD(stops(bv_partial(1, 15, 4, NONE, NULL, 0), BV_STEP, 0, 0, 0));
+    HOLD(stops(bv_partial(1, 15, UINT64_MAX, NONE, buf, 9), BV_STEP, 0, 0, 0));
+    HOLD(stops(bv_partial(1, 15, 3, NONE, NULL, 0), BV_SHORT, 4, 0, 0));
+    HOLD(stops(bv_partial(1, 15, 3, NONE, buf, 4), BV_SHORT, 4, 0, 0) && untouched_from(0));
+    HOLD(stops(bv_partial(1, 15, 0, NONE, buf, 5), BV_DONE, 4, 0, 3) && buf[0] == 1 && buf[1] == 0 && buf[4] == 0 && untouched_from(5));
+    HOLD(stops(bv_partial(1, 15, 3, NONE, buf, 9), BV_DONE, 4, 6, 0) && buf[0] == 1 && buf[1] == -1 && buf[4] == -1 && untouched_from(5));
+    HOLD(stops(bv_partial(2, 60, 0, NONE, buf, 4), BV_DONE, 3, 0, 3) && buf[0] == -1 && buf[4] == -1 && untouched_from(5));
 }
 
-static void one_step(bv_step (*step)(uint64_t, int64_t *, size_t), int64_t sign) {
+static void one_step(bv_step (*step)(uint64_t, int64_t, int64_t *, size_t), int64_t sign) {
     int64_t a[3] = {INT64_MIN, sign * INT64_MAX, -1}, was[3];
     memcpy(was, a, sizeof a);
-    HOLD(steps(step(0, NULL, 0), BV_STEP, 0));
-    HOLD(steps(step(65536, NULL, 0), BV_STEP, 0));
-    HOLD(steps(step(UINT64_MAX, a, 3), BV_STEP, 0));
-    HOLD(steps(step(1, NULL, 0), BV_DONE, 0));
-    HOLD(steps(step(65535, a, 3), BV_DONE, 0) && memcmp(a, was, sizeof a) == 0);
-    HOLD(steps(step(3, a, 3), BV_DONE, 0) && memcmp(a, was, sizeof a) == 0);
-    HOLD(steps(step(1, a, 3), BV_OVER, 0) && memcmp(a, was, sizeof a) == 0);
-    HOLD(steps(step(2, a, 0), BV_DONE, 0) && memcmp(a, was, sizeof a) == 0);
+    HOLD(steps(step(0, NONE, NULL, 0), BV_STEP, 0));
+    HOLD(steps(step(65536, NONE, NULL, 0), BV_STEP, 0));
+    HOLD(steps(step(UINT64_MAX, NONE, a, 3), BV_STEP, 0));
+    HOLD(steps(step(1, NONE, NULL, 0), BV_DONE, 0));
+    HOLD(steps(step(65535, NONE, a, 3), BV_DONE, 0) && memcmp(a, was, sizeof a) == 0);
+    HOLD(steps(step(3, NONE, a, 3), BV_DONE, 0) && memcmp(a, was, sizeof a) == 0);
+    HOLD(steps(step(1, NONE, a, 3), BV_OVER, 0) && memcmp(a, was, sizeof a) == 0);
+    HOLD(steps(step(2, NONE, a, 0), BV_DONE, 0) && memcmp(a, was, sizeof a) == 0);
     a[0] = INT64_MAX, a[1] = INT64_MIN, a[2] = sign * INT64_MAX;
-    HOLD(steps(step(2, a, 3), BV_DONE, 1) && a[0] == INT64_MAX && a[1] == INT64_MIN && a[2] == 0);
+    HOLD(steps(step(2, NONE, a, 3), BV_DONE, 1) && a[0] == INT64_MAX && a[1] == INT64_MIN && a[2] == 0);
+}
+
+static int zero_to(uint64_t degree) {
+    for (size_t i = 0; i <= degree; i++)
+        if (buf[i] != 0)
+            return 0;
+    return 1;
+}
+
+/* what a delivered request tells, and the least working limit that delivers it, from the second program */
+typedef struct polynomial_case {
+    uint64_t kind, n, degree, additions, height, gain;
+    int64_t least;
+} polynomial_case;
+
+static const polynomial_case POLYNOMIALS[] = {
+    {1, 1, 1, 0, 1, 0, 1},
+    {2, 1, 0, 0, 1, 1, 1},
+    {1, 2, 1, 0, 1, 2, 1},
+    {2, 2, 1, 0, 1, 0, 1},
+    {1, 105, 48, 98, 2, 1, 2},
+    {2, 105, 57, 122, 1, 0, 1},
+    {1, 65535, 32768, 205314, 4, 1, 4},
+    {2, 65535, 32767, 205300, 2, 0, 2},
+};
+
+typedef struct partial_case {
+    uint64_t kind, n, j, half, additions, due;
+    int64_t least;
+} partial_case;
+
+static const partial_case PARTIALS[] = {
+    {1, 3, 0, 1, 0, 1, 1},
+    {2, 3, 1, 0, 0, 0, 1},
+    {1, 105, 0, 24, 0, 7, 1},
+    {1, 105, 3, 24, 66, 4, 1},
+    {1, 105, 4, 24, 84, 3, 2},
+    {1, 105, 7, 24, 98, 0, 2},
+    {2, 105, 7, 28, 122, 0, 1},
+    {1, 65535, 0, 16384, 0, 15, 1},
+    {1, 65535, 15, 16384, 205314, 0, 4},
+    {2, 65535, 1, 16383, 16383, 14, 1},
+    {2, 65535, 15, 16383, 205300, 0, 2},
+};
+#define COUNT(a) (sizeof(a) / sizeof *(a))
+
+static const int64_t LIMITS[] = {INT64_MIN, -1, 0, 1, INT64_MAX};
+static const uint64_t NO_KIND[] = {0, 3, UINT64_MAX};
+static const uint64_t NO_INDEX[] = {0, 65536, UINT64_MAX};
+
+/* Every edge of w with every edge of h and of the length, at a good kind and index. */
+static void polynomial_limits(polynomial_case p) {
+    for (size_t i = 0; i < COUNT(LIMITS); i++)
+        for (size_t k = 0; k < COUNT(LIMITS); k++)
+            for (int room = 0; room < 3; room++) {
+                int64_t h = LIMITS[i], w = LIMITS[k];
+                size_t len = room == 0 ? 0 : p.degree + (size_t)room - 1;
+                fresh();
+                bv_answer a = bv_polynomial(p.kind, p.n, h, w, len == 0 ? NULL : buf, len);
+                if (h < 1 || w < 1)
+                    HOLD(answers(a, BV_LIMIT, 0, 0, 0, 0) && untouched_from(0));
+                else if (len <= p.degree)
+                    HOLD(answers(a, BV_SHORT, p.degree, 0, 0, 0) && untouched_from(0));
+                else if (w < p.least)
+                    HOLD(answers(a, BV_OVER, p.degree, 0, 0, 0) && zero_to(p.degree) && untouched_from(len));
+                else if ((uint64_t)h < p.height)
+                    HOLD(answers(a, BV_TALL, p.degree, 0, 0, 0) && zero_to(p.degree) && untouched_from(len));
+                else
+                    HOLD(answers(a, BV_DONE, p.degree, p.additions, p.height, p.gain) && buf[p.degree] == 1 && untouched_from(len));
+            }
+}
+
+static void partial_limits(partial_case p) {
+    for (size_t k = 0; k < COUNT(LIMITS); k++)
+        for (int room = 0; room < 3; room++) {
+            int64_t w = LIMITS[k];
+            size_t len = room == 0 ? 0 : p.half + (size_t)room - 1;
+            fresh();
+            bv_stop a = bv_partial(p.kind, p.n, p.j, w, len == 0 ? NULL : buf, len);
+            if (w < 1)
+                HOLD(stops(a, BV_LIMIT, 0, 0, 0) && untouched_from(0));
+            else if (len <= p.half)
+                HOLD(stops(a, BV_SHORT, p.half, 0, 0) && untouched_from(0));
+            else if (w < p.least)
+                HOLD(stops(a, BV_OVER, p.half, 0, 0) && zero_to(p.half) && untouched_from(len));
+            else
+                HOLD(stops(a, BV_DONE, p.half, p.additions, p.due) && buf[0] == (p.kind == 1 ? 1 : -1) && untouched_from(len));
+        }
+}
+
+/* KIND, INDEX and STEP come first, whatever w is. */
+static void before_limits(int64_t w) {
+    fresh();
+    for (size_t i = 0; i < COUNT(NO_KIND); i++) {
+        HOLD(answers(bv_polynomial(NO_KIND[i], 0, INT64_MIN, w, NULL, 0), BV_KIND, 0, 0, 0, 0));
+        HOLD(answers(bv_polynomial(NO_KIND[i], 105, INT64_MAX, w, buf, 60), BV_KIND, 0, 0, 0, 0) && untouched_from(0));
+        HOLD(stops(bv_partial(NO_KIND[i], 0, UINT64_MAX, w, NULL, 0), BV_KIND, 0, 0, 0));
+        HOLD(stops(bv_partial(NO_KIND[i], 105, 7, w, buf, 60), BV_KIND, 0, 0, 0) && untouched_from(0));
+        HOLD(answers(bv_polynomial(1, NO_INDEX[i], INT64_MIN, w, NULL, 0), BV_INDEX, 0, 0, 0, 0));
+        HOLD(answers(bv_polynomial(2, NO_INDEX[i], INT64_MAX, w, buf, 60), BV_INDEX, 0, 0, 0, 0) && untouched_from(0));
+        HOLD(stops(bv_partial(1, NO_INDEX[i], UINT64_MAX, w, NULL, 0), BV_INDEX, 0, 0, 0));
+        HOLD(stops(bv_partial(2, NO_INDEX[i], 0, w, buf, 60), BV_INDEX, 0, 0, 0) && untouched_from(0));
+    }
+    HOLD(stops(bv_partial(1, 1, 0, w, buf, 60), BV_INDEX, 0, 0, 0) && untouched_from(0));
+    HOLD(stops(bv_partial(2, 32768, UINT64_MAX, w, NULL, 0), BV_INDEX, 0, 0, 0));
+    HOLD(stops(bv_partial(1, 105, 8, w, buf, 60), BV_STEP, 0, 0, 0) && untouched_from(0));
+    HOLD(stops(bv_partial(2, 105, UINT64_MAX, w, NULL, 0), BV_STEP, 0, 0, 0));
+}
+
+/* A step under w: the new values at 2 and 3 are those told, whatever stands at 0 and 1, which stay. */
+static void step_limits(bv_step (*step)(uint64_t, int64_t, int64_t *, size_t), int64_t w, const int64_t a[4], int64_t two, int64_t three) {
+    int64_t b[4];
+    memcpy(b, a, sizeof b);
+    HOLD(steps(step(0, w, NULL, 0), BV_STEP, 0));
+    HOLD(steps(step(65536, w, b, 4), BV_STEP, 0) && memcmp(a, b, sizeof b) == 0);
+    HOLD(steps(step(UINT64_MAX, w, b, 4), BV_STEP, 0) && memcmp(a, b, sizeof b) == 0);
+    HOLD(steps(step(1, w, NULL, 0), w < 1 ? BV_LIMIT : BV_DONE, 0));
+    HOLD(steps(step(4, w, b, 4), w < 1 ? BV_LIMIT : BV_DONE, 0) && memcmp(a, b, sizeof b) == 0);
+    HOLD(steps(step(65535, w, b, 4), w < 1 ? BV_LIMIT : BV_DONE, 0) && memcmp(a, b, sizeof b) == 0);
+    if (w < 1)
+        HOLD(steps(step(2, w, b, 4), BV_LIMIT, 0) && memcmp(a, b, sizeof b) == 0);
+    else if (two > w || two < -w || three > w || three < -w)
+        HOLD(steps(step(2, w, b, 4), BV_OVER, 0) && memcmp(a, b, sizeof b) == 0);
+    else
+        HOLD(steps(step(2, w, b, 4), BV_DONE, 2) && b[0] == a[0] && b[1] == a[1] && b[2] == two && b[3] == three);
+}
+
+static void limits(void) {
+    static const int64_t small[] = {1, 0, 0, 1};
+    /* old entries at the ends, new values of 1 and -1 */
+    static const int64_t combs[] = {INT64_MIN, INT64_MAX, INT64_MIN + 1, INT64_MAX - 1};
+    static const int64_t sums[] = {INT64_MIN, INT64_MAX, INT64_MAX, -INT64_MAX + 1};
+    static const int64_t larger[] = {3, -3, 5, -1};
+    /* new values at the ends of the largest limit, and one past it */
+    static const int64_t ends[] = {0, 0, INT64_MAX, -INT64_MAX};
+    static const int64_t past[] = {0, 0, 0, INT64_MIN};
+    for (size_t i = 0; i < COUNT(POLYNOMIALS); i++)
+        polynomial_limits(POLYNOMIALS[i]);
+    for (size_t i = 0; i < COUNT(PARTIALS); i++)
+        partial_limits(PARTIALS[i]);
+    for (size_t k = 0; k < COUNT(LIMITS); k++) {
+        int64_t w = LIMITS[k];
+        before_limits(w);
+        step_limits(bv_comb, w, small, -1, 1);
+        step_limits(bv_accumulate, w, small, 1, 1);
+        step_limits(bv_comb, w, combs, 1, -1);
+        step_limits(bv_accumulate, w, sums, -1, 1);
+        step_limits(bv_comb, w, larger, 2, 2);
+        step_limits(bv_accumulate, w, larger, 8, -4);
+        step_limits(bv_comb, w, ends, INT64_MAX, -INT64_MAX);
+        step_limits(bv_accumulate, w, ends, INT64_MAX, -INT64_MAX);
+        step_limits(bv_comb, w, past, 0, INT64_MIN);
+        step_limits(bv_accumulate, w, past, 0, INT64_MIN);
+    }
 }
 
 static void record(void) {
@@ -152,6 +312,7 @@ int main(void) {
     partial();
     one_step(bv_comb, 1);
     one_step(bv_accumulate, -1);
+    limits();
     record();
     printf("%d outcomes, all as told in bonvedrick.h\n", calls);
     return 0;

@@ -8,6 +8,7 @@ import ctypes
 from ctypes import POINTER, c_int64, c_size_t, c_uint8, c_uint64
 
 F, I = 1, 2
+LARGEST = 2**63 - 1  # as h or w: no limit
 NAMES = "DONE KIND INDEX LIMIT SHORT OVER TALL STEP CUT MARK FIELD WIDTH".split()
 
 
@@ -50,35 +51,35 @@ class Bonvedrick:
 
             return call
 
-        self._polynomial = function("bv_polynomial", Answer, c_uint64, c_uint64, c_int64, *WORDS)
-        self._partial = function("bv_partial", Stop, c_uint64, c_uint64, c_uint64, *WORDS)
-        self._comb = function("bv_comb", Step, c_uint64, *WORDS)
-        self._accumulate = function("bv_accumulate", Step, c_uint64, *WORDS)
+        self._polynomial = function("bv_polynomial", Answer, c_uint64, c_uint64, c_int64, c_int64, *WORDS)
+        self._partial = function("bv_partial", Stop, c_uint64, c_uint64, c_uint64, c_int64, *WORDS)
+        self._comb = function("bv_comb", Step, c_uint64, c_int64, *WORDS)
+        self._accumulate = function("bv_accumulate", Step, c_uint64, c_int64, *WORDS)
         self._write = function("bv_write", Written, c_uint64, c_uint64, *WORDS, *BYTES)
         self._read = function("bv_read", Record, *BYTES, *WORDS)
 
-    def polynomial(self, kind, n, h=2**63 - 1, room=65536):
-        """The coefficients, lowest degree first, and the answer."""
+    def polynomial(self, kind, n, h=LARGEST, w=LARGEST, room=65536):
+        """The coefficients, lowest degree first, and the answer. No step on the way may make a value larger in magnitude than w."""
         buf = (c_int64 * room)()
-        a = self._polynomial(kind, n, h, buf, room)
+        a = self._polynomial(kind, n, h, w, buf, room)
         return buf[: a.degree + 1], a
 
-    def partial(self, kind, n, j, room=32768):
+    def partial(self, kind, n, j, w=LARGEST, room=32768):
         """The kept half after j divisors, and the answer."""
         buf = (c_int64 * room)()
-        a = self._partial(kind, n, j, buf, room)
+        a = self._partial(kind, n, j, w, buf, room)
         return buf[: a.degree + 1], a
 
-    def comb(self, size, entries):
+    def comb(self, size, entries, w=LARGEST):
         """The entries times 1 - z^size, as many as there were."""
         buf = (c_int64 * len(entries))(*entries)
-        self._comb(size, buf, len(buf))
+        self._comb(size, w, buf, len(buf))
         return buf[:]
 
-    def accumulate(self, size, entries):
+    def accumulate(self, size, entries, w=LARGEST):
         """The entries divided by 1 - z^size."""
         buf = (c_int64 * len(entries))(*entries)
-        self._accumulate(size, buf, len(buf))
+        self._accumulate(size, w, buf, len(buf))
         return buf[:]
 
     def write(self, kind, n, coeffs):

@@ -1,5 +1,6 @@
 """A mains notch in Python. At 1050 samples a second 50 Hz is one turn in 21 samples, so F(21) stops it and I(21) is what it leaves over:
-the two together are the plain comb z^21 - 1. Usage: notch.py libbonvedrick.so"""
+the two together are the plain comb z^21 - 1. At the end, a larger one: which registers of a chip its steps fit, and which step is the first
+that does not. Usage: notch.py libbonvedrick.so"""
 
 import cmath
 import sys
@@ -8,6 +9,7 @@ from bonvedrick import F, I, Bonvedrick, Refused
 
 RATE, MAINS = 1050, 50
 N = RATE // MAINS
+LARGE, BITS = 15015, 20
 
 
 def product(a, b):
@@ -24,11 +26,22 @@ def response(coeffs, hz):
     return abs(sum(c * z**i for i, c in enumerate(coeffs)))
 
 
-def told(ask, *arguments):
+def told(ask, *arguments, **named):
     try:
-        return ask(*arguments)
+        return ask(*arguments, **named)
     except Refused as refusal:
         return refusal
+
+
+def registers(bits):
+    """The working limit of registers of so many bits, sign included: the largest magnitude they hold."""
+    return 2 ** (bits - 1) - 1
+
+
+def fits(ask, *arguments, bits):
+    """Whether all that the steps make fits such registers."""
+    outcome = told(ask, *arguments, w=registers(bits))
+    return not isinstance(outcome, Refused) or outcome.name != "OVER"
 
 
 bv = Bonvedrick(sys.argv[1])
@@ -52,3 +65,8 @@ print("F(105) of height 1:", told(bv.polynomial, F, 105, 1))
 print("a step of size 0:", told(bv.comb, 0, []))
 print("a comb on nothing:", bv.comb(1, []))
 print("half a record:", told(bv.read, record[:15]))
+print("a comb past a working limit of 4:", told(bv.comb, 1, [100, 1, 4], w=4))
+print("the old entries may be past it:", *bv.comb(1, [100, 101, 102], w=4))
+print(f"I({LARGE}) in registers of {BITS} bits:", told(bv.polynomial, I, LARGE, w=registers(BITS)))
+print("the first step that doesn't fit:", next(j for j in range(1, 32) if not fits(bv.partial, I, LARGE, j, bits=BITS)))
+print("the least registers that do:", next(bits for bits in range(2, 65) if fits(bv.polynomial, I, LARGE, bits=bits)), "bits")

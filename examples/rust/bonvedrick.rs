@@ -43,10 +43,10 @@ mod c {
     }
 
     extern "C" {
-        pub fn bv_polynomial(kind: u64, n: u64, h: i64, buf: *mut i64, len: usize) -> Answer;
-        pub fn bv_partial(kind: u64, n: u64, j: u64, buf: *mut i64, len: usize) -> Stop;
-        pub fn bv_comb(size: u64, buf: *mut i64, len: usize) -> Step;
-        pub fn bv_accumulate(size: u64, buf: *mut i64, len: usize) -> Step;
+        pub fn bv_polynomial(kind: u64, n: u64, h: i64, w: i64, buf: *mut i64, len: usize) -> Answer;
+        pub fn bv_partial(kind: u64, n: u64, j: u64, w: i64, buf: *mut i64, len: usize) -> Stop;
+        pub fn bv_comb(size: u64, w: i64, buf: *mut i64, len: usize) -> Step;
+        pub fn bv_accumulate(size: u64, w: i64, buf: *mut i64, len: usize) -> Step;
         pub fn bv_write(kind: u64, n: u64, coeffs: *const i64, count: usize, bytes: *mut u8, len: usize) -> Written;
         pub fn bv_read(bytes: *const u8, len: usize, coeffs: *mut i64, count: usize) -> Record;
     }
@@ -57,6 +57,14 @@ mod c {
 pub enum Kind {
     F = 1,
     I = 2,
+}
+
+/// For the height limit h and the working limit w: none.
+pub const NO_LIMIT: i64 = i64::MAX;
+
+/// The working limit of registers of `bits` bits, 2 to 64, sign included: no step may make a value larger in magnitude.
+pub fn registers(bits: u32) -> i64 {
+    i64::MAX >> (64 - bits)
 }
 
 /// Why nothing was delivered. The degree stands where the library tells it: of the polynomial, and for `partial` of its lower half.
@@ -128,27 +136,27 @@ pub struct Record<'a> {
 
 // SAFETY of each call below: a Rust slice is what the library asks of a pointer and a length, and `&mut` is alone.
 
-pub fn polynomial(kind: Kind, n: u64, h: i64, buf: &mut [i64]) -> Result<Polynomial<'_>, Refusal> {
-    let a = unsafe { c::bv_polynomial(kind as u64, n, h, buf.as_mut_ptr(), buf.len()) };
+pub fn polynomial(kind: Kind, n: u64, h: i64, w: i64, buf: &mut [i64]) -> Result<Polynomial<'_>, Refusal> {
+    let a = unsafe { c::bv_polynomial(kind as u64, n, h, w, buf.as_mut_ptr(), buf.len()) };
     outcome(a.code, a.degree, ())?;
     Ok(Polynomial { coeffs: &mut buf[..=a.degree as usize], additions: a.additions, height: a.height, gain: a.gain })
 }
 
-pub fn partial(kind: Kind, n: u64, j: u64, buf: &mut [i64]) -> Result<Partial<'_>, Refusal> {
-    let a = unsafe { c::bv_partial(kind as u64, n, j, buf.as_mut_ptr(), buf.len()) };
+pub fn partial(kind: Kind, n: u64, j: u64, w: i64, buf: &mut [i64]) -> Result<Partial<'_>, Refusal> {
+    let a = unsafe { c::bv_partial(kind as u64, n, j, w, buf.as_mut_ptr(), buf.len()) };
     outcome(a.code, a.degree, ())?;
     Ok(Partial { half: &mut buf[..=a.degree as usize], additions: a.additions, due: a.due as usize })
 }
 
 /// Multiplies by 1 - z^size, and answers how many subtractions that took.
-pub fn comb(size: u64, buf: &mut [i64]) -> Result<u64, Refusal> {
-    let a = unsafe { c::bv_comb(size, buf.as_mut_ptr(), buf.len()) };
+pub fn comb(size: u64, w: i64, buf: &mut [i64]) -> Result<u64, Refusal> {
+    let a = unsafe { c::bv_comb(size, w, buf.as_mut_ptr(), buf.len()) };
     outcome(a.code, 0, a.count)
 }
 
 /// Divides by 1 - z^size, and answers how many additions that took.
-pub fn accumulate(size: u64, buf: &mut [i64]) -> Result<u64, Refusal> {
-    let a = unsafe { c::bv_accumulate(size, buf.as_mut_ptr(), buf.len()) };
+pub fn accumulate(size: u64, w: i64, buf: &mut [i64]) -> Result<u64, Refusal> {
+    let a = unsafe { c::bv_accumulate(size, w, buf.as_mut_ptr(), buf.len()) };
     outcome(a.code, 0, a.count)
 }
 

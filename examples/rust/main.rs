@@ -1,16 +1,18 @@
 //! A mains notch in Rust, over the safe wrapper. At 750 samples a second 50 Hz is one turn in 15 samples, so F(15) stops it.
-//! It asks, grows the buffer as the refusal tells, shows how the polynomial grows divisor by divisor, and stores it.
+//! It asks, grows the buffer as the refusal tells, shows how the polynomial grows divisor by divisor, and stores it. Then it asks which
+//! registers of a chip the steps of a larger one fit.
 mod bonvedrick;
 
-use bonvedrick::{accumulate, comb, partial, polynomial, read, write, Kind, Refusal};
+use bonvedrick::{accumulate, comb, partial, polynomial, read, registers, write, Kind, Refusal, NO_LIMIT};
 
 const RATE: u64 = 750;
 const MAINS: u64 = 50;
 const N: u64 = RATE / MAINS;
+const LARGE: u64 = 15015;
 
 /// How many entries the polynomial needs: lent none, the library refuses and tells the degree.
 fn entries(kind: Kind, n: u64) -> Result<usize, Refusal> {
-    match polynomial(kind, n, i64::MAX, &mut []) {
+    match polynomial(kind, n, NO_LIMIT, NO_LIMIT, &mut []) {
         Err(Refusal::Short { degree }) => Ok(degree + 1),
         Err(other) => Err(other),
         Ok(p) => Ok(p.coeffs.len()),
@@ -19,14 +21,14 @@ fn entries(kind: Kind, n: u64) -> Result<usize, Refusal> {
 
 fn main() -> Result<(), Refusal> {
     println!("notch for {MAINS} Hz at {RATE} samples a second: F({N})");
-    println!("in 8 entries: {:?}", polynomial(Kind::F, N, 1, &mut [0; 8]).map(|p| p.gain));
+    println!("in 8 entries: {:?}", polynomial(Kind::F, N, 1, NO_LIMIT, &mut [0; 8]).map(|p| p.gain));
     let mut room = vec![0; entries(Kind::F, N)?];
-    let f = polynomial(Kind::F, N, 1, &mut room)?;
+    let f = polynomial(Kind::F, N, 1, NO_LIMIT, &mut room)?;
     println!("in {} entries: {:?}, {} additions, height {}, gain {}", f.coeffs.len(), f.coeffs, f.additions, f.height, f.gain);
 
     for j in 0.. {
         let mut half = [0; 8];
-        match partial(Kind::F, N, j, &mut half) {
+        match partial(Kind::F, N, j, NO_LIMIT, &mut half) {
             Ok(p) => println!("after {j} divisors, {} due: {:?}, {} additions", p.due, p.half, p.additions),
             Err(e) => {
                 println!("after {j} divisors: {e:?}");
@@ -36,8 +38,8 @@ fn main() -> Result<(), Refusal> {
     }
 
     let mut hum = [0, 1, 0, 0, i64::MAX];
-    println!("accumulate 1: {:?}, entries as they were: {:?}", accumulate(1, &mut hum), &hum[..4]);
-    println!("comb 1:       {:?}, entries now: {:?}", comb(1, &mut hum), &hum[..4]);
+    println!("accumulate 1: {:?}, entries as they were: {:?}", accumulate(1, NO_LIMIT, &mut hum), &hum[..4]);
+    println!("comb 1:       {:?}, entries now: {:?}", comb(1, NO_LIMIT, &mut hum), &hum[..4]);
 
     let mut bytes = [0; 32];
     let record = write(Kind::F, N, f.coeffs, &mut bytes)?;
@@ -48,5 +50,14 @@ fn main() -> Result<(), Refusal> {
     record[0] = 0;
     println!("damaged: {:?}", read(record, &mut again).map(|r| r.n));
     println!("F(65536): {:?}", entries(Kind::F, 65536));
+
+    let mut room = vec![0; entries(Kind::I, LARGE)?];
+    for bits in 20.. {
+        let made = polynomial(Kind::I, LARGE, NO_LIMIT, registers(bits), &mut room);
+        println!("I({LARGE}) in registers of {bits} bits: {:?}", made.as_ref().map(|p| p.height));
+        if !matches!(made, Err(Refusal::Over { .. })) {
+            break;
+        }
+    }
     Ok(())
 }

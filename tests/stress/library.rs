@@ -47,10 +47,10 @@ pub struct Record {
 }
 
 extern "C" {
-    fn bv_polynomial(kind: u64, n: u64, h: i64, buf: *mut i64, len: usize) -> Answer;
-    fn bv_partial(kind: u64, n: u64, j: u64, buf: *mut i64, len: usize) -> Stop;
-    fn bv_comb(size: u64, buf: *mut i64, len: usize) -> Step;
-    fn bv_accumulate(size: u64, buf: *mut i64, len: usize) -> Step;
+    fn bv_polynomial(kind: u64, n: u64, h: i64, w: i64, buf: *mut i64, len: usize) -> Answer;
+    fn bv_partial(kind: u64, n: u64, j: u64, w: i64, buf: *mut i64, len: usize) -> Stop;
+    fn bv_comb(size: u64, w: i64, buf: *mut i64, len: usize) -> Step;
+    fn bv_accumulate(size: u64, w: i64, buf: *mut i64, len: usize) -> Step;
     fn bv_write(kind: u64, n: u64, coeffs: *const i64, count: usize, bytes: *mut u8, len: usize) -> Written;
     fn bv_read(bytes: *const u8, len: usize, coeffs: *mut i64, count: usize) -> Record;
 }
@@ -63,16 +63,16 @@ fn shown<T>(a: &[T]) -> *const T {
     if a.is_empty() { ptr::null() } else { a.as_ptr() }
 }
 
-pub fn polynomial(kind: u64, n: u64, h: i64, buf: &mut [i64]) -> Answer {
-    unsafe { bv_polynomial(kind, n, h, lent(buf), buf.len()) }
+pub fn polynomial(kind: u64, n: u64, h: i64, w: i64, buf: &mut [i64]) -> Answer {
+    unsafe { bv_polynomial(kind, n, h, w, lent(buf), buf.len()) }
 }
 
-pub fn partial(kind: u64, n: u64, j: u64, buf: &mut [i64]) -> Stop {
-    unsafe { bv_partial(kind, n, j, lent(buf), buf.len()) }
+pub fn partial(kind: u64, n: u64, j: u64, w: i64, buf: &mut [i64]) -> Stop {
+    unsafe { bv_partial(kind, n, j, w, lent(buf), buf.len()) }
 }
 
-pub fn step(comb: bool, size: u64, buf: &mut [i64]) -> Step {
-    unsafe { if comb { bv_comb(size, lent(buf), buf.len()) } else { bv_accumulate(size, lent(buf), buf.len()) } }
+pub fn step(comb: bool, size: u64, w: i64, buf: &mut [i64]) -> Step {
+    unsafe { if comb { bv_comb(size, w, lent(buf), buf.len()) } else { bv_accumulate(size, w, lent(buf), buf.len()) } }
 }
 
 pub fn write(kind: u64, n: u64, coeffs: &[i64], bytes: &mut [u8]) -> Written {

@@ -2,6 +2,7 @@
 //! Stops at the first difference with a message and a status other than 0; else tells how many inputs were tried.
 //! `stress [seed [share]]`: share is the part of the full run in percent, 100 if not given.
 
+mod halves;
 mod library;
 mod random;
 mod records;
@@ -27,9 +28,16 @@ fn main() {
     let mut all = 0;
     all += tell("steps", (0..20_000 * share).map(|_| steps::any(&mut random)).sum());
     all += tell("records", (0..5_000 * share).map(|_| records::any(&mut random, &of)).sum());
-    all += tell("partial requests", (0..500 * share).map(|_| requests::stop(&mut random, &of)).sum());
+    all += tell("partial requests", (0..500 * share).map(|_| requests::stop(&mut random, &mut of)).sum());
     all += tell("polynomials, any request", (0..2_000 * share).map(|_| requests::any(&mut random, &mut of)).sum());
     let last = LARGEST * share.min(100) / 100;
-    all += tell("polynomials, every index", (1..=last).map(|n| requests::index(&mut random, &mut of, n)).sum());
+    // together, since both need the reference for n
+    let (mut stops, mut polynomials) = (0, 0);
+    for n in 1..=last {
+        polynomials += requests::index(&mut random, &mut of, n);
+        stops += requests::stops(&mut random, &mut of, n);
+    }
+    all += tell("polynomials, every index", polynomials);
+    all += tell("partial requests, every r", stops);
     println!("{all} inputs tried, no difference");
 }

@@ -33,6 +33,20 @@ impl Random {
         self.of(&[i64::MIN, i64::MIN + 1, i64::MAX, i64::MAX - 1, 1 << 62, -(1 << 62), (1 << 62) - 1, 1 - (1 << 62), 0, 1, -1])
     }
 
+    /// A working limit: none, an extreme, a small one, any, or one near the least that is enough.
+    pub fn limit(&mut self, least: i64) -> i64 {
+        match self.below(8) {
+            0 => self.extreme(),
+            1 => self.below(6) as i64,
+            2 => {
+                let bits = self.below(65);
+                self.signed(bits)
+            }
+            3..=5 => least.saturating_add(self.of(&[-1, 0, 0, 1, 2])),
+            _ => i64::MAX,
+        }
+    }
+
     /// A slice of words: small ones, wide ones, extremes, or some of each.
     pub fn slice(&mut self, len: usize) -> Vec<i64> {
         let bits = self.of(&[1, 2, 8, 40, 60, 62, 63, 64]);

@@ -1,6 +1,7 @@
 //! F(n) and I(n) for every n by a road of its own: for the largest prime p of n = mp, F(n) = F(m)(z^p) / F(m) by long division and
 //! I(n) = I(m)(z^p) F(m) by the product's definition where p is new, and F(m)(z^p), I(m)(z^p) where it is old.
 
+use crate::halves::{all_met, halves, least};
 use std::collections::HashMap;
 use std::rc::Rc;
 
@@ -18,6 +19,7 @@ pub struct Reference {
     phi: Vec<usize>,
     pairs: HashMap<usize, Rc<Pair>>,
     last: (usize, Rc<Pair>),
+    met: HashMap<(u64, usize), Rc<Vec<i64>>>,
 }
 
 /// z - 1 and 1.
@@ -85,7 +87,7 @@ impl Reference {
                 phi[n] -= phi[d];
             }
         }
-        Reference { phi, pairs: HashMap::new(), last: (1, Rc::new(first())) }
+        Reference { phi, pairs: HashMap::new(), last: (1, Rc::new(first())), met: HashMap::new() }
     }
 
     pub fn pair(&mut self, n: usize) -> Rc<Pair> {
@@ -118,6 +120,22 @@ impl Reference {
 
     pub fn degree(&self, kind: u64, n: usize) -> usize {
         if kind == 1 { self.phi[n] } else { n - self.phi[n] }
+    }
+
+    /// The largest magnitude that each step of r makes; none for r = 1.
+    pub fn met(&mut self, kind: u64, r: usize) -> Rc<Vec<i64>> {
+        if let Some(found) = self.met.get(&(kind, r)) {
+            return found.clone();
+        }
+        let (half, steps) = (self.degree(kind, r) / 2, divisors(r));
+        let made = Rc::new(all_met(&halves(kind, half, &steps), &steps));
+        self.met.insert((kind, r), made.clone());
+        made
+    }
+
+    /// The least working limit that delivers the polynomial of n.
+    pub fn least(&mut self, kind: u64, n: usize) -> i64 {
+        least(&self.met(kind, odd_part(n)))
     }
 
     pub fn is_prime(&self, n: usize) -> bool {
