@@ -65,7 +65,14 @@ fn passes_test(sort: Sort, narrow: bool, w: u64, x: i64, y: i64) -> bool
 }
 
 // The same at a place of the slice. That an entry fits its type is known where it is read, and an undoing needs it.
-pub(crate) fn entry_passes_test(sort: Sort, narrow: bool, w: u64, a: &[i64], i: usize, d: usize) -> bool
+pub(crate) fn entry_passes_test(
+    sort: Sort,
+    narrow: bool,
+    w: u64,
+    a: &[i64],
+    i: usize,
+    d: usize,
+) -> bool
     requires { ⌜ (d ≤ i) × (i < length (now a)) × (w ≤ largest) × (narrow ≡ true → Bounded addable (entries (now a))) ⌝ }
     ensures { λ r.
         ⌜ (r ≡ inRange w (newEntry (sortMeans sort) d (now (a .entry)) i)) × SFits w64 (entries (now (a .entry)) i) ⌝ }

@@ -111,56 +111,56 @@ module _
     (ed : d ≡ degree kind n) (room : d < length l) (m : List ℤ) (r : MakingOutcome)
     (laid : MakingOutcomeIs kind n h w m r)
   where
-  last-code : code kind n (pos h) (pos w) (length l) ≡ r .code
-  last-code = ask-last kind n h w (length l) e f g k (omega arith) ∙ sym (laid .code)
+    last-code : code kind n (pos h) (pos w) (length l) ≡ r .code
+    last-code = ask-last kind n h w (length l) e f g k (omega arith) ∙ sym (laid .code)
 
-  in-front : (new : List ℤ) → length new ≡ suc (degree kind n) → m ≡ new → m ++ drop (d + 1) l ≡ written new l
-  unfolding written
-  in-front new len q = ap₂ (λ x k. x ++ drop k l) q (ap (λ x. x + 1) ed ∙ add-one (degree kind n) ∙ sym len)
+    in-front : (new : List ℤ) → length new ≡ suc (degree kind n) → m ≡ new → m ++ drop (d + 1) l ≡ written new l
+    unfolding written
+    in-front new len q = ap₂ (λ x k. x ++ drop k l) q (ap (λ x. x + 1) ed ∙ add-one (degree kind n) ∙ sym len)
 
-  two : (b t : Bool) → cond b OVER (cond t TALL DONE) ≢ DONE → (cond b OVER (cond t TALL DONE) ≡ OVER)
-      ⊎ (cond b OVER (cond t TALL DONE) ≡ TALL)
-  two true t q = inl refl
-  two false true q = inr refl
-  two false false q = absurd (q refl)
+    two : (b t : Bool) → cond b OVER (cond t TALL DONE) ≢ DONE → (cond b OVER (cond t TALL DONE) ≡ OVER)
+        ⊎ (cond b OVER (cond t TALL DONE) ≡ TALL)
+    two true t q = inl refl
+    two false true q = inr refl
+    two false false q = absurd (q refl)
 
-  which : r .code ≢ DONE → (r .code ≡ OVER) ⊎ (r .code ≡ TALL)
-  unfolding makingCode
-  which q =
-      ⊎-elim (λ x. inl (laid .code ∙ x)) (λ x. inr (laid .code ∙ x))
-      (two (overAmong w kind (rOf n) (divisorsDue (rOf n))) (ltb h (height kind n))
-      (λ x. q (laid .code ∙ x)))
+    which : r .code ≢ DONE → (r .code ≡ OVER) ⊎ (r .code ≡ TALL)
+    unfolding makingCode
+    which q =
+        ⊎-elim (λ x. inl (laid .code ∙ x)) (λ x. inr (laid .code ∙ x))
+        (two (overAmong w kind (rOf n) (divisorsDue (rOf n))) (ltb h (height kind n))
+        (λ x. q (laid .code ∙ x)))
 
-  zeroed : r .code ≢ DONE → m ++ drop (d + 1) l ≡ written (zeros (suc (degree kind n))) l
-  unfolding zeros
-  zeroed q =
-      in-front (zeros (suc (degree kind n))) (length-replicate (suc (degree kind n)) 0ℤ)
-      (laid .leaves ∙ ap (λ b. cond b (coefficients kind n) (zeros (suc (degree kind n))))
-      (ne-eqb (r .code) DONE q))
+    zeroed : r .code ≢ DONE → m ++ drop (d + 1) l ≡ written (zeros (suc (degree kind n))) l
+    unfolding zeros
+    zeroed q =
+        in-front (zeros (suc (degree kind n))) (length-replicate (suc (degree kind n)) 0ℤ)
+        (laid .leaves ∙ ap (λ b. cond b (coefficients kind n) (zeros (suc (degree kind n))))
+        (ne-eqb (r .code) DONE q))
 
-  pub refuses : r .code ≢ DONE → Answers kind n (pos h) (pos w) (told-only (r .code) d) (m ++ drop (d + 1) l) l
-  refuses q = ⊎-elim (λ x. go OVER x (at-over kind n (pos h) (pos w) l)) (λ x. go TALL x (at-tall kind n (pos h) (pos w) l)) (which q)
-    where
-      go : (c : ℕ) → r .code ≡ c
-          → (code kind n (pos h) (pos w) (length l) ≡ c
-          → Answers kind n (pos h) (pos w) (told-only c (degree kind n)) (written (zeros (suc (degree kind n))) l) l)
-          → Answers kind n (pos h) (pos w) (told-only (r .code) d) (m ++ drop (d + 1) l) l
-      go c x s = let y = s (last-code ∙ x) in (ap₂ told-only x ed ∙ y .0, zeroed q ∙ y .1)
+    pub refuses : r .code ≢ DONE → Answers kind n (pos h) (pos w) (told-only (r .code) d) (m ++ drop (d + 1) l) l
+    refuses q = ⊎-elim (λ x. go OVER x (at-over kind n (pos h) (pos w) l)) (λ x. go TALL x (at-tall kind n (pos h) (pos w) l)) (which q)
+      where
+        go : (c : ℕ) → r .code ≡ c
+            → (code kind n (pos h) (pos w) (length l) ≡ c
+            → Answers kind n (pos h) (pos w) (told-only c (degree kind n)) (written (zeros (suc (degree kind n))) l) l)
+            → Answers kind n (pos h) (pos w) (told-only (r .code) d) (m ++ drop (d + 1) l) l
+        go c x s = let y = s (last-code ∙ x) in (ap₂ told-only x ed ∙ y .0, zeroed q ∙ y .1)
 
-  pub delivers : r .code ≡ DONE → (x : ℕ) → x ≡ gain kind n
-      → Answers kind n (pos h) (pos w)
-      (record { code = DONE; degree = d; additions = r .additions; height = r .height; gain = x })
-      (m ++ drop (d + 1) l) l
-  unfolding coefficients
-  delivers q x is =
-      let y = at-done kind n (pos h) (pos w) l (last-code ∙ q) in (
-        same ed (laid .additions q) (laid .height q) is ∙ y .0,
-        in-front (coefficients kind n) (length-firsts (suc (degree kind n)) (polynomial kind n))
-            (laid .leaves ∙ ap (λ b. cond b (coefficients kind n) (zeros (suc (degree kind n))))
-            (eq-eqb (r .code) DONE q)) ∙ y .1,
-      )
-    where
-      same : {x y z u x′ y′ z′ u′ : ℕ} → x ≡ x′ → y ≡ y′ → z ≡ z′ → u ≡ u′
-          → _≡_ {A = Answer} (record { code = DONE; degree = x; additions = y; height = z; gain = u })
-          (record { code = DONE; degree = x′; additions = y′; height = z′; gain = u′ })
-      same p q r s i = record { code = DONE; degree = p i; additions = q i; height = r i; gain = s i }
+    pub delivers : r .code ≡ DONE → (x : ℕ) → x ≡ gain kind n
+        → Answers kind n (pos h) (pos w)
+        (record { code = DONE; degree = d; additions = r .additions; height = r .height; gain = x })
+        (m ++ drop (d + 1) l) l
+    unfolding coefficients
+    delivers q x is =
+        let y = at-done kind n (pos h) (pos w) l (last-code ∙ q) in (
+          same ed (laid .additions q) (laid .height q) is ∙ y .0,
+          in-front (coefficients kind n) (length-firsts (suc (degree kind n)) (polynomial kind n))
+              (laid .leaves ∙ ap (λ b. cond b (coefficients kind n) (zeros (suc (degree kind n))))
+              (eq-eqb (r .code) DONE q)) ∙ y .1,
+        )
+      where
+        same : {x y z u x′ y′ z′ u′ : ℕ} → x ≡ x′ → y ≡ y′ → z ≡ z′ → u ≡ u′
+            → _≡_ {A = Answer} (record { code = DONE; degree = x; additions = y; height = z; gain = u })
+            (record { code = DONE; degree = x′; additions = y′; height = z′; gain = u′ })
+        same p q r s i = record { code = DONE; degree = p i; additions = q i; height = r i; gain = s i }

@@ -14,8 +14,7 @@ over-requires c κs = parts-few (c .args .n) (c .args .parts) (c .pre .0 .parts)
 make-kept-half-requires : tie.Need-make-kept-half-requires
 make-kept-half-requires c κs =
     let q = c .before in
-    let p = q .before in
-    (
+    let p = q .before in (
       fresh-half (p .args .kind) (p .args .n) (p .args .parts) (p .pre .0) (q .over .result) (q .over .ensures) _ _
           (p .pre .1)
           (le-of-eq (walk-due (p .args .kind) (p .args .n) (p .args .parts) (p .pre .0) (q .over .result)

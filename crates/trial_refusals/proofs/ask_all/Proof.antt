@@ -7,10 +7,10 @@ use Rattle.trial_refusals.proofs.ask_all.Statement.{statement}
 use Rattle.trial_refusals.proofs.ask_all.Tie as tie
 
 abbrev Inv-loop : tie.InvT-loop
-Inv-loop buf₀ i₀ buf i = (i ≤ 64) × (length buf ≡ length buf₀)
+Inv-loop buf₀ i₀ buf i = (i ≤ 147) × (length buf ≡ length buf₀)
 
 abbrev μ-loop : tie.MeasureT-loop
-μ-loop buf₀ i₀ buf i = 64 - i
+μ-loop buf₀ i₀ buf i = 147 - i
 
 loop-holds : tie.Need-loop-holds Inv-loop μ-loop
 loop-holds c = search needs
