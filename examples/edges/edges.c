@@ -135,6 +135,8 @@ static const polynomial_case POLYNOMIALS[] = {
     {2, 2, 1, 0, 1, 0, 1},
     {1, 105, 48, 98, 2, 1, 2},
     {2, 105, 57, 122, 1, 0, 1},
+    {1, 420, 96, 98, 2, 1, 2},
+    {2, 4004, 2564, 646, 2, 0, 2},
     {1, 65535, 32768, 205314, 4, 1, 4},
     {2, 65535, 32767, 205300, 2, 0, 2},
 };
@@ -167,7 +169,7 @@ static const uint64_t NO_INDEX[] = {0, 65536, UINT64_MAX};
 static void polynomial_limits(polynomial_case p) {
     for (size_t i = 0; i < COUNT(LIMITS); i++)
         for (size_t k = 0; k < COUNT(LIMITS); k++)
-            for (int room = 0; room < 3; room++) {
+            for (int room = 0; room < 4; room++) {
                 int64_t h = LIMITS[i], w = LIMITS[k];
                 size_t len = room == 0 ? 0 : p.degree + (size_t)room - 1;
                 fresh();
@@ -177,17 +179,18 @@ static void polynomial_limits(polynomial_case p) {
                 else if (len <= p.degree)
                     HOLD(answers(a, BV_SHORT, p.degree, 0, 0, 0) && untouched_from(0));
                 else if (w < p.least)
-                    HOLD(answers(a, BV_OVER, p.degree, 0, 0, 0) && zero_to(p.degree) && untouched_from(len));
+                    HOLD(answers(a, BV_OVER, p.degree, 0, 0, 0) && zero_to(p.degree) && untouched_from(p.degree + 1));
                 else if ((uint64_t)h < p.height)
-                    HOLD(answers(a, BV_TALL, p.degree, 0, 0, 0) && zero_to(p.degree) && untouched_from(len));
+                    HOLD(answers(a, BV_TALL, p.degree, 0, 0, 0) && zero_to(p.degree) && untouched_from(p.degree + 1));
                 else
-                    HOLD(answers(a, BV_DONE, p.degree, p.additions, p.height, p.gain) && buf[p.degree] == 1 && untouched_from(len));
+                    HOLD(answers(a, BV_DONE, p.degree, p.additions, p.height, p.gain) && buf[p.degree] == 1 &&
+                         untouched_from(p.degree + 1));
             }
 }
 
 static void partial_limits(partial_case p) {
     for (size_t k = 0; k < COUNT(LIMITS); k++)
-        for (int room = 0; room < 3; room++) {
+        for (int room = 0; room < 4; room++) {
             int64_t w = LIMITS[k];
             size_t len = room == 0 ? 0 : p.half + (size_t)room - 1;
             fresh();
@@ -197,9 +200,9 @@ static void partial_limits(partial_case p) {
             else if (len <= p.half)
                 HOLD(stops(a, BV_SHORT, p.half, 0, 0) && untouched_from(0));
             else if (w < p.least)
-                HOLD(stops(a, BV_OVER, p.half, 0, 0) && zero_to(p.half) && untouched_from(len));
+                HOLD(stops(a, BV_OVER, p.half, 0, 0) && zero_to(p.half) && untouched_from(p.half + 1));
             else
-                HOLD(stops(a, BV_DONE, p.half, p.additions, p.due) && buf[0] == (p.kind == 1 ? 1 : -1) && untouched_from(len));
+                HOLD(stops(a, BV_DONE, p.half, p.additions, p.due) && buf[0] == (p.kind == 1 ? 1 : -1) && untouched_from(p.half + 1));
         }
 }
 
@@ -246,6 +249,8 @@ static void limits(void) {
     static const int64_t combs[] = {INT64_MIN, INT64_MAX, INT64_MIN + 1, INT64_MAX - 1};
     static const int64_t sums[] = {INT64_MIN, INT64_MAX, INT64_MAX, -INT64_MAX + 1};
     static const int64_t larger[] = {3, -3, 5, -1};
+    /* a new value that w has room for, then one that it has not */
+    static const int64_t late[] = {1, 0, 0, 5};
     /* new values at the ends of the largest limit, and one past it */
     static const int64_t ends[] = {0, 0, INT64_MAX, -INT64_MAX};
     static const int64_t past[] = {0, 0, 0, INT64_MIN};
@@ -262,6 +267,8 @@ static void limits(void) {
         step_limits(bv_accumulate, w, sums, -1, 1);
         step_limits(bv_comb, w, larger, 2, 2);
         step_limits(bv_accumulate, w, larger, 8, -4);
+        step_limits(bv_comb, w, late, -1, 5);
+        step_limits(bv_accumulate, w, late, 1, 5);
         step_limits(bv_comb, w, ends, INT64_MAX, -INT64_MAX);
         step_limits(bv_accumulate, w, ends, INT64_MAX, -INT64_MAX);
         step_limits(bv_comb, w, past, 0, INT64_MIN);
