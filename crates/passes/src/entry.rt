@@ -12,18 +12,20 @@ ghost use Rattle.step_laws.specs.Bound.{Bounded};
 ghost use Rattle.passes.specs.Sorts.{sortMeans};
 ghost use Rattle.passes.specs.Passes.{addable, newValue, newEntry};
 use crate::Sort;
-use heights::magnitude;
 use range::difference_fits;
-use range::small;
 use range::sum_fits;
+use range::within;
+
+// 2^62 - 1: two numbers that are no larger can be added and taken away.
+const ADDABLE: u64 = 4611686018427387903;
 
 // What a step makes of an entry x and the one y that stands d before it: whether it can be taken, of two small numbers it
 // can; the value; and whether that is within w.
 fn new_value_fits(sort: Sort, x: i64, y: i64) -> bool
     ensures { λ r. ⌜ r ≡ inRange largest (newValue (sortMeans sort) x y) ⌝ }
 {
-    if small(x) {
-        if small(y) {
+    if within(ADDABLE, x) {
+        if within(ADDABLE, y) {
             return true;
         }
     }
@@ -44,15 +46,16 @@ pub fn new_value(sort: Sort, x: i64, y: i64) -> i64
 }
 
 fn new_value_within(sort: Sort, w: u64, x: i64, y: i64) -> bool
-    requires { ⌜ SFits w64 (newValue (sortMeans sort) x y) ⌝ }
+    requires { ⌜ (1 ≤ w) × (w ≤ largest) × SFits w64 (newValue (sortMeans sort) x y) ⌝ }
     ensures { λ r. ⌜ r ≡ inRange w (newValue (sortMeans sort) x y) ⌝ }
 {
-    magnitude(new_value(sort, x, y)) <= w
+    let v = new_value(sort, x, y);
+    within(w, v)
 }
 
 // The test of a step: of two numbers that are known to be small it is the value's alone.
 fn passes_test(sort: Sort, narrow: bool, w: u64, x: i64, y: i64) -> bool
-    requires { ⌜ (w ≤ largest) × (narrow ≡ true → (natAbs x ≤ addable) × (natAbs y ≤ addable)) ⌝ }
+    requires { ⌜ (1 ≤ w) × (w ≤ largest) × (narrow ≡ true → (natAbs x ≤ addable) × (natAbs y ≤ addable)) ⌝ }
     ensures { λ r. ⌜ r ≡ inRange w (newValue (sortMeans sort) x y) ⌝ }
 {
     if narrow {
@@ -73,7 +76,8 @@ pub(crate) fn entry_passes_test(
     i: usize,
     d: usize,
 ) -> bool
-    requires { ⌜ (d ≤ i) × (i < length (now a)) × (w ≤ largest) × (narrow ≡ true → Bounded addable (entries (now a))) ⌝ }
+    requires { ⌜ (d ≤ i) × (i < length (now a)) × (1 ≤ w) × (w ≤ largest) ⌝ }
+    requires { ⌜ (narrow ≡ true → Bounded addable (entries (now a))) ⌝ }
     ensures { λ r.
         ⌜ (r ≡ inRange w (newEntry (sortMeans sort) d (now (a .entry)) i)) × SFits w64 (entries (now (a .entry)) i) ⌝ }
 {

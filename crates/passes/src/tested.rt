@@ -18,7 +18,7 @@ use crate::order::place;
 
 // Takes the places in their order, and stops where the next value passes w; answers how many it took.
 fn take_tested(sort: Sort, narrow: bool, w: u64, a: &mut [i64], d: usize) -> usize
-    requires { ⌜ (1 ≤ d) × (d ≤ length (now a)) × (w ≤ largest) × (narrow ≡ true → Narrow w (now a)) ⌝ }
+    requires { ⌜ (1 ≤ d) × (d ≤ length (now a)) × (1 ≤ w) × (w ≤ largest) × (narrow ≡ true → Narrow w (now a)) ⌝ }
     ensures { λ r. ⌜ TestedTo w (sortMeans sort) d (now (a .entry)) (now (a .exit)) r ⌝ }
     ensures { λ r.
         ⌜ (r + d < length (now (a .entry)) → inRange w
@@ -53,7 +53,7 @@ fn undo(sort: Sort, a: &mut [i64], d: usize, taken: usize)
 
 // The step of either sort, whole; or, where a value passes w, nothing.
 pub fn step_or_undo(sort: Sort, narrow: bool, w: u64, a: &mut [i64], d: usize) -> bool
-    requires { ⌜ (1 ≤ d) × (d ≤ length (now a)) × (w ≤ largest) × (narrow ≡ true → Narrow w (now a)) ⌝ }
+    requires { ⌜ (1 ≤ d) × (d ≤ length (now a)) × (1 ≤ w) × (w ≤ largest) × (narrow ≡ true → Narrow w (now a)) ⌝ }
     ensures { λ r. ⌜ SteppedOrUndone w (sortMeans sort) d (now (a .entry)) (now (a .exit)) r ⌝ }
 {
     let t = take_tested(sort, narrow, w, a, d);

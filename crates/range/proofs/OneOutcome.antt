@@ -5,9 +5,9 @@ use contract.Lifetimes.{Lfts}
 use borrow.Fn.Kinds.{endedOf}
 use borrow.Fn.World.{ArgsD, ResD}
 use denote.Triple.Clauses.{AtExit}
-use Rattle.range.proofs.small as small
-use Rattle.range.proofs.small.Kinds as small-kinds
-use Rattle.range.proofs.small.Reads as small-reads
+use Rattle.range.proofs.within as within
+use Rattle.range.proofs.within.Kinds as within-kinds
+use Rattle.range.proofs.within.Reads as within-reads
 use Rattle.range.proofs.sum_fits as sum-fits
 use Rattle.range.proofs.sum_fits.Kinds as sum-fits-kinds
 use Rattle.range.proofs.sum_fits.Reads as sum-fits-reads
@@ -15,11 +15,11 @@ use Rattle.range.proofs.difference_fits as difference-fits
 use Rattle.range.proofs.difference_fits.Kinds as difference-fits-kinds
 use Rattle.range.proofs.difference_fits.Reads as difference-fits-reads
 
-pub small-one :
-    (κs : Lfts 0) (a : ArgsD small.signature κs) (z z′ : ResD small.signature κs)
-    (e e′ : AtExit (endedOf 0 small-kinds.ps small-kinds.r) κs)
-    → small-reads.Post κs a z e → small-reads.Post κs a z′ e′ → z ≡ z′
-small-one κs a z z′ e e′ p p′ = p ∙ sym p′
+pub within-one :
+    (κs : Lfts 0) (a : ArgsD within.signature κs) (z z′ : ResD within.signature κs)
+    (e e′ : AtExit (endedOf 0 within-kinds.ps within-kinds.r) κs)
+    → within-reads.Post κs a z e → within-reads.Post κs a z′ e′ → z ≡ z′
+within-one κs a z z′ e e′ p p′ = p ∙ sym p′
 
 pub sum-fits-one :
     (κs : Lfts 0) (a : ArgsD sum-fits.signature κs) (z z′ : ResD sum-fits.signature κs)

@@ -1,7 +1,8 @@
-// Inner: only `passes` uses it, and nothing is asked. Whether a sum or a difference lies in the range of a step, from
-// -(2^63 - 1) to 2^63 - 1, without taking it.
+// Inner: only `passes` uses it, and shows the `requires`. Whether a number is within a limit, and whether a sum or a
+// difference is within the largest, from -(2^63 - 1) to 2^63 - 1, without taking it.
 
 ghost use mathlib.Core.Path.{_≡_};
+ghost use Prim.Native.Nat.{_≤_};
 ghost use Rattle.definitions.specs.Integers.{_⊕_, _⊝_};
 ghost use Rattle.definitions.specs.Steps.{inRange, largest};
 
@@ -9,11 +10,14 @@ const MOST: i64 = 9223372036854775807;
 
 const LEAST: i64 = -9223372036854775807;
 
-// Is x at most 2^62 - 1 in magnitude? The sum and the difference of two such numbers are in range.
-pub fn small(x: i64) -> bool
-    ensures { λ r. ⌜ r ≡ inRange 4611686018427387903 x ⌝ }
+// Is v from -w to w?
+pub fn within(w: u64, v: i64) -> bool
+    requires { ⌜ (1 ≤ w) × (w ≤ largest) ⌝ }
+    ensures { λ r. ⌜ r ≡ inRange w v ⌝ }
 {
-    -4611686018427387903 <= x && x <= 4611686018427387903
+    let most = w as i64;
+    let least = -most;
+    least <= v && v <= most
 }
 
 // Is a + b in range? The sign of b says which end of the range can be passed.

@@ -135,14 +135,15 @@ abs-mag (negsuc n) = omega arith
 pub abs-negℤ : (v : ℤ) → natAbs (negℤ v) ≤ suc (mag v)
 abs-negℤ v = rw abs-neg (abs-mag v)
 
--- within ±(q + 1): the lower test first, and where it holds the upper one
-module _ (q : ℕ) where
-  pub above-test : (x : ℤ) → leZ (negsuc q) x ≡ true → leZ x (pos (suc q)) ≡ inRange (suc q) x
-  unfolding inRange
-  above-test (pos n) h = refl
-  above-test (negsuc n) h = sym (le-leb (suc n) (suc q) (omega (arith, leb-true n q h)))
+-- within ±w: the lower test, and where it holds the upper one
+pub above-test : (w : ℕ) (x : ℤ) → 1 ≤ w → leZ (negℤ (pos w)) x ≡ true → leZ x (pos w) ≡ inRange w x
+unfolding inRange
+above-test zero x one h = absurd (not-suc-le-zero one)
+above-test (suc q) (pos n) one h = refl
+above-test (suc q) (negsuc n) one h = sym (le-leb (suc n) (suc q) (omega (arith, leb-true n q h)))
 
-  pub below-test : (x : ℤ) → leZ (negsuc q) x ≡ false → leZ (negsuc q) x ≡ inRange (suc q) x
-  unfolding inRange
-  below-test (pos n) h = absurd (true≢false h)
-  below-test (negsuc n) h = h ∙ sym (lt-leb (suc n) (suc q) (omega (arith, leb-false n q h)))
+pub below-test : (w : ℕ) (x : ℤ) → 1 ≤ w → leZ (negℤ (pos w)) x ≡ false → leZ (negℤ (pos w)) x ≡ inRange w x
+unfolding inRange
+below-test zero x one h = absurd (not-suc-le-zero one)
+below-test (suc q) (pos n) one h = absurd (true≢false h)
+below-test (suc q) (negsuc n) one h = h ∙ sym (lt-leb (suc n) (suc q) (omega (arith, leb-false n q h)))
