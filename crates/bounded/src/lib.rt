@@ -54,7 +54,7 @@ fn smaller(a: u64, b: u64) -> u64
 
 // A step that looks at each value, and before at whether it can be taken.
 fn take_wide(a: &mut [i64], sort: Sort, d: u64, bound: u64, w: u64) -> StepOutcome
-    requires { ⌜ (1 ≤ d) × (d < length (now a)) × Bounded bound (entries (now a)) × (w ≤ largest) ⌝ }
+    requires { ⌜ (1 ≤ d) × (d < length (now a)) × Bounded bound (entries (now a)) × (1 ≤ w) × (w ≤ largest) ⌝ }
     ensures { λ r. ⌜ StepOutcomeIs w (sortMeans sort) d bound (now (a .entry)) (now (a .exit)) r ⌝ }
 {
     let done = step_or_undo(sort, false, w, a, d as usize);
@@ -67,7 +67,8 @@ fn take_wide(a: &mut [i64], sort: Sort, d: u64, bound: u64, w: u64) -> StepOutco
 // A step on entries that can all be added: first under a limit that keeps them so. Where that is passed and w is above
 // it, the step is taken once more.
 fn take_narrow(a: &mut [i64], sort: Sort, d: u64, bound: u64, w: u64) -> StepOutcome
-    requires { ⌜ (1 ≤ d) × (d < length (now a)) × Bounded bound (entries (now a)) × (w ≤ largest) × (bound ≤ addable) ⌝ }
+    requires { ⌜ (1 ≤ d) × (d < length (now a)) × Bounded bound (entries (now a)) × (1 ≤ w) × (w ≤ largest) ⌝ }
+    requires { ⌜ bound ≤ addable ⌝ }
     ensures { λ r. ⌜ StepOutcomeIs w (sortMeans sort) d bound (now (a .entry)) (now (a .exit)) r ⌝ }
 {
     let most = smaller(w, ADDABLE);
@@ -85,7 +86,7 @@ fn take_narrow(a: &mut [i64], sort: Sort, d: u64, bound: u64, w: u64) -> StepOut
 
 // One step on entries of magnitude at most `bound`: untested where these can't grow past w.
 pub fn take_step(a: &mut [i64], sort: Sort, d: u64, bound: u64, w: u64) -> StepOutcome
-    requires { ⌜ (1 ≤ d) × Bounded bound (entries (now a)) × (w ≤ largest) ⌝ }
+    requires { ⌜ (1 ≤ d) × Bounded bound (entries (now a)) × (1 ≤ w) × (w ≤ largest) ⌝ }
     ensures { λ r. ⌜ StepOutcomeIs w (sortMeans sort) d bound (now (a .entry)) (now (a .exit)) r ⌝ }
 {
     let n = a.len() as u64;

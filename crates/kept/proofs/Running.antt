@@ -71,7 +71,7 @@ pub record Running (limit kind r i additions bound : ℕ) (at : Walk) (a : List 
   pub half : a ≡ keptHalf kind r i
   pub bounded : Bounded bound (entries a)
   pub inside : bound ≤ limit
-  pub range : limit ≤ largest
+  pub good : Workable limit
   pub clear : overAmong limit kind r i ≡ false
   pub sum : additions ≡ additionsAfter kind r i
 
@@ -94,7 +94,7 @@ module _ (limit kind r : ℕ) (O : OddSquarefree r) (small : r ≤ 65535) (above
         half = s .half ∙ sym (ap₂ (keptHalf kind) of-r at-i);
         bounded = s .bounded;
         inside = s .inside;
-        range = s .range;
+        good = s .good;
       }
 
   pub more-due : 0 < at .due
@@ -117,7 +117,7 @@ module _ (limit kind r : ℕ) (O : OddSquarefree r) (small : r ≤ 65535) (above
           half = u .half o ∙ ap₂ (λ x k. keptHalf kind x (suc k)) of-r at-i;
           bounded = u .bounded o;
           inside = u .inside;
-          range = s .range;
+          good = s .good;
           clear = ap₂ _||_ (s .clear) (sym over-here ∙ o);
           sum = ap₂ _+_ (s .sum) count-here ∙ sym (sum-next kind r i h);
         })
@@ -156,7 +156,7 @@ run-start limit kind r at a s e =
       half = s .half ∙ ap₂ (keptHalf kind) (ap (λ (w : Walk). w .r) e) (ap taken e ∙ taken-at r 0 (omega arith));
       bounded = s .bounded;
       inside = s .inside;
-      range = s .range;
+      good = s .good;
       clear = refl;
       sum = refl;
     }
@@ -212,7 +212,7 @@ fresh-stands limit kind w l n good f len e =
           ∙ sym (ap (keptHalf kind (w .r)) (ap taken (f .here) ∙ taken-at (w .r) 0 (omega arith)));
       bounded = rw e (start-bounded kind n);
       inside = good .0;
-      range = good .1;
+      good = good;
     }
 
 pub made-zeros : (limit kind r j : ℕ) (m l : List ℤ) (h : RunOutcome) → RunOutcomeIs limit kind r j m h → h .over ≡ true

@@ -31,7 +31,7 @@ pub record KeptHalfAt (limit kind : ℕ) (w : Walk) (bound : ℕ) (l : List ℤ)
   pub half : l ≡ keptHalf kind (w .r) (taken w)
   pub bounded : Bounded bound (entries l)
   pub inside : bound ≤ limit
-  pub range : limit ≤ largest
+  pub good : Workable limit
 
 -- the next divisor's step was taken, and left m
 pub record DivisorOutcomeIs (limit kind : ℕ) (w : Walk) (m : List ℤ) (r : DivisorOutcome) : Type 0 where

@@ -1,11 +1,12 @@
 -- A signed local is its bits, so a number that was read is `seen`: the number of its own bits. It is the number itself
 -- where that fits, and the tests of `Signed` are stated here of what the machine sees.
-use mathlib.Core.Path.{_≡_, sym, _∙_, ap, ap₂}
+use mathlib.Core.Path.{_≡_, refl, sym, _∙_, ap, ap₂}
 use mathlib.Core.Bool.{Bool, true, false, true≢false}
-use Prim.Native.Nat.{ℕ, suc, _≤_}
+use Prim.Native.Nat.{ℕ, zero, suc, _^_, _<_, _≤_}
 use native.Mathlib.Omega.{arith}
-use lib.IntN.{ℤ, pos, negsuc, natAbs, negℤ, _+ℤ_}
-use lib.Signed.{leZ, ltZ}
+use borrow.Author.Tests.{lt-ltb}
+use lib.IntN.{ℤ, pos, negsuc, natAbs, negℤ, _+ℤ_, _-ℤ_}
+use lib.Signed.{leZ, ltZ, mag}
 use mir.Syntax.{w64}
 use mir.Val.{SFits, toZ, ofZ}
 use mir.Facts.{toZ-ofZ}
@@ -36,6 +37,25 @@ range-fits v e = record { sfits = omega (arith, mag-abs v, range-in largest v e)
 -- a number that a test says to be within w
 pub within : (w : ℕ) (a : ℤ) {r : Bool} → SFits w64 a → r ≡ inRange w (seen a) → r ≡ true → natAbs a ≤ w
 within w a f e t = range-in w a (ap (inRange w) (sym (toZ-ofZ f)) ∙ sym e ∙ t)
+
+-- a limit as a machine number, and its negative
+module _ (w : ℕ) (most : w ≤ largest) where
+  pub limit-fits : SFits w64 (pos w)
+  limit-fits = record { sfits = omega arith }
+
+  zero-less : (n : ℕ) → pos 0 -ℤ pos n ≡ negℤ (pos n)
+  zero-less zero = refl
+  zero-less (suc q) = rw (lt-ltb 0 (suc q) (omega arith)) (ap negsuc (omega arith))
+
+  pub negative : pos 0 -ℤ toZ w64 w ≡ negℤ (pos w)
+  negative = ap (λ v. pos 0 -ℤ v) (toZ-ofZ limit-fits) ∙ zero-less w
+
+  negative-small : (n : ℕ) → n ≤ largest → mag (negℤ (pos n)) < 2 ^ 63
+  negative-small zero h = omega arith
+  negative-small (suc q) h = omega arith
+
+  pub negative-fits : SFits w64 (pos 0 -ℤ toZ w64 w)
+  negative-fits = rw negative (record { sfits = negative-small w most })
 
 -- the test of a - e by e's sign: the bound that is tested fits, and the test is that of the range
 module _ (e : ℤ) (he : natAbs e ≤ suc largest) where

@@ -17,10 +17,11 @@ step-or-undo-requires c κs =
     let q = c .before in
     let p = q .before .pre in
     let e = q .smaller .ensures in (
-      p .0,
-      omega (arith, p .1),
-      omega (arith, e, p .3),
-      λ _. record { limit = omega (arith, e); small = λ k. le-trans (p .2 k) (p .4) },
+      p .0 .0,
+      omega (arith, p .0 .1),
+      omega (arith, e, p .0 .3),
+      omega (arith, e, p .0 .4),
+      λ _. record { limit = omega (arith, e); small = λ k. le-trans (p .0 .2 k) (p .1) },
     )
 
 larger-requires : tie.Need-larger-requires
@@ -34,7 +35,7 @@ returns c =
     let q = c .before .before .before in
     let n = q .before .before in
     rw (c .larger .ensures)
-    (done (q .step-or-undo .ensures) (c .before .if1 .taken) (omega (arith, n .smaller .ensures)) (n .before .pre .2))
+    (done (q .step-or-undo .ensures) (c .before .if1 .taken) (omega (arith, n .smaller .ensures)) (n .before .pre .0 .2))
 
 same-length-2 : tie.Need-same-length-2
 same-length-2 c = search needs
@@ -61,7 +62,7 @@ module _ (c : tie.Else2) where
 
 take-wide-requires : tie.Need-take-wide-requires
 take-wide-requires c κs =
-    let p = start (c .before) .pre in rw (again (c .before)) (p .0, p .1, p .2, p .3)
+    rw (again (c .before)) (start (c .before) .pre .0)
 
 same-length-3 : tie.Need-same-length-3
 same-length-3 c = search needs

@@ -23,7 +23,7 @@ take-step-requires c κs =
     let g = size-good (p .args .w) (p .args .kind) (p .args .walk) (p .args .bound) (p .args .a .now) (p .pre .0) (p .pre .1) _
     (q .before .before .before .next .ensures) (q .next2 .given .0 .0) (q .next2 .given .0 .1 .0)
     (q .next2 .given .1) in
-    (g, p .pre .0 .bounded, p .pre .0 .range)
+    (g, p .pre .0 .bounded, p .pre .0 .good .0, p .pre .0 .good .1)
 
 count-of-requires : tie.Need-count-of-requires
 count-of-requires c κs = search needs

@@ -1,6 +1,7 @@
 -- `passes::entry::new_value_fits` meets its contract: the value of two small numbers is in range, and else each arm
 -- tests that of its own sort.
 use mathlib.Core.Path.{sym, _∙_, ap}
+use native.Mathlib.Omega.{arith}
 use borrow.Author.Needs.{needs}
 use Rattle.definitions.specs.Integers.{_⊕_, _⊝_}
 use Rattle.definitions.specs.Steps.{inRange, largest}
@@ -11,18 +12,18 @@ use Rattle.passes.proofs.Values.{small-in-range}
 use Rattle.passes.proofs.entry.new_value_fits.Statement.{statement}
 use Rattle.passes.proofs.entry.new_value_fits.Tie as tie
 
-small-requires : tie.Need-small-requires
-small-requires c κs = search needs
+within-requires : tie.Need-within-requires
+within-requires c κs = (omega arith, omega arith)
 
-small-requires-2 : tie.Need-small-requires-2
-small-requires-2 c κs = search needs
+within-requires-2 : tie.Need-within-requires-2
+within-requires-2 c κs = (omega arith, omega arith)
 
 returns : tie.Need-returns
 returns c =
     let s = c .before .before .before .before in
-    let hx = within addable (s .args .x) (s .fits .x) (c .before .before .before .small .ensures)
+    let hx = within addable (s .args .x) (s .fits .x) (c .before .before .before .within .ensures)
     (c .before .before .if1 .taken) in
-    let hy = within addable (s .args .y) (s .fits .y) (c .before .small2 .ensures) (c .if2 .taken) in
+    let hy = within addable (s .args .y) (s .fits .y) (c .before .within2 .ensures) (c .if2 .taken) in
     sym (small-in-range (sortMeans (s .args .sort)) (s .args .x) (s .args .y) hx hy)
 
 enum-told : tie.Need-enum-told
@@ -53,8 +54,8 @@ pub new-value-fits-spec : {M : Type 1} → statement M
 new-value-fits-spec =
     tie.close
     (tie.spec
-    small-requires
-    small-requires-2
+    within-requires
+    within-requires-2
     returns
     enum-told
     difference-fits-requires

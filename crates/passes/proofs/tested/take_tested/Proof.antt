@@ -40,10 +40,8 @@ entry-passes-test-requires c κs =
     let q = c .before .before .before in
     let p = q .loop .inv .read .passed in
     let e = c .before .place .ensures in (
-      next-from p (left (c .before .before)) e,
-      next-below p (left (c .before .before)) e,
-      q .before .pre .2,
-      λ narrow. still-small (q .loop .inv) (q .before .pre .3 narrow),
+      (next-from p (left (c .before .before)) e, next-below p (left (c .before .before)) e, q .before .pre .2, q .before .pre .3),
+      λ narrow. still-small (q .loop .inv) (q .before .pre .4 narrow),
     )
 
 same-length : tie.Need-same-length Inv-loop μ-loop
@@ -78,7 +76,7 @@ step-entry-requires c κs =
     let q = c .before .before .before .before in
     let p = q .before .before .loop .inv .read .passed in
     let h = left (q .before) in
-    (next-from p h (q .place .ensures), next-below p h (q .place .ensures), range-fits _ (range-more (q .before .before .before .pre .2) _ (passed (c .before))))
+    (next-from p h (q .place .ensures), next-below p h (q .place .ensures), range-fits _ (range-more (q .before .before .before .pre .3) _ (passed (c .before))))
 
 add-t : tie.Need-add-t Inv-loop μ-loop
 add-t c = omega (arith, left (c .before .before .before .before .before .before .before))

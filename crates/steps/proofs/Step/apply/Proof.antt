@@ -12,6 +12,7 @@ use Rattle.definitions.specs.Codes.{DONE, OVER}
 use Rattle.definitions.specs.Steps.{Sort, entries, stepOver, stepList, belowOne, stepCode, stepCount, stepLeaves}
 use Rattle.step_laws.specs.Told.{Told, told-zero, told-large, told-limit, told-over, told-done, told-long}
 use Rattle.step_laws.specs.Machine.{seen, below-one, limit-within}
+use Rattle.step_laws.specs.WorkingLimit.{good-limit}
 use Rattle.heights.proofs.Looks.{entry-height}
 use Rattle.bounded.specs.Outcome.{StepOutcomeIs}
 use Rattle.bounded.specs.declared.StepOutcome.{StepOutcome}
@@ -103,6 +104,7 @@ take-step-requires c κs =
     let p = start q in (
       one q,
       λ k. rw (c .before .height .ensures) (entry-height (p .args .a .now) k),
+      rw (limit q (c .magnitude .ensures)) (good-limit (p .args .w) (good q) .1),
       rw (limit q (c .magnitude .ensures)) (limit-within (p .args .w) (p .fits .w) (good q)),
     )
 
