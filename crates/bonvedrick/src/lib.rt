@@ -40,11 +40,11 @@ pub extern "C" fn bv_comb(size: u64, w: i64, buf: &mut [i64]) -> Stepped
     ensures count { λ r. ⌜ r .count ≡ stepCount w comb size (now (buf .entry)) ⌝ }
     ensures leaves { λ _. ⌜ now (buf .exit) ≡ stepLeaves w comb size (now (buf .entry)) ⌝ }
 {
-    let step = Step {
+    let comb = Step {
         sort: Sort::Comb,
         size,
     };
-    step.apply(w, buf)
+    comb.apply(w, buf)
 }
 
 // An accumulate on its own, within w.
@@ -54,11 +54,11 @@ pub extern "C" fn bv_accumulate(size: u64, w: i64, buf: &mut [i64]) -> Stepped
     ensures count { λ r. ⌜ r .count ≡ stepCount w accumulate size (now (buf .entry)) ⌝ }
     ensures leaves { λ _. ⌜ now (buf .exit) ≡ stepLeaves w accumulate size (now (buf .entry)) ⌝ }
 {
-    let step = Step {
+    let accumulate = Step {
         sort: Sort::Accumulate,
         size,
     };
-    step.apply(w, buf)
+    accumulate.apply(w, buf)
 }
 
 // The record of some coefficients, in the bytes lent.

@@ -42,7 +42,7 @@ impl Step {
             return Stepped::refused(answers::STEP);
         }
         if 65535 < size {
-            return Stepped::refused(answers::STEP);
+            return Stepped::refused(answers::STEP); // as for an index
         }
         if w < 1 {
             return Stepped::refused(answers::LIMIT);
