@@ -1,6 +1,7 @@
 // Inner: nothing here is offered to callers; the `requires` is shown by `kept` and `steps`. One step under a working
 // limit w, on entries whose magnitudes are bounded: where none can pass w it needs no test, and where all can be added
 // and taken away it needs that of w alone.
+use heights::height;
 use heights::larger;
 use passes::Sort;
 use passes::step_or_undo;
@@ -23,6 +24,9 @@ pub struct StepOutcome {
 
 // 2^62 - 1: two numbers that are no larger can be added and taken away.
 const ADDABLE: u64 = 4611686018427387903;
+
+// 2^47: a step on up to 2^15 entries of this magnitude stays within the largest limit.
+const LARGE: u64 = 140737488355328;
 
 // How often a step of size d can add the largest magnitude of n entries to itself.
 fn times_added(sort: Sort, d: u64, n: u64) -> u64
@@ -85,7 +89,7 @@ fn take_narrow(a: &mut [i64], sort: Sort, d: u64, bound: u64, w: u64) -> StepOut
 }
 
 // One step on entries of magnitude at most `bound`: untested where these can't grow past w.
-pub fn take_step(a: &mut [i64], sort: Sort, d: u64, bound: u64, w: u64) -> StepOutcome
+pub fn take_bounded(a: &mut [i64], sort: Sort, d: u64, bound: u64, w: u64) -> StepOutcome
     requires { ⌜ (1 ≤ d) × Bounded bound (entries (now a)) × (1 ≤ w) × (w ≤ largest) ⌝ }
     ensures { λ r. ⌜ StepOutcomeIs w (sortMeans sort) d bound (now (a .entry)) (now (a .exit)) r ⌝ }
 {
@@ -106,4 +110,16 @@ pub fn take_step(a: &mut [i64], sort: Sort, d: u64, bound: u64, w: u64) -> StepO
         return take_narrow(a, sort, d, bound, w);
     }
     take_wide(a, sort, d, bound, w)
+}
+
+// The same in a run of steps, each of which multiplies the bound: where it has grown large, a look at the entries gives
+// the true one, with which the steps go on untested.
+pub fn take_step(a: &mut [i64], sort: Sort, d: u64, bound: u64, w: u64) -> StepOutcome
+    requires { ⌜ (1 ≤ d) × Bounded bound (entries (now a)) × (1 ≤ w) × (w ≤ largest) ⌝ }
+    ensures { λ r. ⌜ StepOutcomeIs w (sortMeans sort) d bound (now (a .entry)) (now (a .exit)) r ⌝ }
+{
+    if bound <= LARGE {
+        return take_bounded(a, sort, d, bound, w);
+    }
+    take_bounded(a, sort, d, height(a), w)
 }

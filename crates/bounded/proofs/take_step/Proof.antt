@@ -1,105 +1,47 @@
--- `take_step` meets its contract: a step that is too long changes nothing, and one whose growth stays within w needs no
--- test (Untested).
-use mathlib.Core.Path.{_≡_}
-use mathlib.Core.Bool.{false}
+-- `take_step` meets its contract: the height is a bound too, and no larger.
 use borrow.Author.Needs.{needs}
-use Prim.Native.Nat.{ℕ, _+_, _*_, _≤_}
-use native.Mathlib.Omega.{arith}
-use Rattle.definitions.specs.Steps.{entries, largest, stepOver, stepList}
-use Rattle.step_laws.specs.Bound.{Bounded}
-use Rattle.passes.specs.Sorts.{sortMeans}
-use Rattle.bounded.proofs.Untested.{grown, under, long}
+use Rattle.definitions.specs.Steps.{entries}
+use Rattle.heights.proofs.Looks.{entry-height, height-most}
+use Rattle.bounded.proofs.Outcomes.{of-smaller}
 use Rattle.bounded.proofs.take_step.Statement.{statement}
 use Rattle.bounded.proofs.take_step.Tie as tie
 
-returns : tie.Need-returns
-returns c =
-    let p = c .before in
-    long (p .args .w) (sortMeans (p .args .sort)) (p .args .d) (p .args .bound) (p .args .a .now) (c .if1 .taken)
-    (p .pre .1)
-
-times-added-requires : tie.Need-times-added-requires
-times-added-requires c κs = search needs
-
-stays-within-requires : tie.Need-stays-within-requires
-stays-within-requires c κs = search needs
-
--- the growth stays within w where the test held
-module _ (c : tie.Then2) where
-  abbrev start : tie.Start
-  start = c .before .before .before .before
-
-  abbrev times : ℕ
-  times = c .before .before .times-added .result
-
-  most : start .args .bound * times + start .args .bound ≤ start .args .w
-  most = c .before .stays-within .ensures (c .if2 .taken)
-
-  none : (w : ℕ) → start .args .bound * times + start .args .bound ≤ w
-      → (stepOver w (sortMeans (start .args .sort)) (start .args .d) (start .args .a .now) ≡ false)
-      × Bounded (start .args .bound * times + start .args .bound)
-      (entries (stepList (sortMeans (start .args .sort)) (start .args .d) (start .args .a .now)))
-  none =
-      grown (sortMeans (start .args .sort)) (start .args .d) (start .args .bound) (start .pre .0) (start .args .a .now)
-      (start .pre .1) (c .before .before .times-added .ensures .1 (start .args .bound))
-
-mul-grown : tie.Need-mul-grown
-mul-grown c = omega (arith, most c, start c .pre .3)
-
-add-grown : tie.Need-add-grown
-add-grown c = omega (arith, most c, start c .pre .3)
-
-untested-step-requires : tie.Need-untested-step-requires
-untested-step-requires c κs =
-    let q = c .before in
-    (start q .pre .0, none q largest (omega (arith, most q, start q .pre .3)) .0)
+take-bounded-requires : tie.Need-take-bounded-requires
+take-bounded-requires c κs = search needs
 
 same-length : tie.Need-same-length
 same-length c = search needs
 
-returns-2 : tie.Need-returns-2
-returns-2 c =
-    let q = c .before .before .before in
-    let p = start q in
-    under (p .args .w) (sortMeans (p .args .sort)) (p .args .d) (p .args .bound) (p .args .a .now)
-    (none q (p .args .w) (most q)) (c .before .untested-step .ensures) (λ _. most q)
+returns : tie.Need-returns
+returns c = search needs
 
-take-narrow-requires : tie.Need-take-narrow-requires
-take-narrow-requires c κs =
-    let p = c .before .before .before .before .before .before in
-    ((p .pre .0, omega arith, p .pre .1, p .pre .2, p .pre .3), c .before .if3 .taken)
+height-requires : tie.Need-height-requires
+height-requires c κs = search needs
+
+take-bounded-requires-2 : tie.Need-take-bounded-requires-2
+unfolding entries
+take-bounded-requires-2 c κs =
+    let p = c .before .before .before .before in
+    (p .pre .0, λ k. rw (c .height .ensures) (entry-height (p .args .a .now) k), p .pre .2, p .pre .3)
 
 same-length-2 : tie.Need-same-length-2
 same-length-2 c = search needs
 
-returns-3 : tie.Need-returns-3
-returns-3 c = search needs
-
-take-wide-requires : tie.Need-take-wide-requires
-take-wide-requires c κs =
-    let p = c .before .before .before .before .before .before in (p .pre .0, omega arith, p .pre .1, p .pre .2, p .pre .3)
-
-same-length-3 : tie.Need-same-length-3
-same-length-3 c = search needs
-
-returns-4 : tie.Need-returns-4
-returns-4 c = search needs
+returns-2 : tie.Need-returns-2
+unfolding entries
+returns-2 c =
+    let p = c .before .before .before .before .before .before in
+    of-smaller (rw (c .before .before .height .ensures) (height-most (p .args .a .now) (p .args .bound) (p .pre .1)))
+    (c .before .take-bounded2 .ensures)
 
 pub take-step-spec : {M : Type 1} → statement M
 take-step-spec =
     tie.close
     (tie.spec
-    returns
-    times-added-requires
-    stays-within-requires
-    mul-grown
-    add-grown
-    untested-step-requires
+    take-bounded-requires
     same-length
-    returns-2
-    take-narrow-requires
+    returns
+    height-requires
+    take-bounded-requires-2
     same-length-2
-    returns-3
-    take-wide-requires
-    same-length-3
-    returns-4)
+    returns-2)

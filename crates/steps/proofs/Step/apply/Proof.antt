@@ -97,9 +97,9 @@ height-requires c κs = search needs
 magnitude-requires : tie.Need-magnitude-requires
 magnitude-requires c κs = search needs
 
-take-step-requires : tie.Need-take-step-requires
+take-bounded-requires : tie.Need-take-bounded-requires
 unfolding entries
-take-step-requires c κs =
+take-bounded-requires c κs =
     let q = c .before .before .before .before .before in
     let p = start q in (
       one q,
@@ -109,7 +109,7 @@ take-step-requires c κs =
     )
 
 -- the step was taken or not
-module _ (t : tie.After-take-step) where
+module _ (t : tie.After-take-bounded) where
   abbrev asked : tie.Else3
   asked = t .before .before .before .before .before .before
 
@@ -127,7 +127,7 @@ returns-5 c =
     let t = c .before .before .before in
     let q = asked t in
     rw (c .refused4 .ensures)
-    (clauses (over (start q .args .w) (is-limit t) (t .take-step .ensures) (one q) (most q) (good q)
+    (clauses (over (start q .args .w) (is-limit t) (t .take-bounded .ensures) (one q) (most q) (good q)
     (c .before .if5 .taken)))
 
 sub-count : tie.Need-sub-count
@@ -140,7 +140,7 @@ returns-6 : tie.Need-returns-6
 returns-6 c =
     let t = c .before .before in
     let q = asked t in
-    clauses (done (start q .args .w) (is-limit t) (t .take-step .ensures) (one q) (most q) (good q) (c .if5 .left))
+    clauses (done (start q .args .w) (is-limit t) (t .take-bounded .ensures) (one q) (most q) (good q) (c .if5 .left))
 
 pub apply-spec : {M : Type 1} → statement M
 apply-spec =
@@ -155,7 +155,7 @@ apply-spec =
     returns-4
     height-requires
     magnitude-requires
-    take-step-requires
+    take-bounded-requires
     refused-requires-4
     same-length
     returns-5
