@@ -1,8 +1,8 @@
 // Inner: nothing here is offered to callers; the `requires` is shown by `kept` and `steps`. One step under a working
 // limit w, on entries whose magnitudes are bounded: where none can pass w it needs no test, and where all can be added
 // and taken away it needs that of w alone.
-use heights::height;
 use heights::larger;
+use heights::magnitude;
 use passes::Sort;
 use passes::step_or_undo;
 use untested::untested_step;
@@ -25,7 +25,8 @@ pub struct StepOutcome {
 // 2^62 - 1: two numbers that are no larger can be added and taken away.
 const ADDABLE: u64 = 4611686018427387903;
 
-// 2^47: a step on up to 2^15 entries of this magnitude stays within the largest limit.
+// 2^47: up to here a look is not worth its time. A step on up to 2^15 entries stays within the largest limit, and under a
+// smaller one the entries' own magnitudes are mostly no better.
 const LARGE: u64 = 140737488355328;
 
 // How often a step of size d can add the largest magnitude of n entries to itself.
@@ -112,14 +113,44 @@ pub fn take_bounded(a: &mut [i64], sort: Sort, d: u64, bound: u64, w: u64) -> St
     take_wide(a, sort, d, bound, w)
 }
 
-// The same in a run of steps, each of which multiplies the bound: where it has grown large, a look at the entries gives
-// the true one, with which the steps go on untested.
+// A bound by a look at the entries: all magnitudes, one bit upon the other. It is below twice the height, and a loop that
+// never stops can be made one of vectors.
+pub fn look(a: &[i64]) -> u64
+    ensures { λ r. ⌜ Bounded r (entries (now (a .entry))) ⌝ }
+{
+    let mut all: u64 = 0;
+    let mut i = 0;
+    while i < a.len() {
+        all = all | magnitude(a[i]);
+        i += 1;
+    }
+    all
+}
+
+// The bound of a run of steps, each of which multiplies it; or, where that has grown so large that a step would have to
+// be tested, one by a look at the entries.
+fn better_bound(a: &[i64], sort: Sort, d: u64, bound: u64, w: u64) -> u64
+    requires { ⌜ (1 ≤ d) × Bounded bound (entries (now a)) ⌝ }
+    ensures { λ r. ⌜ Bounded r (entries (now (a .entry))) × (r ≤ bound) ⌝ }
+{
+    if bound <= LARGE {
+        return bound;
+    }
+    let n = a.len() as u64;
+    if n <= d {
+        return bound;
+    }
+    if stays_within(bound, times_added(sort, d, n), w) {
+        return bound;
+    }
+    smaller(bound, look(a))
+}
+
+// One step of a run.
 pub fn take_step(a: &mut [i64], sort: Sort, d: u64, bound: u64, w: u64) -> StepOutcome
     requires { ⌜ (1 ≤ d) × Bounded bound (entries (now a)) × (1 ≤ w) × (w ≤ largest) ⌝ }
     ensures { λ r. ⌜ StepOutcomeIs w (sortMeans sort) d bound (now (a .entry)) (now (a .exit)) r ⌝ }
 {
-    if bound <= LARGE {
-        return take_bounded(a, sort, d, bound, w);
-    }
-    take_bounded(a, sort, d, height(a), w)
+    let known = better_bound(a, sort, d, bound, w);
+    take_bounded(a, sort, d, known, w)
 }

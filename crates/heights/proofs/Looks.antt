@@ -1,5 +1,5 @@
 -- One turn of the look over the entries of a slice: the largest so far and the height of what is left. And that no entry
--- is larger than the height, which is the least such number.
+-- is larger than the height.
 use Prim.Native.Nat.{ℕ, zero, suc, _+_, _<_, _≤_, max}
 use mathlib.Core.Path.{_≡_}
 use mathlib.Core.List.{List, [], _∷_}
@@ -30,8 +30,3 @@ unfolding heightOf
 entry-height [] i = omega arith
 entry-height (c ∷ cs) zero = omega arith
 entry-height (c ∷ cs) (suc i) = omega (arith, entry-height cs i)
-
-pub height-most : (cs : List ℤ) (b : ℕ) → ((i : ℕ) → natAbs (getD cs i (pos 0)) ≤ b) → heightOf cs ≤ b
-unfolding heightOf
-height-most [] b h = omega arith
-height-most (c ∷ cs) b h = omega (arith, h 0, height-most cs b (λ i. h (suc i)))

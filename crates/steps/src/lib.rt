@@ -3,8 +3,8 @@
 ghost use mathlib.Core.Path.{_≡_};
 ghost use Rattle.definitions.specs.Steps.{stepCode, stepCount, stepLeaves};
 ghost use Rattle.passes.specs.Sorts.{sortMeans};
+use bounded::look;
 use bounded::take_bounded;
-use heights::height;
 use heights::magnitude;
 pub use passes::Sort;
 
@@ -54,7 +54,7 @@ impl Step {
                 count: 0,
             };
         }
-        let outcome = take_bounded(a, sort, size, height(a), magnitude(w));
+        let outcome = take_bounded(a, sort, size, look(a), magnitude(w));
         if outcome.over {
             return Stepped::refused(answers::OVER);
         }

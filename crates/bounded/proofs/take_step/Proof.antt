@@ -1,47 +1,21 @@
--- `take_step` meets its contract: the height is a bound too, and no larger.
+-- `take_step` meets its contract: what is known is a bound too, and no larger.
 use borrow.Author.Needs.{needs}
-use Rattle.definitions.specs.Steps.{entries}
-use Rattle.heights.proofs.Looks.{entry-height, height-most}
 use Rattle.bounded.proofs.Outcomes.{of-smaller}
 use Rattle.bounded.proofs.take_step.Statement.{statement}
 use Rattle.bounded.proofs.take_step.Tie as tie
 
+better-bound-requires : tie.Need-better-bound-requires
+better-bound-requires c κs = let p = c .before .pre in (p .0, p .1)
+
 take-bounded-requires : tie.Need-take-bounded-requires
-take-bounded-requires c κs = search needs
+take-bounded-requires c κs =
+    let p = c .before .before .before .pre in (p .0, c .before .better-bound .ensures .0, p .2, p .3)
 
 same-length : tie.Need-same-length
 same-length c = search needs
 
 returns : tie.Need-returns
-returns c = search needs
-
-height-requires : tie.Need-height-requires
-height-requires c κs = search needs
-
-take-bounded-requires-2 : tie.Need-take-bounded-requires-2
-unfolding entries
-take-bounded-requires-2 c κs =
-    let p = c .before .before .before .before in
-    (p .pre .0, λ k. rw (c .height .ensures) (entry-height (p .args .a .now) k), p .pre .2, p .pre .3)
-
-same-length-2 : tie.Need-same-length-2
-same-length-2 c = search needs
-
-returns-2 : tie.Need-returns-2
-unfolding entries
-returns-2 c =
-    let p = c .before .before .before .before .before .before in
-    of-smaller (rw (c .before .before .height .ensures) (height-most (p .args .a .now) (p .args .bound) (p .pre .1)))
-    (c .before .take-bounded2 .ensures)
+returns c = of-smaller (c .before .before .before .better-bound .ensures .1) (c .before .take-bounded .ensures)
 
 pub take-step-spec : {M : Type 1} → statement M
-take-step-spec =
-    tie.close
-    (tie.spec
-    take-bounded-requires
-    same-length
-    returns
-    height-requires
-    take-bounded-requires-2
-    same-length-2
-    returns-2)
+take-step-spec = tie.close (tie.spec better-bound-requires take-bounded-requires same-length returns)

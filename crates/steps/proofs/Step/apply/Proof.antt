@@ -9,11 +9,10 @@ use lib.ListN.{length}
 use lib.IntN.{ℤ, natAbs}
 use mir.Facts.{toZ-ofZ}
 use Rattle.definitions.specs.Codes.{DONE, OVER}
-use Rattle.definitions.specs.Steps.{Sort, entries, stepOver, stepList, belowOne, stepCode, stepCount, stepLeaves}
+use Rattle.definitions.specs.Steps.{Sort, stepOver, stepList, belowOne, stepCode, stepCount, stepLeaves}
 use Rattle.step_laws.specs.Told.{Told, told-zero, told-large, told-limit, told-over, told-done, told-long}
 use Rattle.step_laws.specs.Machine.{seen, below-one, limit-within}
 use Rattle.step_laws.specs.WorkingLimit.{good-limit}
-use Rattle.heights.proofs.Looks.{entry-height}
 use Rattle.bounded.specs.Outcome.{StepOutcomeIs}
 use Rattle.bounded.specs.declared.StepOutcome.{StepOutcome}
 use Rattle.steps.proofs.Step.apply.Statement.{statement}
@@ -91,19 +90,18 @@ returns-4 c =
     let p = start q in
     clauses (told-long (p .args .w) _ (p .args .self .size) (p .args .a .now) (one q) (most q) (good q) (c .if4 .taken))
 
-height-requires : tie.Need-height-requires
-height-requires c κs = search needs
+look-requires : tie.Need-look-requires
+look-requires c κs = search needs
 
 magnitude-requires : tie.Need-magnitude-requires
 magnitude-requires c κs = search needs
 
 take-bounded-requires : tie.Need-take-bounded-requires
-unfolding entries
 take-bounded-requires c κs =
     let q = c .before .before .before .before .before in
     let p = start q in (
       one q,
-      λ k. rw (c .before .height .ensures) (entry-height (p .args .a .now) k),
+      c .before .look .ensures,
       rw (limit q (c .magnitude .ensures)) (good-limit (p .args .w) (good q) .1),
       rw (limit q (c .magnitude .ensures)) (limit-within (p .args .w) (p .fits .w) (good q)),
     )
@@ -153,7 +151,7 @@ apply-spec =
     refused-requires-3
     returns-3
     returns-4
-    height-requires
+    look-requires
     magnitude-requires
     take-bounded-requires
     refused-requires-4
