@@ -1,2 +1,3 @@
 -- One outcome for each input.
 pub mod OneOutcome
+mod Limits

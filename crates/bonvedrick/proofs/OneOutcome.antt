@@ -61,6 +61,7 @@ comb-one κs a z z′ e e′ p p′ =
 pub accumulate-one :
     (κs : Lfts 1) (a : ArgsD accumulate.signature κs) (z z′ : ResD accumulate.signature κs)
     (e e′ : AtExit (endedOf 1 accumulate-kinds.ps accumulate-kinds.r) κs) →
-    accumulate-reads.Post κs a z e → accumulate-reads.Post κs a z′ e′ → (z ≡ z′) × (now (e .1 .1 .0) ≡ now (e′ .1 .1 .0))
+    accumulate-reads.Post κs a z e → accumulate-reads.Post κs a z′ e′ → (z ≡ z′) ×
+    (now (e .1 .1 .0) ≡ now (e′ .1 .1 .0))
 accumulate-one κs a z z′ e e′ p p′ =
     ((λ i. record { code = (p .0 ∙ sym (p′ .0)) i; count = (p .1 .0 ∙ sym (p′ .1 .0)) i }), p .1 .1 ∙ sym (p′ .1 .1))

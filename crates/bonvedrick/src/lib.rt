@@ -1,5 +1,5 @@
 // The requests of the library for C, Rust and Python (include/bonvedrick.h). Each function is its request under a plain
-// name: nothing is asked of the caller, and the contract is that of the request, whose answer is laid out as C's struct.
+// name: nothing is asked of the caller, and the contract is that of the request. Its answer is laid out as C's struct.
 use answers::Answer;
 use answers::Stop;
 use shelf::Record;

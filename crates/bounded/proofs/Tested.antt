@@ -19,7 +19,8 @@ module _ {s : Sort} {d : ℕ} {l m : List ℤ} where
       record {
         over = sym (over-more more s d l none);
         leaves = is;
-        bounded = λ _. rw is (stays-inside (max b w) s d l (λ k. omega (arith, h k)) (over-more (omega arith) s d l none));
+        bounded = λ _. rw is (stays-inside (max b w) s d l (λ k. omega (arith, h k))
+            (over-more (omega arith) s d l none));
         inside = λ k. omega arith;
       }
     where

@@ -3,6 +3,7 @@
 // and taken away it needs that of w alone.
 use heights::larger;
 use heights::magnitude;
+use passes::ADDABLE;
 use passes::Sort;
 use passes::step_or_undo;
 use untested::untested_step;
@@ -22,11 +23,8 @@ pub struct StepOutcome {
     pub bound: u64,
 }
 
-// 2^62 - 1: two numbers that are no larger can be added and taken away.
-const ADDABLE: u64 = 4611686018427387903;
-
-// 2^47: up to here a look is not worth its time. A step on up to 2^15 entries stays within the largest limit, and under a
-// smaller one the entries' own magnitudes are mostly no better.
+// 2^47: up to here a look is not worth its time. A step on up to 2^15 entries stays within the largest limit, and under
+// a smaller one the entries' own magnitudes are mostly no better.
 const LARGE: u64 = 140737488355328;
 
 // How often a step of size d can add the largest magnitude of n entries to itself.
@@ -113,8 +111,8 @@ pub fn take_bounded(a: &mut [i64], sort: Sort, d: u64, bound: u64, w: u64) -> St
     take_wide(a, sort, d, bound, w)
 }
 
-// A bound by a look at the entries: all magnitudes, one bit upon the other. It is below twice the height, and a loop that
-// never stops can be made one of vectors.
+// A bound by a look at the entries: all magnitudes, bit upon bit. It is below twice the height, and a loop that never
+// stops can be made one of vectors.
 pub fn look(a: &[i64]) -> u64
     ensures { λ r. ⌜ Bounded r (entries (now (a .entry))) ⌝ }
 {

@@ -1,8 +1,7 @@
--- One turn of the look over the entries of a slice: the largest so far and the height of what is left. And that no entry
--- is larger than the height.
-use Prim.Native.Nat.{ℕ, zero, suc, _+_, _<_, _≤_, max}
+-- One turn of the look over the entries of a slice: the largest so far and the height of what is left.
+use Prim.Native.Nat.{ℕ, _+_, _<_, _≤_, max}
 use mathlib.Core.Path.{_≡_}
-use mathlib.Core.List.{List, [], _∷_}
+use mathlib.Core.List.{List}
 use native.Mathlib.Omega.{arith}
 use native.Mathlib.Numerals.{add-one}
 use lib.ListN.{length, getD, drop}
@@ -24,9 +23,3 @@ module _ (cs : List ℤ) (i h : ℕ) (l : i < length cs) where
   pub height-found : h < natAbs (getD cs i (pos 0)) → max (natAbs (getD cs i (pos 0))) (heightOf (drop (i + 1) cs))
       ≡ max h (heightOf (drop i cs))
   height-found m = rw (height-left cs i l) (omega arith)
-
-pub entry-height : (cs : List ℤ) (i : ℕ) → natAbs (getD cs i (pos 0)) ≤ heightOf cs
-unfolding heightOf
-entry-height [] i = omega arith
-entry-height (c ∷ cs) zero = omega arith
-entry-height (c ∷ cs) (suc i) = omega (arith, entry-height cs i)

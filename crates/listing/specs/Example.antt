@@ -9,7 +9,8 @@ use Rattle.definitions.specs.Series.{constant, _+ˢ_, -ˢ, _·_, _÷_, z^, firs
 use Rattle.definitions.specs.Numbers.{someTo, countTo, listTo, productOfTo, divides, shareFactor, phi, isPrime}
 use Rattle.definitions.specs.Numbers.{oddPrimeOf, rOf, divisorsBelow, primesOf, muIsPlus}
 use Rattle.definitions.specs.Polynomials.{productTo, atDivisors, z^-1, familyTo, F, I, polynomial, degree}
-use Rattle.definitions.specs.Steps.{combed, accumulatedIn, accumulated, stepped, inRange, someOutside, entries, belowOne}
+use Rattle.definitions.specs.Steps.{combed, accumulatedIn, accumulated, stepped, inRange, someOutside, entries}
+use Rattle.definitions.specs.Steps.{belowOne}
 use Rattle.definitions.specs.Steps.{stepOver}
 use Rattle.definitions.specs.KeptHalf.{halfDegree, sortOf, termOf, term, start, productOf, keptSeries, keptHalf, sumOf}
 use Rattle.definitions.specs.KeptHalf.{additions}
@@ -45,8 +46,10 @@ unfolding input output listing heading replies linesFrom lastLine reply replyTo 
     numberAt digitsAt valueOf valueFrom digits between kindOf wrong goodLine headOf tailOf letterOf wrongLine spaced
     signed sign decimal decimalIn answer answered code knownKind goodIndex divisorsDue overAmong overAt nextDivisor
     coefficients height heightOf gain additionsFor additions sumOf keptHalf keptSeries productOf start term termOf
-    sortOf halfDegree stepOver someOutside stepped accumulated accumulatedIn combed inRange entries belowOne degree polynomial
-    F I familyTo z^-1 atDivisors productTo muIsPlus primesOf divisorsBelow rOf oddPrimeOf isPrime phi shareFactor divides
+    sortOf halfDegree stepOver someOutside stepped accumulated accumulatedIn combed inRange entries belowOne degree
+    polynomial
+    F I familyTo z^-1 atDivisors productTo muIsPlus primesOf divisorsBelow rOf oddPrimeOf isPrime phi shareFactor
+    divides
     productOfTo listTo countTo someTo firsts z^ _÷_ _·_ -ˢ _+ˢ_ constant ⊖ _⊗_ _⊕_
 example = refl
 

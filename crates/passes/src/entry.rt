@@ -11,16 +11,14 @@ ghost use Rattle.definitions.specs.Steps.{entries, inRange, largest};
 ghost use Rattle.step_laws.specs.Bound.{Bounded};
 ghost use Rattle.passes.specs.Sorts.{sortMeans};
 ghost use Rattle.passes.specs.Passes.{addable, newValue, newEntry};
+use crate::ADDABLE;
 use crate::Sort;
 use range::difference_fits;
 use range::sum_fits;
 use range::within;
 
-// 2^62 - 1: two numbers that are no larger can be added and taken away.
-const ADDABLE: u64 = 4611686018427387903;
-
-// What a step makes of an entry x and the one y that stands d before it: whether it can be taken, of two small numbers it
-// can; the value; and whether that is within w.
+// What a step makes of an entry x and the one y that stands d before it: whether it can be taken (of two small numbers
+// it can), the value, and whether that is within w.
 fn new_value_fits(sort: Sort, x: i64, y: i64) -> bool
     ensures { λ r. ⌜ r ≡ inRange largest (newValue (sortMeans sort) x y) ⌝ }
 {

@@ -1,5 +1,5 @@
-// The tested step: a pass over the slice, in place, that stops where a value would pass the working limit w, and one that
-// undoes it. It is `narrow` where no entry, and no value within w, is too large to be added or taken away untested.
+// The tested step: a pass over the slice, in place, that stops where a value would pass the working limit w, and one
+// that undoes it. It is `narrow` where no entry, and no value within w, is too large to be added or taken away.
 
 ghost use mathlib.Core.Path.{_≡_};
 ghost use mathlib.Core.Bool.{true, false};

@@ -139,7 +139,9 @@ module _
         (ne-eqb (r .code) DONE q))
 
     pub refuses : r .code ≢ DONE → Answers kind n (pos h) (pos w) (told-only (r .code) d) (m ++ drop (d + 1) l) l
-    refuses q = ⊎-elim (λ x. go OVER x (at-over kind n (pos h) (pos w) l)) (λ x. go TALL x (at-tall kind n (pos h) (pos w) l)) (which q)
+    refuses q =
+        ⊎-elim (λ x. go OVER x (at-over kind n (pos h) (pos w) l)) (λ x. go TALL x (at-tall kind n (pos h) (pos w) l))
+        (which q)
       where
         go : (c : ℕ) → r .code ≡ c
             → (code kind n (pos h) (pos w) (length l) ≡ c

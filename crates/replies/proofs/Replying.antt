@@ -42,7 +42,8 @@ module _ (kind n : ℕ) (h w : ℤ) (l : List ℤ) where
   unfolding coefficients
   length-coefficients = length-firsts (suc (degree kind n)) (polynomial kind n) ∙ sym (add-one (degree kind n))
 
-  same-tail : tailOf (answer kind n h w (length l)) (take ((answer kind n h w (length l)) .degree + 1) (leaves kind n h w l))
+  same-tail : tailOf (answer kind n h w (length l)) (take ((answer kind n h w (length l)) .degree + 1)
+      (leaves kind n h w l))
       ≡ tailOf (answer kind n h w (length l)) (coefficients kind n)
   unfolding tailOf answer answered leaves left written
   same-tail =
@@ -54,7 +55,8 @@ module _ (kind n : ℕ) (h w : ℤ) (l : List ℤ) where
 
 module _ (number : ℕ) (line : List ℕ) (q : Request) (e : q ≡ readLine line) where
   pub replied : (a : Answer) (l m : List ℤ) → q .good ≡ true → length l ≡ LENT
-      → a ≡ answer (q .kind) (q .n) (pos (q .h)) (pos largest) (length l) → m ≡ leaves (q .kind) (q .n) (pos (q .h)) (pos largest) l
+      → a ≡ answer (q .kind) (q .n) (pos (q .h)) (pos largest) (length l) → m ≡ leaves (q .kind) (q .n) (pos (q .h))
+      (pos largest) l
       → headOf (q .kind) (q .n) a ++ tailOf a (take (a .degree + 1) m) ≡ reply number line
   unfolding reply replyTo goodLine
   replied a l m g len ea em =

@@ -17,7 +17,8 @@ LENT = 4096
 -- what is printed for the request that a line makes, under the largest working limit, and for a line, given its number
 unfoldable pub replyTo : ℕ → Request → List ℕ
 replyTo number q =
-    let good = goodLine (q .kind) (q .n) (answer (q .kind) (q .n) (pos (q .h)) (pos largest) LENT) (coefficients (q .kind) (q .n)) in
+    let good = goodLine (q .kind) (q .n) (answer (q .kind) (q .n) (pos (q .h)) (pos largest) LENT)
+    (coefficients (q .kind) (q .n)) in
     cond (q .good) good (wrongLine number)
 
 unfoldable pub reply : ℕ → List ℕ → List ℕ

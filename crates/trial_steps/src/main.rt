@@ -1,5 +1,6 @@
 // Takes steps on awkward slices and prints what becomes of them, a line for each: the sort's letter, the size, the
-// working limit, the code, the count, a colon and the entries. `second/steps.py` makes the same lines from the definition.
+// working limit, the code, the count, a colon and the entries. `second/steps.py` makes the same lines from the
+// definition.
 
 ghost use Prim.Native.Nat.{_≤_};
 use steps::Sort;

@@ -1,5 +1,5 @@
-// Inner: each `requires` is shown by the caller `bounded`. The steps without a test of the range, where it is known that
-// no value leaves it: by fours, and one by one what they leave.
+// Inner: each `requires` is shown by the caller `bounded`. The steps without a test of the range, where it is known
+// that no value leaves it: by fours, and one by one what they leave.
 
 mod fours;
 

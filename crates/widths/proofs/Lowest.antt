@@ -1,6 +1,6 @@
 -- OVER in the words of docs/RULES.md, 'The codes': of 64-bit entries, the height is above 2^63 - 1 exactly where an
 -- entry is -2^63. And a record that holds -2^63 has no least width, so no width in its header is right.
-use Prim.Native.Nat.{ℕ, suc, _<_, _^_}
+use Prim.Native.Nat.{ℕ, zero, suc, _≤_, _<_, _^_}
 use mathlib.Core.Path.{_≡_, refl, sym, ap, _∙_}
 use mathlib.Core.Bool.{Bool, true, false, true≢false}
 use mathlib.Core.List.{List, [], _∷_}
@@ -13,7 +13,6 @@ use lib.Dec.{eqb, ltb}
 use borrow.Author.Tests.{eqb-true, eqb-false, ltb-true, ltb-false, lt-ltb}
 use Rattle.definitions.specs.Answer.{heightOf}
 use Rattle.definitions.specs.Steps.{largest}
-use Rattle.heights.proofs.Looks.{entry-height}
 use Rattle.widths.specs.Numbers.{width}
 use Rattle.widths.proofs.Least.{width-some}
 
@@ -38,6 +37,12 @@ over→lowest (c ∷ cs) fits t = go (ltb largest (natAbs c)) refl (over→lowes
     go false e more =
         let h = more (omega (arith, ltb-false largest (natAbs c) e)) in
         (suc (h .0), omega (arith, h .1), h .2)
+
+entry-height : (cs : List ℤ) (i : ℕ) → natAbs (getD cs i (pos 0)) ≤ heightOf cs
+unfolding heightOf
+entry-height [] i = omega arith
+entry-height (c ∷ cs) zero = omega arith
+entry-height (c ∷ cs) (suc i) = omega (arith, entry-height cs i)
 
 lowest-over : (cs : List ℤ) → HasLowest cs → ltb largest (heightOf cs) ≡ true
 lowest-over cs h = lt-ltb largest (heightOf cs) (omega (arith, ap natAbs (h .2), entry-height cs (h .0)))

@@ -1,7 +1,9 @@
 -- `bv_accumulate` meets its contract, that of the step. The limit is passed as its bits,
 -- which stand for it since it fits.
 use mir.Facts.{toZ-ofZ}
+use Rattle.definitions.specs.Steps.{accumulate}
 use borrow.Author.Needs.{needs}
+use Rattle.bonvedrick.proofs.Limits.{asked-as-seen}
 use Rattle.bonvedrick.proofs.bv_accumulate.Statement.{statement}
 use Rattle.bonvedrick.proofs.bv_accumulate.Tie as tie
 
@@ -12,7 +14,10 @@ same-length : tie.Need-same-length
 same-length c = search needs
 
 returns : tie.Need-returns
-returns c = let p = c .before .before .before in rw (toZ-ofZ (p .fits .w)) at (c .before .apply .ensures)
+returns c =
+    let p = c .before .before .before in
+    asked-as-seen accumulate (p .args .size) (p .args .buf .now) (toZ-ofZ (p .fits .w))
+    (c .before .apply .ensures)
 
 pub bv-accumulate-spec : {M : Type 1} → statement M
 bv-accumulate-spec = tie.close (tie.spec apply-requires same-length returns)

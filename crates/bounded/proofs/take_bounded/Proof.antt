@@ -1,5 +1,5 @@
--- `take_bounded` meets its contract: a step that is too long changes nothing, and one whose growth stays within w needs no
--- test (Untested).
+-- `take_bounded` meets its contract: a step that is too long changes nothing, and one whose growth stays within w needs
+-- no test (Untested).
 use mathlib.Core.Path.{_≡_}
 use mathlib.Core.Bool.{false}
 use borrow.Author.Needs.{needs}
@@ -77,7 +77,8 @@ returns-3 c = search needs
 
 take-wide-requires : tie.Need-take-wide-requires
 take-wide-requires c κs =
-    let p = c .before .before .before .before .before .before in (p .pre .0, omega arith, p .pre .1, p .pre .2, p .pre .3)
+    let p = c .before .before .before .before .before .before in
+    (p .pre .0, omega arith, p .pre .1, p .pre .2, p .pre .3)
 
 same-length-3 : tie.Need-same-length-3
 same-length-3 c = search needs

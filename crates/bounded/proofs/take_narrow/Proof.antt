@@ -1,4 +1,5 @@
--- `take_narrow` meets its contract: whole under a limit that keeps the entries small, and so under w, or undone (Tested).
+-- `take_narrow` meets its contract: whole under a limit that keeps the entries small, and so under w, or undone
+-- (Tested).
 use mathlib.Core.Path.{_≡_, subst}
 use native.Mathlib.Omega.{arith}
 use native.Mathlib.Nat.{le-trans}
@@ -35,7 +36,8 @@ returns c =
     let q = c .before .before .before in
     let n = q .before .before in
     rw (c .larger .ensures)
-    (done (q .step-or-undo .ensures) (c .before .if1 .taken) (omega (arith, n .smaller .ensures)) (n .before .pre .0 .2))
+    (done (q .step-or-undo .ensures) (c .before .if1 .taken) (omega (arith, n .smaller .ensures))
+    (n .before .pre .0 .2))
 
 same-length-2 : tie.Need-same-length-2
 same-length-2 c = search needs
@@ -48,7 +50,8 @@ returns-2 c =
     let e : n .smaller .result ≡ p .args .w = omega (arith, n .smaller .ensures, c .if2 .taken) in
     undone
     (subst
-    (λ x. SteppedOrUndone x (sortMeans (p .args .sort)) (p .args .d) (p .args .a .now) (q .step-or-undo .last .1 .1 .1 .0)
+    (λ x. SteppedOrUndone x (sortMeans (p .args .sort)) (p .args .d) (p .args .a .now)
+    (q .step-or-undo .last .1 .1 .1 .0)
     (q .step-or-undo .result)) e (q .step-or-undo .ensures))
     (c .before .if1 .left) (λ h. h)
 

@@ -38,7 +38,8 @@ returns : tie.Need-returns
 returns c =
     let p = c .before .before .before in
     let k = sym (c .before .before .known-kind .ensures) ∙ not-true _ (c .before .if1 .taken) in
-    let s = at-kind (p .args .kind) (p .args .n) (p .args .j) (p .args .w) (p .args .buf .now) (stop-kind _ _ _ _ _ k) in
+    let s = at-kind (p .args .kind) (p .args .n) (p .args .j) (p .args .w) (p .args .buf .now)
+    (stop-kind _ _ _ _ _ k) in
     (c .refused .ensures ∙ s .0, s .1)
 
 good-index-requires : tie.Need-good-index-requires

@@ -67,7 +67,8 @@ returns-3 c =
     let t = c .before .before in
     let p = start t in
     let s = at-limit (p .args .kind) (p .args .n) (p .args .h) (p .args .w) (p .args .buf .now)
-    (ask-limit _ _ _ _ _ (kind-known t) (good t) (rw (below-one (p .args .h) (p .fits .h) (c .before .if3 .taken)) refl)) in
+    (ask-limit _ _ _ _ _ (kind-known t) (good t) (rw (below-one (p .args .h) (p .fits .h)
+    (c .before .if3 .taken)) refl)) in
     (c .refused3 .ensures ∙ s .0, s .1)
 
 refused-requires-4 : tie.Need-refused-requires-4
@@ -94,7 +95,8 @@ module _ (c : tie.Else4) where
   good-w = below-one (asked .args .w) (asked .fits .w) (c .if4 .left)
 
 -- a limit, as it is handed on
-handed-on : (v : ℤ) {m : ℕ} → SFits w64 v → belowOne v ≡ false → m ≡ natAbs (seen v) → (pos m ≡ v) × (1 ≤ m) × (m ≤ largest)
+handed-on : (v : ℤ) {m : ℕ} → SFits w64 v → belowOne v ≡ false → m ≡ natAbs (seen v) → (pos m ≡ v) × (1 ≤ m) ×
+    (m ≤ largest)
 handed-on v f g e =
     let is : _ ≡ natAbs v = e ∙ ap natAbs (toZ-ofZ f) in
     let l = good-limit v g in
@@ -129,7 +131,8 @@ returns-5 c =
     let e = c .before .before .before .before .before .before in
     let h = handed-on (asked e .args .h) (asked e .fits .h) (good-h e)
     (c .before .before .before .before .magnitude .ensures) in
-    let w = handed-on (asked e .args .w) (asked e .fits .w) (good-w e) (c .before .before .before .magnitude2 .ensures) in
+    let w = handed-on (asked e .args .w) (asked e .fits .w) (good-w e)
+    (c .before .before .before .magnitude2 .ensures) in
     rw (h .0, w .0) at (c .before .answer-in .ensures)
 
 pub polynomial-spec : {M : Type 1} → statement M

@@ -20,7 +20,8 @@ take-step-requires : tie.Need-take-step-requires
 take-step-requires c κs =
     let q = c .before .before .before in
     let p = q .before .before .before .before in
-    let g = size-good (p .args .w) (p .args .kind) (p .args .walk) (p .args .bound) (p .args .a .now) (p .pre .0) (p .pre .1) _
+    let g = size-good (p .args .w) (p .args .kind) (p .args .walk) (p .args .bound) (p .args .a .now) (p .pre .0)
+    (p .pre .1) _
     (q .before .before .before .next .ensures) (q .next2 .given .0 .0) (q .next2 .given .0 .1 .0)
     (q .next2 .given .1) in
     (g, p .pre .0 .bounded, p .pre .0 .good .0, p .pre .0 .good .1)
@@ -48,7 +49,8 @@ returns c =
 returns-2 : tie.Need-returns-2
 returns-2 c =
     let p = c .before .before .before .before in
-    absurd (not-nothing (p .args .w) (p .args .kind) (p .args .walk) (p .args .bound) (p .args .a .now) (p .pre .0) (p .pre .1) _
+    absurd (not-nothing (p .args .w) (p .args .kind) (p .args .walk) (p .args .bound) (p .args .a .now) (p .pre .0)
+    (p .pre .1) _
     (c .before .before .before .next .ensures) (c .enum-told .given .1))
 
 pub take-divisor-spec : {M : Type 1} → statement M

@@ -47,16 +47,19 @@ returns c =
     let q = c .before .before .before .before .before .before in
     let p = q .before in
     ran-over (p .args .w) (p .args .kind) (p .args .walk .r) (q .loop .i) (p .args .j) _ (omega arith)
-    (stops (p .args .w) (p .args .kind) (p .args .walk .r) (p .pre .0 .walk .squarefree) (p .pre .0 .walk .small) (p .pre .0 .above)
+    (stops (p .args .w) (p .args .kind) (p .args .walk .r) (p .pre .0 .walk .squarefree) (p .pre .0 .walk .small)
+    (p .pre .0 .above)
     (q .loop .inv .1) (omega arith) (c .before .before .before .take-divisor .ensures) (c .if1 .taken))
-    (turned-length (p .args .w) (p .args .kind) (p .args .walk .r) (p .pre .0 .walk .squarefree) (p .pre .0 .walk .small)
+    (turned-length (p .args .w) (p .args .kind) (p .args .walk .r) (p .pre .0 .walk .squarefree)
+    (p .pre .0 .walk .small)
     (p .pre .0 .above) (q .loop .inv .1) (omega arith) (c .before .before .before .take-divisor .ensures))
 
 add-additions : tie.Need-add-additions Inv-loop μ-loop
 add-additions c =
     let q = c .before .before .before .before .before .before .before in
     let p = q .before in
-    let u = runs-on (p .args .w) (p .args .kind) (p .args .walk .r) (p .pre .0 .walk .squarefree) (p .pre .0 .walk .small)
+    let u = runs-on (p .args .w) (p .args .kind) (p .args .walk .r) (p .pre .0 .walk .squarefree)
+    (p .pre .0 .walk .small)
     (p .pre .0 .above) (q .loop .inv .1) (omega arith) (c .before .before .before .before .take-divisor .ensures)
     (c .before .if1 .left) in
     omega (
@@ -93,7 +96,8 @@ returns-2 c =
     let q = c .before in
     let p = q .before in
     let e : q .loop .i ≡ p .args .j = omega arith in
-    ran (p .args .w) (p .args .kind) (p .args .walk .r) (p .args .j) (q .loop .additions) (q .loop .bound) (q .loop .at) (q .loop .a)
+    ran (p .args .w) (p .args .kind) (p .args .walk .r) (p .args .j) (q .loop .additions) (q .loop .bound)
+    (q .loop .at) (q .loop .a)
     (rw e at (q .loop .inv .1))
 
 pub take-divisors-spec : {M : Type 1} → statement M

@@ -34,8 +34,16 @@ unfolding entries
 passes-test-requires c κs =
     let p = c .before .before in
     let f : SFits w64 (getD (p .args .a .now) (p .args .i) 0ℤ) = record { sfits = c .before .passes-test-arg .given } in
-    let g : SFits w64 (getD (p .args .a .now) (p .args .i - p .args .d) 0ℤ) = record { sfits = c .passes-test-arg2 .given } in
-    (p .pre .0 .2, p .pre .0 .3, λ t. (rw (toZ-ofZ f) (p .pre .1 t (p .args .i)), rw (toZ-ofZ g) (p .pre .1 t (p .args .i - p .args .d))))
+    let g : SFits w64 (getD (p .args .a .now) (p .args .i - p .args .d) 0ℤ) = record
+    { sfits = c .passes-test-arg2 .given } in (
+      p .pre .0 .2,
+      p .pre .0 .3,
+      λ t. (
+        rw (toZ-ofZ f) (p .pre .1 t (p .args .i)),
+        rw (toZ-ofZ g)
+            (p .pre .1 t (p .args .i - p .args .d)),
+      ),
+    )
 
 returns : tie.Need-returns
 unfolding entries

@@ -26,7 +26,8 @@ module _ (p : tie.Start) where
   seen-value = seen-both (p .fits .x) (p .fits .y) (newValue (sortMeans (p .args .sort)))
 
   within : (w : ℕ) {r : Bool}
-      → r ≡ inRange w (newValue (sortMeans (p .args .sort)) (seen (p .args .x)) (seen (p .args .y))) → r ≡ inRange w value
+      → r ≡ inRange w (newValue (sortMeans (p .args .sort)) (seen (p .args .x)) (seen (p .args .y))) → r
+      ≡ inRange w value
   within w e = e ∙ ap (inRange w) seen-value
 
   taken : inRange largest value ≡ true
@@ -36,8 +37,12 @@ module _ (p : tie.Start) where
 new-value-within-requires : tie.Need-new-value-within-requires
 new-value-within-requires c κs =
     let p = c .before in
-    let small = p .pre .2 (c .if1 .taken) in
-    (p .pre .0, p .pre .1, taken p (small-in-range (sortMeans (p .args .sort)) (p .args .x) (p .args .y) (small .0) (small .1)))
+    let small = p .pre .2 (c .if1 .taken) in (
+      p .pre .0,
+      p .pre .1,
+      taken p (small-in-range (sortMeans (p .args .sort)) (p .args .x) (p .args .y) (small .0)
+          (small .1)),
+    )
 
 returns : tie.Need-returns
 returns c = within (c .before .before) (c .before .before .args .w) (c .new-value-within .ensures)
@@ -57,7 +62,8 @@ returns-2 c =
 returns-3 : tie.Need-returns-3
 returns-3 c =
     let p = c .before .before .before in
-    let none : inRange largest (value p) ≡ false = sym (within p largest (c .before .new-value-fits .ensures)) ∙ c .if2 .left in
+    let none : inRange largest (value p) ≡ false = sym (within p largest (c .before .new-value-fits .ensures))
+    ∙ c .if2 .left in
     sym (not-true-is (inRange (p .args .w) (value p))
     (λ t. true≢false (sym (range-more (p .pre .1) (value p) t) ∙ none)))
 

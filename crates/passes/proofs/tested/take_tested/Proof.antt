@@ -40,7 +40,13 @@ entry-passes-test-requires c κs =
     let q = c .before .before .before in
     let p = q .loop .inv .read .passed in
     let e = c .before .place .ensures in (
-      (next-from p (left (c .before .before)) e, next-below p (left (c .before .before)) e, q .before .pre .2, q .before .pre .3),
+      (
+        next-from p (left (c .before .before)) e,
+        next-below p
+            (left (c .before .before)) e,
+        q .before .pre .2,
+        q .before .pre .3,
+      ),
       λ narrow. still-small (q .loop .inv) (q .before .pre .4 narrow),
     )
 
@@ -56,7 +62,8 @@ returns c =
     let e = q .place .ensures in (
       p,
       λ _.
-          ap (λ x. inRange (r .args .w) (stepped (sortMeans (r .args .sort)) (r .args .d) (entries (r .args .a .now)) x))
+          ap (λ x. inRange (r .args .w) (stepped (sortMeans (r .args .sort)) (r .args .d)
+          (entries (r .args .a .now)) x))
           (sym (next-place (p .read .passed) h e))
           ∙ ap (inRange (r .args .w)) (sym (next-is (p .read .passed) h e (r .pre .0)))
           ∙ sym (c .before .entry-passes-test .ensures .0)
@@ -75,8 +82,12 @@ step-entry-requires : tie.Need-step-entry-requires Inv-loop μ-loop
 step-entry-requires c κs =
     let q = c .before .before .before .before in
     let p = q .before .before .loop .inv .read .passed in
-    let h = left (q .before) in
-    (next-from p h (q .place .ensures), next-below p h (q .place .ensures), range-fits _ (range-more (q .before .before .before .pre .3) _ (passed (c .before))))
+    let h = left (q .before) in (
+      next-from p h (q .place .ensures),
+      next-below p h (q .place .ensures),
+      range-fits _
+          (range-more (q .before .before .before .pre .3) _ (passed (c .before))),
+    )
 
 add-t : tie.Need-add-t Inv-loop μ-loop
 add-t c = omega (arith, left (c .before .before .before .before .before .before .before))

@@ -69,7 +69,8 @@ returns-2 c =
     let g = c .before .before .before .before .before .before .before in
     let p = start g in
     let s = refuses (p .args .kind) (p .args .n) (p .args .h) (p .args .w) (p .args .buf .now) (p .pre .1) (p .pre .2)
-    (p .pre .3) (p .pre .4 .0) _ (degree-is g) (omega arith) _ _ (c .before .before .before .before .make .ensures) (c .before .if2 .taken) in
+    (p .pre .3) (p .pre .4 .0) _ (degree-is g) (omega arith) _ _ (c .before .before .before .before .make .ensures)
+    (c .before .if2 .taken) in
     (c .refused2 .ensures ∙ s .0, s .1)
 
 gain-of-requires : tie.Need-gain-of-requires
@@ -86,7 +87,8 @@ returns-3 c =
     let g = c .before .before .before .before .before .before .before in
     let p = start g in
     delivers (p .args .kind) (p .args .n) (p .args .h) (p .args .w) (p .args .buf .now) (p .pre .1) (p .pre .2)
-    (p .pre .3) (p .pre .4 .0) _ (degree-is g) (omega arith) _ _ (c .before .before .before .before .make .ensures) (c .before .if2 .left) _
+    (p .pre .3) (p .pre .4 .0) _ (degree-is g) (omega arith) _ _ (c .before .before .before .before .make .ensures)
+    (c .before .if2 .left) _
     (c .gain-of .ensures)
 
 pub answer-in-spec : {M : Type 1} → statement M

@@ -43,10 +43,12 @@ module _ (c : tie.After-all-steps) where
   abbrev at-start : tie.After-half-degree
   at-start = c .before .before
 
-  mid : Halfway (start at-start .args .w) (start at-start .args .kind) (start at-start .args .n) (start at-start .args .parts) (old at-start)
+  mid : Halfway (start at-start .args .w) (start at-start .args .kind) (start at-start .args .n)
+      (start at-start .args .parts) (old at-start)
       (D at-start) (c .all-steps .last .1 .1 .1 .1 .0) (c .all-steps .result)
   mid =
-      halfway _ _ _ _ (start at-start .pre .0) (start at-start .pre .1) _ (d-is at-start) _ (start at-start .pre .2 .1) _ _
+      halfway _ _ _ _ (start at-start .pre .0) (start at-start .pre .1) _ (d-is at-start) _
+      (start at-start .pre .2 .1) _ _
       (c .all-steps .ensures)
 
   part-room : D at-start + 1 ≤ length (c .all-steps .last .1 .1 .1 .1 .0 ++ drop (D at-start + 1) (old at-start))

@@ -44,7 +44,14 @@ put-tail-requires c κs =
     let q = c .before .before .before .before .before .before .before .before .before .before .before .before .read-line
     .result in
     let a = c .before .before .before .before .before .before .before .polynomial in (
-      omega (arith, a .kept .1 .1 .1 .1 .0, c .before .before .before .before .put-head .ensures .1, s .pre .0, s .pre .1),
+      omega (
+        arith,
+        a .kept .1 .1 .1 .1 .0,
+        c .before .before .before .before .put-head .ensures .1,
+        s .pre .0,
+        s .pre
+            .1,
+      ),
       λ z. omega (arith, a .kept .1 .1 .1 .1 .0, degree-fits (q .kind) (q .n) _ _ _ (a .ensures .0) z),
     )
 
