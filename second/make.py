@@ -33,24 +33,25 @@ def indices():
     yield constant("CHOICE", "u64", choice.choice())
 
 
-def rows(request, asked):
-    """Laid out as the formatter does: arguments of more than 60 characters take a line each."""
-    for arguments in asked:
-        flat = ", ".join(map(str, arguments))
-        if len(flat) > 60:
-            flat = "\n" + "".join("        %d,\n" % a for a in arguments) + "    "
-        yield "    Request::%s(%s),\n" % (request, flat)
+def columns(rows):
+    """Those of the table of requests."""
+    return list(zip(*rows))
 
 
 def asked():
-    count = len(refusals.POLYNOMIALS) + len(refusals.PARTIALS)
-    yield "// The requests of second/refusals.py, a row for each, written by second/make.py.\n"
-    yield "use crate::Request;\n\n"
-    yield "pub const COUNT: usize = %d;\n" % count
-    yield "\npub const TABLE: [Request; %d] = [\n" % count
-    yield from rows("Polynomial", refusals.POLYNOMIALS)
-    yield from rows("Partial", refusals.PARTIALS)
-    yield "];\n"
+    """A list for each argument, since a program with that many rows of a type of its own takes long to check."""
+    kind, n, h, w, room = columns(refusals.POLYNOMIALS)
+    kind_too, n_too, j, w_too, room_too = columns(refusals.PARTIALS)
+    yield "// The requests of second/refusals.py, a list for each argument, first those for polynomials, written by\n"
+    yield "// second/make.py.\n"
+    yield counted("COUNT", kind + kind_too)
+    yield "\n" + counted("POLYNOMIALS", kind)
+    yield constant("KIND", "u64", kind + kind_too)
+    yield constant("N", "u64", n + n_too)
+    yield constant("H", "i64", h)
+    yield constant("J", "u64", j)
+    yield constant("W", "i64", w + w_too)
+    yield constant("ROOM", "usize", room + room_too)
 
 
 def table():

@@ -1,4 +1,4 @@
-// Inner: nothing here but `Sort` is offered to callers; each `requires` is shown by the callers `bounded` and `untested`.
+// Inner: nothing here but `Sort` is offered to callers; `bounded` and `untested` show each `requires`.
 // A step at one entry, the order in which a pass takes its places, and the tested pass over a slice, of either sort,
 // whole or not at all. The loops are written over the sort, which the compiler takes out of them.
 

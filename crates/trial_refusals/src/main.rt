@@ -2,26 +2,31 @@
 // the least room and limits that are enough, and the figures of 'The worked polynomials'.
 mod asked;
 
+ghost use Prim.Native.Nat.{_<_};
 use asked::COUNT;
-use asked::TABLE;
+use asked::H;
+use asked::J;
+use asked::KIND;
+use asked::N;
+use asked::POLYNOMIALS;
+use asked::ROOM;
+use asked::W;
 
-// A request: kind, index, then the height limit or the number of steps, the working limit and the room.
-pub enum Request {
-    Polynomial(u64, u64, i64, i64, usize),
-    Partial(u64, u64, u64, i64, usize),
-}
-
-fn ask(request: Request, buf: &mut [i64]) {
-    match request {
-        Request::Polynomial(kind, n, h, w, room) => trials::polynomial(kind, n, h, w, room, buf),
-        Request::Partial(kind, n, j, w, room) => trials::partial(kind, n, j, w, room, buf),
+// The request at one place of the lists.
+fn ask(i: usize, buf: &mut [i64])
+    requires { ⌜ i < 147 ⌝ }
+{
+    if i < POLYNOMIALS {
+        trials::polynomial(KIND[i], N[i], H[i], W[i], ROOM[i], buf);
+    } else {
+        trials::partial(KIND[i], N[i], J[i - POLYNOMIALS], W[i], ROOM[i], buf);
     }
 }
 
 fn ask_all(buf: &mut [i64]) {
     let mut i = 0;
     while i < COUNT {
-        ask(TABLE[i], buf);
+        ask(i, buf);
         i += 1;
     }
 }

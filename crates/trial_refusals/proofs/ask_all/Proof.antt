@@ -1,4 +1,4 @@
--- `trial_refusals::ask_all` is safe and ends: the place stays within the table.
+-- `trial_refusals::ask_all` is safe and ends: the place stays within the lists.
 use borrow.Author.Needs.{needs}
 use Prim.Native.Nat.{_-_, _≤_}
 use lib.ListN.{length}
@@ -14,12 +14,6 @@ abbrev μ-loop : tie.MeasureT-loop
 
 loop-holds : tie.Need-loop-holds Inv-loop μ-loop
 loop-holds c = search needs
-
-mul-ask : tie.Need-mul-ask Inv-loop μ-loop
-mul-ask c = search needs
-
-array-copy-out-ask : tie.Need-array-copy-out-ask Inv-loop μ-loop
-array-copy-out-ask c = search needs
 
 ask-requires : tie.Need-ask-requires Inv-loop μ-loop
 ask-requires c κs = search needs
@@ -46,8 +40,6 @@ ask-all-spec =
     Inv-loop
     μ-loop
     loop-holds
-    mul-ask
-    array-copy-out-ask
     ask-requires
     add-i
     loop-less
