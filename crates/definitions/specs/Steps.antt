@@ -55,7 +55,7 @@ stepList s d l = firsts (length l) (stepped s d (entries l))
 abbrev pub largest : ℕ
 largest = 9223372036854775807
 
--- a limit below 1, for a height or for the values of the steps, is none
+-- a limit, of a height or of what the steps make, that is below 1; the requests refuse it
 unfoldable pub belowOne : ℤ → Bool
 belowOne w = ltZ w (pos 1)
 
