@@ -53,7 +53,7 @@ pub(crate) fn take_fours(sort: Sort, a: &mut [i64], d: usize) -> usize
     if !fours_apart(sort, d) {
         return t;
     }
-    while 4 <= places - t {
+    while t + 4 <= places {
         let k = place(sort, 4, t, d, a.len());
         step_four_entries(sort, a, k, d);
         t += 4;

@@ -33,8 +33,8 @@ loop-holds c =
     let q = c .before .before in
     start _ (q .args .d) (q .args .a .now) (q .pre .1)
 
-sub-loop : tie.Need-sub-loop Inv-loop μ-loop
-sub-loop c = omega (arith, c .loop .inv .most)
+add-loop : tie.Need-add-loop Inv-loop μ-loop
+add-loop c = omega (arith, c .loop .inv .most)
 
 -- four places are left
 left : (c : tie.In-loop Inv-loop μ-loop) → c .before .loop .t + 4 + c .before .before .before .before .args .d
@@ -93,7 +93,7 @@ take-fours-spec =
     fours-apart-requires
     returns
     loop-holds
-    sub-loop
+    add-loop
     place-requires
     step-four-entries-requires
     add-t
