@@ -4,8 +4,8 @@
 -- (`polynomial-at-largest`, `partial-at-largest`): the same refusals in the same order, and OVER where a step passes
 -- 2^63 - 1. The answer and the buffer follow from the code. A step's own are in crate `step_laws`.
 use Prim.Native.Nat.{ℕ, zero, suc, _≤_}
-use mathlib.Core.Path.{_≡_, refl, _∙_, ap}
-use mathlib.Core.Bool.{Bool, true, false, cond, not, _||_}
+use mathlib.Core.Path.{_≡_, refl, ap}
+use mathlib.Core.Bool.{true, false, cond, not, _||_, or-false}
 use mathlib.Core.List.{List}
 use lib.ListN.{length}
 use lib.Dec.{eqb, ltb, leb}
@@ -18,7 +18,7 @@ use Rattle.definitions.specs.Steps.{largest, belowOne}
 use Rattle.definitions.specs.KeptHalf.{halfDegree}
 use Rattle.definitions.specs.Requests.{knownKind, goodIndex, divisorsDue, overAt, overAmong}
 use Rattle.definitions.specs.Answer.{height}
-use Rattle.step_laws.specs.Tests.{past, or-false}
+use Rattle.step_laws.specs.Tests.{past, neither}
 use Rattle.step_laws.specs.WorkingLimit.{over-more, larger-good}
 use Rattle.answers.specs.Polynomial as Polynomial
 use Rattle.answers.specs.Partial as Partial
@@ -27,7 +27,7 @@ pub among-more : {w w′ : ℕ} → w ≤ w′ → (kind r j : ℕ) → overAmon
 unfolding overAmong overAt
 among-more more kind r zero e = refl
 among-more {w} more kind r (suc j) e =
-    let b = or-false (overAmong w kind r j) (overAt w kind r j) e in
+    let b = neither (overAmong w kind r j) (overAt w kind r j) e in
     rw (among-more more kind r j (b .0), over-more more _ _ _ (b .1)) refl
 
 -- ---- the polynomial request
@@ -40,7 +40,7 @@ module _ (kind n : ℕ) (h : ℤ) where
   polynomial-done w room e =
       let index = past (not (goodIndex n)) 1 (past (not (knownKind kind)) 0 e .1) in
       let limit = past (belowOne h || belowOne w) 2 (index .1) in
-      let limits = or-false (belowOne h) (belowOne w) (limit .0) in
+      let limits = neither (belowOne h) (belowOne w) (limit .0) in
       let short = past (leb room (degree kind n)) 3 (limit .1) in
       let over = past (overAmong (natAbs w) kind (rOf n) (divisorsDue (rOf n))) 4 (short .1) in
       (limits .0, limits .1, over .0)
@@ -69,11 +69,7 @@ module _ (kind n : ℕ) (h : ℤ) where
       (cond (overAmong largest kind (rOf n) (divisorsDue (rOf n))) OVER
       (cond (ltZ h (pos (height kind n))) TALL DONE)))))
   unfolding Polynomial.code belowOne
-  polynomial-at-largest room = rw (or-nothing (ltZ h (pos 1))) refl
-    where
-      or-nothing : (b : Bool) → (b || false) ≡ b
-      or-nothing true = refl
-      or-nothing false = refl
+  polynomial-at-largest room = rw (or-false (ltZ h (pos 1))) refl
 
 -- ---- the partial request
 module _ (kind n j : ℕ) where

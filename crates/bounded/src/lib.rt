@@ -11,8 +11,9 @@ ghost use Prim.Native.Nat.{ℕ, _+_, _*_, _≤_, _<_, min};
 ghost use mathlib.Core.Path.{_≡_};
 ghost use mathlib.Core.Bool.{true};
 ghost use lib.ListN.{length};
-ghost use Rattle.definitions.specs.Steps.{entries, largest};
+ghost use Rattle.definitions.specs.Steps.{entries};
 ghost use Rattle.step_laws.specs.Bound.{Bounded, growth};
+ghost use Rattle.step_laws.specs.WorkingLimit.{Workable};
 ghost use Rattle.passes.specs.Sorts.{sortMeans};
 ghost use Rattle.passes.specs.Passes.{addable};
 ghost use Rattle.bounded.specs.Outcome.{StepOutcomeIs};
@@ -57,7 +58,7 @@ fn smaller(a: u64, b: u64) -> u64
 
 // A step that looks at each value, and before at whether it can be taken.
 fn take_wide(a: &mut [i64], sort: Sort, d: u64, bound: u64, w: u64) -> StepOutcome
-    requires { ⌜ (1 ≤ d) × (d < length (now a)) × Bounded bound (entries (now a)) × (1 ≤ w) × (w ≤ largest) ⌝ }
+    requires { ⌜ (1 ≤ d) × (d < length (now a)) × Bounded bound (entries (now a)) × Workable w ⌝ }
     ensures { λ r. ⌜ StepOutcomeIs w (sortMeans sort) d bound (now (a .entry)) (now (a .exit)) r ⌝ }
 {
     let done = step_or_undo(sort, false, w, a, d as usize);
@@ -70,7 +71,7 @@ fn take_wide(a: &mut [i64], sort: Sort, d: u64, bound: u64, w: u64) -> StepOutco
 // A step on entries that can all be added: first under a limit that keeps them so. Where that is passed and w is above
 // it, the step is taken once more.
 fn take_narrow(a: &mut [i64], sort: Sort, d: u64, bound: u64, w: u64) -> StepOutcome
-    requires { ⌜ (1 ≤ d) × (d < length (now a)) × Bounded bound (entries (now a)) × (1 ≤ w) × (w ≤ largest) ⌝ }
+    requires { ⌜ (1 ≤ d) × (d < length (now a)) × Bounded bound (entries (now a)) × Workable w ⌝ }
     requires { ⌜ bound ≤ addable ⌝ }
     ensures { λ r. ⌜ StepOutcomeIs w (sortMeans sort) d bound (now (a .entry)) (now (a .exit)) r ⌝ }
 {
@@ -89,7 +90,7 @@ fn take_narrow(a: &mut [i64], sort: Sort, d: u64, bound: u64, w: u64) -> StepOut
 
 // One step on entries of magnitude at most `bound`: untested where these can't grow past w.
 pub fn take_bounded(a: &mut [i64], sort: Sort, d: u64, bound: u64, w: u64) -> StepOutcome
-    requires { ⌜ (1 ≤ d) × Bounded bound (entries (now a)) × (1 ≤ w) × (w ≤ largest) ⌝ }
+    requires { ⌜ (1 ≤ d) × Bounded bound (entries (now a)) × Workable w ⌝ }
     ensures { λ r. ⌜ StepOutcomeIs w (sortMeans sort) d bound (now (a .entry)) (now (a .exit)) r ⌝ }
 {
     let n = a.len() as u64;
@@ -146,7 +147,7 @@ fn better_bound(a: &[i64], sort: Sort, d: u64, bound: u64, w: u64) -> u64
 
 // One step of a run.
 pub fn take_step(a: &mut [i64], sort: Sort, d: u64, bound: u64, w: u64) -> StepOutcome
-    requires { ⌜ (1 ≤ d) × Bounded bound (entries (now a)) × (1 ≤ w) × (w ≤ largest) ⌝ }
+    requires { ⌜ (1 ≤ d) × Bounded bound (entries (now a)) × Workable w ⌝ }
     ensures { λ r. ⌜ StepOutcomeIs w (sortMeans sort) d bound (now (a .entry)) (now (a .exit)) r ⌝ }
 {
     let known = better_bound(a, sort, d, bound, w);

@@ -2,8 +2,8 @@
 -- makes a(i) into old a(i) - old a(i-d) for i >= d; an accumulate makes a(i) into old a(i) + new a(i-d) for i >= d.
 -- Entries below d stay. A step on L entries counts L - d additions, or 0 where d >= L.
 use Prim.Native.Nat.{ℕ, zero, suc, _-_}
-use mathlib.Core.Bool.{Bool, true, false, cond, not, _&&_, _||_}
-use mathlib.Core.List.{List, [], _∷_}
+use mathlib.Core.Bool.{Bool, false, cond, not, _&&_, _||_}
+use mathlib.Core.List.{List}
 use lib.ListN.{length, getD}
 use lib.IntN.{ℤ, pos, natAbs}
 use lib.Signed.{ltZ}

@@ -2,9 +2,9 @@
 -- shows a value that passes the limit, and what it has come to at the end.
 use Prim.Native.Nat.{ℕ, zero, suc, _+_, _*_, _-_, _^_, _<_, _≤_}
 use mathlib.Core.Path.{_≡_, refl, sym, _∙_, ap, ap₂}
-use mathlib.Core.Bool.{Bool, true, false, true≢false, _||_}
+use mathlib.Core.Bool.{true, false, true≢false, _||_}
 use mathlib.Core.Logic.{_≢_}
-use mathlib.Core.List.{List, [], _∷_, _++_, map, map-append}
+use mathlib.Core.List.{List, [], _∷_, map, map-append}
 use native.Mathlib.Omega.{arith}
 use native.Mathlib.Nat as NatL
 use native.Mathlib.Numerals.{add-one}
@@ -14,7 +14,7 @@ use lib.IntN.{ℤ, natAbs}
 use Rattle.definitions.specs.Integers.{0ℤ}
 use Rattle.definitions.specs.Series.{firsts}
 use Rattle.definitions.specs.Numbers.{divisorsBelow, kOf}
-use Rattle.definitions.specs.Steps.{entries, largest}
+use Rattle.definitions.specs.Steps.{entries}
 use Rattle.definitions.specs.KeptHalf.{halfDegree, start, keptHalf, sumOf, additionsAfter}
 use Rattle.definitions.specs.Requests.{divisorsDue, nextDivisor, overAt, overAmong, zeros}
 use Rattle.numbers.specs.Apart.{OddSquarefree}
@@ -23,11 +23,12 @@ use Rattle.numbers.specs.Below.{divisors-below}
 use Rattle.numbers.specs.Lists.{sum-append, sum-at-most}
 use Rattle.cyclotomic.specs.Kept.{half-below, kept-start}
 use Rattle.step_laws.specs.Bound.{Bounded}
+use Rattle.step_laws.specs.WorkingLimit.{Workable}
 use Rattle.step_laws.specs.Tests.{by-order}
 use Rattle.step_laws.specs.Firsts.{length-firsts, getD-firsts}
-use Rattle.divisors.specs.Walks.{Stands, taken, walkAt}
+use Rattle.divisors.specs.Walks.{taken, walkAt}
 use Rattle.divisors.proofs.Walking.{taken-at, stands-at}
-use Rattle.kept.specs.Halves.{Workable, KeptHalfAt, DivisorOutcomeIs, RunOutcomeIs, WalkAtStart, KeptHalfIs}
+use Rattle.kept.specs.Halves.{KeptHalfAt, DivisorOutcomeIs, RunOutcomeIs, WalkAtStart, KeptHalfIs}
 use Rattle.divisors.specs.declared.Walk.{Walk}
 use Rattle.kept.specs.declared.run.DivisorOutcome.{DivisorOutcome}
 use Rattle.kept.specs.declared.RunOutcome.{RunOutcome}

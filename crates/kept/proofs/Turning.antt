@@ -1,22 +1,22 @@
 -- One divisor's turn: where the walk stands at place j and more are due, it hands out the divisor there with mu of r/d,
 -- and the step on the kept half after j divisors gives that after j + 1.
-use Prim.Native.Nat.{ℕ, zero, suc, _+_, _-_, _/_, _<_, _≤_}
+use Prim.Native.Nat.{ℕ, suc, _+_, _-_, _/_, _<_, _≤_}
 use mathlib.Core.Path.{_≡_, refl, sym, _∙_, ap, ap₂}
-use mathlib.Core.Bool.{Bool, true, false, cond, not}
+use mathlib.Core.Bool.{Bool, cond, not}
 use mathlib.Core.List.{List}
 use native.Mathlib.Omega.{arith}
 use native.Mathlib.Nat as NatL
-use lib.ListN.{length, getD}
+use lib.ListN.{length}
 use lib.Dec.{eqb}
 use lib.IntN.{ℤ}
-use Rattle.definitions.specs.Numbers.{divides, listTo, divisorsBelow, muIsPlus}
-use Rattle.definitions.specs.Steps.{Sort, comb, accumulate, entries, stepList}
+use Rattle.definitions.specs.Numbers.{divides, divisorsBelow, muIsPlus}
+use Rattle.definitions.specs.Steps.{Sort, comb, accumulate, stepList}
 use Rattle.definitions.specs.KeptHalf.{halfDegree, sortOf, keptSeries, keptHalf}
 use Rattle.definitions.specs.Requests.{divisorsDue, nextDivisor, overAt}
 use Rattle.numbers.specs.Lists.{entry-has}
 use Rattle.step_laws.specs.Firsts.{length-firsts}
 use Rattle.cyclotomic.specs.Kept.{step-kept}
-use Rattle.divisors.specs.Walks.{Stands, taken, walkAt, nextAt, nextOf, divisorAt}
+use Rattle.divisors.specs.Walks.{taken, walkAt, nextOf, divisorAt}
 use Rattle.divisors.proofs.Walking.{next-more}
 use Rattle.bounded.specs.Outcome.{StepOutcomeIs}
 use Rattle.bounded.proofs.Outcomes.{outcome-length}

@@ -1,27 +1,24 @@
 -- How the kept half comes about, as the inner functions' contracts tell it.
 use Prim.Native.Nat.{ℕ, suc, _+_, _-_, _≤_}
 use mathlib.Core.Path.{_≡_}
-use mathlib.Core.Bool.{Bool, true, false}
+use mathlib.Core.Bool.{true, false}
 use mathlib.Core.Logic.{_≢_}
 use mathlib.Core.List.{List}
 use lib.ListN.{length}
 use lib.IntN.{ℤ}
-use Rattle.definitions.specs.Steps.{entries, largest}
+use Rattle.definitions.specs.Steps.{entries}
 use Rattle.definitions.specs.KeptHalf.{halfDegree, keptHalf, additionsAfter}
 use Rattle.definitions.specs.Numbers.{rOf}
 use Rattle.definitions.specs.Requests.{knownKind, goodIndex, divisorsDue, nextDivisor, overAt, overAmong, zeros}
 use Rattle.numbers.specs.Apart.{OddSquarefree}
 use Rattle.step_laws.specs.Bound.{Bounded}
+use Rattle.step_laws.specs.WorkingLimit.{Workable}
 use Rattle.index.specs.Parts.{partsOf}
 use Rattle.index.specs.declared.Parts.{Parts}
 use Rattle.divisors.specs.Walks.{Stands, taken, walkAt}
 use Rattle.divisors.specs.declared.Walk.{Walk}
 use Rattle.kept.specs.declared.run.DivisorOutcome.{DivisorOutcome}
 use Rattle.kept.specs.declared.RunOutcome.{RunOutcome}
-
--- a working limit that is not below 1, nor above the largest
-abbrev pub Workable : ℕ → Type 0
-Workable limit = (1 ≤ limit) × (limit ≤ largest)
 
 -- the walk over r's divisors stands at some place, and l is the kept half there, of magnitudes within the bound, which
 -- is within the working limit

@@ -13,8 +13,9 @@ ghost use lib.ListN.{length};
 ghost use Rattle.definitions.specs.Numbers.{rOf};
 ghost use Rattle.definitions.specs.KeptHalf.{halfDegree};
 ghost use Rattle.definitions.specs.Requests.{divisorsDue};
+ghost use Rattle.step_laws.specs.WorkingLimit.{Workable};
 ghost use Rattle.answers.specs.Partial as Partial;
-ghost use Rattle.kept.specs.Halves.{Workable, StepsDue, KeptHalfIs};
+ghost use Rattle.kept.specs.Halves.{StepsDue, KeptHalfIs};
 
 // The outcome of a run of steps: a value that passes the working limit, or the additions and the divisors still due.
 pub struct RunOutcome {

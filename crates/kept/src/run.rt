@@ -13,9 +13,9 @@ ghost use Rattle.definitions.specs.Series.{firsts};
 ghost use Rattle.definitions.specs.Steps.{comb, accumulate};
 ghost use Rattle.definitions.specs.KeptHalf.{halfDegree, start};
 ghost use Rattle.definitions.specs.Requests.{divisorsDue};
+ghost use Rattle.step_laws.specs.WorkingLimit.{Workable};
 ghost use Rattle.passes.specs.Sorts.{sortMeans};
-ghost use Rattle.kept.specs.Halves.{Workable, DivisorOutcomeIs, RunOutcomeIs, KeptHalfAt, WalkAtStart};
-ghost use Rattle.kept.specs.Halves.{KeptHalfIs};
+ghost use Rattle.kept.specs.Halves.{DivisorOutcomeIs, RunOutcomeIs, KeptHalfAt, WalkAtStart, KeptHalfIs};
 ghost use Rattle.divisors.specs.Walks.{walkAt};
 
 // The outcome of one divisor's step: a value that passes the working limit, or its additions, the bound after it and

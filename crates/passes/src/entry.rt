@@ -9,6 +9,7 @@ ghost use mir.Syntax.{w64};
 ghost use mir.Val.{SFits};
 ghost use Rattle.definitions.specs.Steps.{entries, inRange, largest};
 ghost use Rattle.step_laws.specs.Bound.{Bounded};
+ghost use Rattle.step_laws.specs.WorkingLimit.{Workable};
 ghost use Rattle.passes.specs.Sorts.{sortMeans};
 ghost use Rattle.passes.specs.Passes.{addable, newValue, newEntry};
 use crate::ADDABLE;
@@ -44,7 +45,7 @@ pub fn new_value(sort: Sort, x: i64, y: i64) -> i64
 }
 
 fn new_value_within(sort: Sort, w: u64, x: i64, y: i64) -> bool
-    requires { ⌜ (1 ≤ w) × (w ≤ largest) × SFits w64 (newValue (sortMeans sort) x y) ⌝ }
+    requires { ⌜ Workable w × SFits w64 (newValue (sortMeans sort) x y) ⌝ }
     ensures { λ r. ⌜ r ≡ inRange w (newValue (sortMeans sort) x y) ⌝ }
 {
     let v = new_value(sort, x, y);
@@ -53,7 +54,7 @@ fn new_value_within(sort: Sort, w: u64, x: i64, y: i64) -> bool
 
 // The test of a step: of two numbers that are known to be small it is the value's alone.
 fn passes_test(sort: Sort, narrow: bool, w: u64, x: i64, y: i64) -> bool
-    requires { ⌜ (1 ≤ w) × (w ≤ largest) × (narrow ≡ true → (natAbs x ≤ addable) × (natAbs y ≤ addable)) ⌝ }
+    requires { ⌜ Workable w × (narrow ≡ true → (natAbs x ≤ addable) × (natAbs y ≤ addable)) ⌝ }
     ensures { λ r. ⌜ r ≡ inRange w (newValue (sortMeans sort) x y) ⌝ }
 {
     if narrow {
@@ -74,7 +75,7 @@ pub(crate) fn entry_passes_test(
     i: usize,
     d: usize,
 ) -> bool
-    requires { ⌜ (d ≤ i) × (i < length (now a)) × (1 ≤ w) × (w ≤ largest) ⌝ }
+    requires { ⌜ (d ≤ i) × (i < length (now a)) × Workable w ⌝ }
     requires { ⌜ (narrow ≡ true → Bounded addable (entries (now a))) ⌝ }
     ensures { λ r.
         ⌜ (r ≡ inRange w (newEntry (sortMeans sort) d (now (a .entry)) i)) × SFits w64 (entries (now (a .entry)) i) ⌝ }

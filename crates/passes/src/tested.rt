@@ -7,7 +7,8 @@ ghost use mathlib.Core.List.{List};
 ghost use Prim.Native.Nat.{_+_, _≤_, _<_};
 ghost use lib.ListN.{length};
 ghost use lib.IntN.{ℤ};
-ghost use Rattle.definitions.specs.Steps.{stepped, entries, inRange, largest};
+ghost use Rattle.definitions.specs.Steps.{stepped, entries, inRange};
+ghost use Rattle.step_laws.specs.WorkingLimit.{Workable};
 ghost use Rattle.passes.specs.Sorts.{sortMeans};
 ghost use Rattle.passes.specs.Passes.{place, Narrow, ReadTo, TestedTo, Undoable, SteppedOrUndone};
 use crate::Sort;
@@ -18,7 +19,7 @@ use crate::order::place;
 
 // Takes the places in their order, and stops where the next value passes w; answers how many it took.
 fn take_tested(sort: Sort, narrow: bool, w: u64, a: &mut [i64], d: usize) -> usize
-    requires { ⌜ (1 ≤ d) × (d ≤ length (now a)) × (1 ≤ w) × (w ≤ largest) × (narrow ≡ true → Narrow w (now a)) ⌝ }
+    requires { ⌜ (1 ≤ d) × (d ≤ length (now a)) × Workable w × (narrow ≡ true → Narrow w (now a)) ⌝ }
     ensures { λ r. ⌜ TestedTo w (sortMeans sort) d (now (a .entry)) (now (a .exit)) r ⌝ }
     ensures { λ r.
         ⌜ (r + d < length (now (a .entry)) → inRange w
@@ -53,7 +54,7 @@ fn undo(sort: Sort, a: &mut [i64], d: usize, taken: usize)
 
 // The step of either sort, whole; or, where a value passes w, nothing.
 pub fn step_or_undo(sort: Sort, narrow: bool, w: u64, a: &mut [i64], d: usize) -> bool
-    requires { ⌜ (1 ≤ d) × (d ≤ length (now a)) × (1 ≤ w) × (w ≤ largest) × (narrow ≡ true → Narrow w (now a)) ⌝ }
+    requires { ⌜ (1 ≤ d) × (d ≤ length (now a)) × Workable w × (narrow ≡ true → Narrow w (now a)) ⌝ }
     ensures { λ r. ⌜ SteppedOrUndone w (sortMeans sort) d (now (a .entry)) (now (a .exit)) r ⌝ }
 {
     let t = take_tested(sort, narrow, w, a, d);

@@ -6,7 +6,7 @@ use Prim.Native.Nat.{ℕ, zero, suc, _+_, _*_, _^_, _<_, _≤_}
 use mathlib.Core.Path.{_≡_, refl, sym, _∙_, ap, subst}
 use mathlib.Core.Bool.{false, cond}
 use mathlib.Core.Logic.{_≢_}
-use mathlib.Core.List.{List, _∷_, _++_}
+use mathlib.Core.List.{List, _∷_}
 use native.Mathlib.Omega.{arith}
 use native.Mathlib.Nat as NatL
 use native.Mathlib.Decide.{ℕ-discrete}
@@ -21,13 +21,13 @@ use Rattle.definitions.specs.Polynomials.{polynomial, degree}
 use Rattle.definitions.specs.Steps.{entries, largest, belowOne}
 use Rattle.definitions.specs.KeptHalf.{halfDegree, sortOf, keptHalf, additions}
 use Rattle.definitions.specs.Requests.{divisorsDue, nextDivisor, overAt, overAmong, written}
-use Rattle.definitions.specs.Answer.{coefficients, heightOf, height, additionsFor}
+use Rattle.definitions.specs.Answer.{coefficients, height, additionsFor}
 use Rattle.numbers.specs.Apart.{r-odd-squarefree}
 use Rattle.numbers.specs.HowMany.{k-of-r}
 use Rattle.numbers.specs.Below.{additions-at-most}
 use Rattle.step_laws.specs.Bound.{Bounded, stays-inside}
 use Rattle.step_laws.specs.Firsts.{length-firsts}
-use Rattle.step_laws.specs.Tests.{or-false}
+use Rattle.step_laws.specs.Tests.{neither}
 use Rattle.step_laws.specs.WorkingLimit.{good-limit}
 use Rattle.cyclotomic.specs.Kept.{kept-all, kept-start, step-kept}
 use Rattle.cyclotomic.specs.Heights.{height-half, height-one, at-most-height, height-least}
@@ -100,7 +100,7 @@ unfolding overAmong
 kept-inside w kind r zero one h e =
     λ k. rw (kept-start kind r) (NatL.le-trans (start-bounded kind (halfDegree kind r + 1) k) one)
 kept-inside w kind r (suc j) one h e =
-    let b = or-false (overAmong w kind r j) (overAt w kind r j) e in
+    let b = neither (overAmong w kind r j) (overAt w kind r j) e in
     kept-step w kind r j h (kept-inside w kind r j one (omega arith) (b .0)) (b .1)
 
 pub within-limit : (kind n : ℕ) (h w : ℤ) (room : ℕ) → 0 < n → Polynomial.code kind n h w room ≡ DONE → (i : ℕ)

@@ -1,8 +1,8 @@
 -- r > 1: after all divisors the kept half is the lower half of the polynomial of r; its height is the polynomial's; and
 -- what each outcome tells and leaves (`Halfway`). r = 1: no step is taken (`laid-one`).
-use Prim.Native.Nat.{ℕ, zero, suc, _+_, _*_, _-_, _/_, _<_, _≤_}
-use mathlib.Core.Path.{_≡_, refl, sym, _∙_, ap, ap₂}
-use mathlib.Core.Bool.{Bool, true, false, cond}
+use Prim.Native.Nat.{ℕ, zero, _+_, _-_, _<_, _≤_}
+use mathlib.Core.Path.{_≡_, sym, _∙_, ap, ap₂}
+use mathlib.Core.Bool.{true, false, cond}
 use mathlib.Core.Logic.{_≢_}
 use mathlib.Core.List.{List, _++_}
 use native.Mathlib.Omega.{arith}
@@ -11,15 +11,15 @@ use native.Mathlib.Numerals.{add-one}
 use borrow.Author.Tests.{le-ltb}
 use lib.ListN.{length, getD, take, drop, length-append, length-drop, List·getD-append}
 use lib.Seq.{take-at}
-use lib.Dec.{eqb, ltb}
-use lib.IntN.{ℤ, natAbs}
+use lib.Dec.{ltb}
+use lib.IntN.{ℤ}
 use Rattle.definitions.specs.Integers.{0ℤ}
 use Rattle.definitions.specs.Codes.{DONE, OVER, TALL}
 use Rattle.definitions.specs.Series.{firsts}
 use Rattle.definitions.specs.Numbers.{rOf, listTo, divisorsBelow}
 use Rattle.definitions.specs.Polynomials.{polynomial, degree}
 use Rattle.definitions.specs.Steps.{entries, largest}
-use Rattle.definitions.specs.KeptHalf.{halfDegree, keptHalf, additionsAfter, additions, sumOf}
+use Rattle.definitions.specs.KeptHalf.{halfDegree, additions, sumOf}
 use Rattle.definitions.specs.Requests.{divisorsDue, overAmong, zeros}
 use Rattle.definitions.specs.Answer.{coefficients, heightOf, height, additionsFor}
 use Rattle.numbers.specs.Apart.{r-odd-squarefree}
@@ -32,8 +32,8 @@ use Rattle.laying.specs.Ready.{Ready}
 use Rattle.polynomial.specs.Making.{MakingOutcomeIs, makingCode}
 use Rattle.index.specs.declared.Parts.{Parts}
 use Rattle.kept.specs.declared.RunOutcome.{RunOutcome}
-use Rattle.growth.proofs.Growing.{half-within, front-entry, front-length}
-use Rattle.laying.proofs.Laying.{above-zero, r-is, r-fits}
+use Rattle.growth.proofs.Growing.{half-within, front-entry}
+use Rattle.laying.proofs.Laying.{above-zero, r-fits}
 
 pub steps-due : {kind n : ℕ} {a : Parts} {l : List ℤ} → Ready kind n a l → rOf n ≢ 1 → StepsDue kind n a
 steps-due R above = record { parts = R .parts; known = R .known; good = R .good; above = above }

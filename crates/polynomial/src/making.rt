@@ -11,7 +11,7 @@ ghost use Rattle.definitions.specs.Numbers.{rOf};
 ghost use Rattle.definitions.specs.Requests.{knownKind, goodIndex};
 ghost use Rattle.answers.specs.Polynomial as Polynomial;
 ghost use Rattle.index.specs.Parts.{partsOf};
-ghost use Rattle.kept.specs.Halves.{Workable};
+ghost use Rattle.step_laws.specs.WorkingLimit.{Workable};
 ghost use Rattle.laying.specs.Ready.{Ready};
 ghost use Rattle.polynomial.specs.Making.{MakingOutcomeIs};
 

@@ -2,9 +2,9 @@
 // difference is within the largest, from -(2^63 - 1) to 2^63 - 1, without taking it.
 
 ghost use mathlib.Core.Path.{_≡_};
-ghost use Prim.Native.Nat.{_≤_};
 ghost use Rattle.definitions.specs.Integers.{_⊕_, _⊝_};
 ghost use Rattle.definitions.specs.Steps.{inRange, largest};
+ghost use Rattle.step_laws.specs.WorkingLimit.{Workable};
 
 const MOST: i64 = 9223372036854775807;
 
@@ -12,7 +12,7 @@ const LEAST: i64 = -9223372036854775807;
 
 // Is v from -w to w?
 pub fn within(w: u64, v: i64) -> bool
-    requires { ⌜ (1 ≤ w) × (w ≤ largest) ⌝ }
+    requires { ⌜ Workable w ⌝ }
     ensures { λ r. ⌜ r ≡ inRange w v ⌝ }
 {
     let most = w as i64;

@@ -1,7 +1,7 @@
 -- A signed local is its bits, so a number that was read is `seen`: the number of its own bits. It is the number itself
 -- where that fits, and the tests of `Signed` are stated here of what the machine sees.
 use mathlib.Core.Path.{_≡_, refl, sym, _∙_, ap, ap₂}
-use mathlib.Core.Bool.{Bool, true, false, true≢false}
+use mathlib.Core.Bool.{Bool, true, false}
 use Prim.Native.Nat.{ℕ, zero, suc, _^_, _<_, _≤_}
 use native.Mathlib.Omega.{arith}
 use borrow.Author.Tests.{lt-ltb}
@@ -73,15 +73,10 @@ module _ (e : ℤ) (he : natAbs e ≤ suc largest) where
       ≡ inRange largest (a ⊝ e)
   lower-is a f t = rw (toZ-ofZ f, toZ-ofZ (lower t)) (lower-test 9223372036854775806 a e (f .sfits) he t)
 
--- a limit that was read: whether it is below 1, and that it is in range where it is not
+-- a limit that was read: whether it is below 1
 pub below-one : (w : ℤ) {b : Bool} → SFits w64 w → ltZ (seen w) (pos 1) ≡ b → belowOne w ≡ b
 unfolding belowOne
 below-one w f e = ap (λ v. ltZ v (pos 1)) (sym (toZ-ofZ f)) ∙ e
-
-pub limit-within : (w : ℤ) → SFits w64 w → belowOne w ≡ false → natAbs w ≤ largest
-unfolding belowOne
-limit-within (pos k) f e = omega (arith, f .sfits)
-limit-within (negsuc k) f e = absurd (true≢false e)
 
 -- the magnitude of a machine number and of its negative
 pub machine-abs : (b : ℤ) → SFits w64 b → natAbs b ≤ suc largest

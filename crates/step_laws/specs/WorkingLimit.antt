@@ -4,15 +4,19 @@
 use mathlib.Core.Path.{_≡_, refl, sym, _∙_, ap}
 use mathlib.Core.Bool.{true, false, true≢false, cond, _||_}
 use mathlib.Core.List.{List}
-use Prim.Native.Nat.{ℕ, _<_, _≤_}
+use Prim.Native.Nat.{ℕ, _≤_}
 use native.Mathlib.Omega.{arith}
 use borrow.Author.Tests.{leb-true, le-ltb, ltb-false}
 use lib.Dec.{eqb, ltb}
 use lib.IntN.{ℤ, pos, negsuc, natAbs}
 use lib.Signed.{leZ}
+use mir.Syntax.{w64}
+use mir.Val.{SFits}
+use mir.Facts.{toZ-ofZ}
 use Rattle.definitions.specs.Codes.{DONE, OVER, STEP}
 use Rattle.definitions.specs.Steps.{Sort, inRange, stepOver, largest, belowOne, stepCode, stepCount, stepLeaves}
 use Rattle.step_laws.specs.Signed.{in-range, range-in}
+use Rattle.step_laws.specs.Machine.{seen}
 use Rattle.step_laws.specs.Step.{not-over-each, not-over-all}
 use Rattle.step_laws.specs.Tests.{past}
 
@@ -28,6 +32,21 @@ pub good-limit : (w : ℤ) → belowOne w ≡ false → (w ≡ pos (natAbs w)) �
 unfolding belowOne
 good-limit (pos k) e = (refl, ltb-false k 1 e)
 good-limit (negsuc k) e = absurd (true≢false e)
+
+-- a limit that functions can hand on: not below 1, nor above the largest
+abbrev pub Workable : ℕ → Type 0
+Workable w = (1 ≤ w) × (w ≤ largest)
+
+-- a good limit that was read is handed on as its magnitude
+pub read-limit : (w : ℤ) → SFits w64 w → belowOne w ≡ false → {m : ℕ} → m ≡ natAbs (seen w)
+    → (m ≡ natAbs w) × (pos m ≡ w) × Workable m
+read-limit w f g {m} e =
+    let is : m ≡ natAbs w = e ∙ ap natAbs (toZ-ofZ f) in
+    let l = good-limit w g in
+    (is, ap pos is ∙ sym (l .0), (omega (arith, is, l .1), rw is (most w f g)))
+  where
+    most : (v : ℤ) → SFits w64 v → belowOne v ≡ false → natAbs v ≤ largest
+    most v f g = omega (arith, rw (good-limit v g .0) at (f .sfits))
 
 -- and so is every larger one
 pub larger-good : (w w′ : ℤ) → leZ w w′ ≡ true → belowOne w ≡ false → (belowOne w′ ≡ false) × (natAbs w ≤ natAbs w′)

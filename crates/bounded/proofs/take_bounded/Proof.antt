@@ -44,15 +44,15 @@ module _ (c : tie.Then2) where
       (start .pre .1) (c .before .before .times-added .ensures .1 (start .args .bound))
 
 mul-grown : tie.Need-mul-grown
-mul-grown c = omega (arith, most c, start c .pre .3)
+mul-grown c = omega (arith, most c, start c .pre .2 .1)
 
 add-grown : tie.Need-add-grown
-add-grown c = omega (arith, most c, start c .pre .3)
+add-grown c = omega (arith, most c, start c .pre .2 .1)
 
 untested-step-requires : tie.Need-untested-step-requires
 untested-step-requires c κs =
     let q = c .before in
-    (start q .pre .0, none q largest (omega (arith, most q, start q .pre .3)) .0)
+    (start q .pre .0, none q largest (omega (arith, most q, start q .pre .2 .1)) .0)
 
 same-length : tie.Need-same-length
 same-length c = search needs
@@ -67,7 +67,7 @@ returns-2 c =
 take-narrow-requires : tie.Need-take-narrow-requires
 take-narrow-requires c κs =
     let p = c .before .before .before .before .before .before in
-    ((p .pre .0, omega arith, p .pre .1, p .pre .2, p .pre .3), c .before .if3 .taken)
+    ((p .pre .0, omega arith, p .pre .1, p .pre .2), c .before .if3 .taken)
 
 same-length-2 : tie.Need-same-length-2
 same-length-2 c = search needs
@@ -78,7 +78,7 @@ returns-3 c = search needs
 take-wide-requires : tie.Need-take-wide-requires
 take-wide-requires c κs =
     let p = c .before .before .before .before .before .before in
-    (p .pre .0, omega arith, p .pre .1, p .pre .2, p .pre .3)
+    (p .pre .0, omega arith, p .pre .1, p .pre .2)
 
 same-length-3 : tie.Need-same-length-3
 same-length-3 c = search needs

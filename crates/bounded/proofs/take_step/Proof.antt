@@ -9,7 +9,7 @@ better-bound-requires c κs = let p = c .before .pre in (p .0, p .1)
 
 take-bounded-requires : tie.Need-take-bounded-requires
 take-bounded-requires c κs =
-    let p = c .before .before .before .pre in (p .0, c .before .better-bound .ensures .0, p .2, p .3)
+    let p = c .before .before .before .pre in (p .0, c .before .better-bound .ensures .0, p .2)
 
 same-length : tie.Need-same-length
 same-length c = search needs

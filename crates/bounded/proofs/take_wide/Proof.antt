@@ -9,7 +9,7 @@ use Rattle.bounded.proofs.take_wide.Tie as tie
 
 step-or-undo-requires : tie.Need-step-or-undo-requires
 step-or-undo-requires c κs =
-    let p = c .before .pre in (p .0, omega (arith, p .1), p .3, p .4, λ t. absurd (true≢false (sym t)))
+    let p = c .before .pre in (p .0, omega (arith, p .1), p .3, λ t. absurd (true≢false (sym t)))
 
 larger-requires : tie.Need-larger-requires
 larger-requires c κs = search needs

@@ -1,6 +1,5 @@
 -- `all_steps` meets its contract: the walk over n's r at its start, and the kept half after all its divisors
 -- (Stopping).
-use mathlib.Core.Path.{_≡_}
 use native.Mathlib.Nat.{le-of-eq}
 use Rattle.index.proofs.Laws.{parts-few}
 use Rattle.kept.proofs.Stopping.{walk-due, fresh-half, of-all}

@@ -1,19 +1,13 @@
 -- `polynomial` meets its contract: each test's code (Answering), and then `answer_in`'s. What each test showed is named
 -- once.
-use mathlib.Core.Path.{_≡_, refl, sym, _∙_, ap}
+use mathlib.Core.Path.{_≡_, refl, sym, _∙_}
 use mathlib.Core.Bool.{true, false, or-true}
-use Prim.Native.Nat.{ℕ, _≤_}
-use native.Mathlib.Omega.{arith}
 use borrow.Author.Tests.{not-true, not-false}
-use lib.IntN.{ℤ, pos, natAbs}
-use mir.Syntax.{w64}
-use mir.Val.{SFits}
-use mir.Facts.{toZ-ofZ}
-use Rattle.definitions.specs.Steps.{largest, belowOne}
+use Rattle.definitions.specs.Steps.{belowOne}
 use Rattle.definitions.specs.Requests.{knownKind, goodIndex}
 use Rattle.index.proofs.Laws.{taken-good}
-use Rattle.step_laws.specs.Machine.{seen, below-one, limit-within}
-use Rattle.step_laws.specs.WorkingLimit.{good-limit}
+use Rattle.step_laws.specs.Machine.{below-one}
+use Rattle.step_laws.specs.WorkingLimit.{read-limit}
 use Rattle.polynomial.proofs.Answering.{ask-kind, ask-index, ask-limit, at-kind, at-index, at-limit}
 use borrow.Author.Needs.{needs}
 use Rattle.polynomial.proofs.polynomial.Statement.{statement}
@@ -94,14 +88,6 @@ module _ (c : tie.Else4) where
   good-w : belowOne (asked .args .w) ≡ false
   good-w = below-one (asked .args .w) (asked .fits .w) (c .if4 .left)
 
--- a limit, as it is handed on
-handed-on : (v : ℤ) {m : ℕ} → SFits w64 v → belowOne v ≡ false → m ≡ natAbs (seen v) → (pos m ≡ v) × (1 ≤ m) ×
-    (m ≤ largest)
-handed-on v f g e =
-    let is : _ ≡ natAbs v = e ∙ ap natAbs (toZ-ofZ f) in
-    let l = good-limit v g in
-    (ap pos is ∙ sym (l .0), omega (arith, is, l .1), omega (arith, is, limit-within v f g))
-
 take-apart-requires : tie.Need-take-apart-requires
 take-apart-requires c κs = search needs
 
@@ -115,12 +101,12 @@ answer-in-requires : tie.Need-answer-in-requires
 answer-in-requires c κs =
     let e = c .before .before .before .before in
     let t = e .before .before in
-    let w = handed-on (asked e .args .w) (asked e .fits .w) (good-w e) (c .before .magnitude2 .ensures) in (
+    let w = read-limit (asked e .args .w) (asked e .fits .w) (good-w e) (c .before .magnitude2 .ensures) in (
       c .before .before .before .take-apart .ensures ∙ taken-good _ (good t),
       kind-known t,
       good t,
-      handed-on (asked e .args .h) (asked e .fits .h) (good-h e) (c .before .before .magnitude .ensures) .1,
-      (w .1, w .2),
+      read-limit (asked e .args .h) (asked e .fits .h) (good-h e) (c .before .before .magnitude .ensures) .2 .0,
+      w .2,
     )
 
 same-length : tie.Need-same-length
@@ -129,11 +115,11 @@ same-length c = search needs
 returns-5 : tie.Need-returns-5
 returns-5 c =
     let e = c .before .before .before .before .before .before in
-    let h = handed-on (asked e .args .h) (asked e .fits .h) (good-h e)
+    let h = read-limit (asked e .args .h) (asked e .fits .h) (good-h e)
     (c .before .before .before .before .magnitude .ensures) in
-    let w = handed-on (asked e .args .w) (asked e .fits .w) (good-w e)
+    let w = read-limit (asked e .args .w) (asked e .fits .w) (good-w e)
     (c .before .before .before .magnitude2 .ensures) in
-    rw (h .0, w .0) at (c .before .answer-in .ensures)
+    rw (h .1, w .1) at (c .before .answer-in .ensures)
 
 pub polynomial-spec : {M : Type 1} → statement M
 polynomial-spec =

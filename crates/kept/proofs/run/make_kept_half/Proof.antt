@@ -1,5 +1,5 @@
 -- `make_kept_half` meets its contract: the start, the run, and zeros where a value would pass the limit.
-use mathlib.Core.Path.{_≡_, sym, _∙_, ap}
+use mathlib.Core.Path.{sym, _∙_}
 use mathlib.Core.Bool.{true≢false}
 use lib.ListN.{length}
 use Rattle.kept.proofs.Running.{fresh-stands, made-zeros}

@@ -1,6 +1,5 @@
 -- `take_divisor` meets its contract: the walk hands out the divisor at its place, and the step on the kept half there
 -- is the next kept half (Turning).
-use mathlib.Core.Path.{_≡_, _∙_, sym, ap}
 use Rattle.passes.specs.Sorts.{sortMeans}
 use Rattle.kept.proofs.Turning.{size-good, turned, not-nothing}
 use borrow.Author.Needs.{needs}
@@ -24,7 +23,7 @@ take-step-requires c κs =
     (p .pre .1) _
     (q .before .before .before .next .ensures) (q .next2 .given .0 .0) (q .next2 .given .0 .1 .0)
     (q .next2 .given .1) in
-    (g, p .pre .0 .bounded, p .pre .0 .good .0, p .pre .0 .good .1)
+    (g, p .pre .0 .bounded, p .pre .0 .good)
 
 count-of-requires : tie.Need-count-of-requires
 count-of-requires c κs = search needs

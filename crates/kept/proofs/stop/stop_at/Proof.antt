@@ -5,18 +5,17 @@ use mathlib.Core.Path.{_≡_, sym, _∙_, ap}
 use mathlib.Core.Bool.{false}
 use mathlib.Core.List.{List}
 use native.Mathlib.Omega.{arith}
-use lib.IntN.{ℤ, natAbs}
+use lib.IntN.{ℤ, pos, natAbs}
 use lib.ListN.{length}
 use lib.Seq.{length-take-le}
-use mir.Facts.{toZ-ofZ}
 use Rattle.definitions.specs.Numbers.{rOf}
 use Rattle.definitions.specs.Steps.{belowOne}
 use Rattle.definitions.specs.KeptHalf.{halfDegree}
 use Rattle.definitions.specs.Requests.{divisorsDue}
-use Rattle.step_laws.specs.Machine.{seen, below-one, limit-within}
-use Rattle.step_laws.specs.WorkingLimit.{good-limit}
+use Rattle.step_laws.specs.Machine.{seen, below-one}
+use Rattle.step_laws.specs.WorkingLimit.{Workable, read-limit}
 use Rattle.index.proofs.Laws.{parts-few}
-use Rattle.kept.specs.Halves.{Workable, KeptHalfIs}
+use Rattle.kept.specs.Halves.{KeptHalfIs}
 use Rattle.kept.specs.declared.RunOutcome.{RunOutcome}
 use Rattle.kept.proofs.Stopping as Stopping
 use borrow.Author.Needs.{needs}
@@ -97,13 +96,8 @@ module _ (e : tie.Else2) where
   good : belowOne w ≡ false
   good = below-one w (start walked .fits .w) (e .if2 .left)
 
-  limit-is : {m : ℕ} → m ≡ natAbs (seen w) → m ≡ natAbs w
-  limit-is is = is ∙ ap natAbs (toZ-ofZ (start walked .fits .w))
-
-  workable : {m : ℕ} → m ≡ natAbs (seen w) → Workable m
-  workable is =
-      let g = good-limit w good in
-      (omega (arith, limit-is is, g .1), omega (arith, limit-is is, limit-within w (start walked .fits .w) good))
+  limit : {m : ℕ} → m ≡ natAbs (seen w) → (m ≡ natAbs w) × (pos m ≡ w) × Workable m
+  limit = read-limit w (start walked .fits .w) good
 
 refused-requires-3 : tie.Need-refused-requires-3
 refused-requires-3 c κs = search needs
@@ -135,7 +129,7 @@ make-kept-half-requires c κs =
     let q = walked e in (
       Stopping.fresh-half (kind q) (n q) _ (start q .pre) (q .over .result) (q .over .ensures) _ _
           (part-length q (omega arith) (omega arith) ∙ ap (λ k. k + 1) (d-is q)) (few-due q (omega arith)),
-      workable e (c .magnitude .ensures),
+      limit e (c .magnitude .ensures) .2,
     )
 
 refused-requires-4 : tie.Need-refused-requires-4
@@ -150,7 +144,7 @@ returns-4 c =
     let e = m .before .before .before .before in
     let q = walked e in
     let s = Stopping.made-over (kind q) (n q) (start q .args .j) (w e) _ (start q .pre) (old q) _ (d-is q)
-    (few-due q (omega arith)) (good e) (omega arith) _ _ (limit-is e (m .before .magnitude .ensures))
+    (few-due q (omega arith)) (good e) (omega arith) _ _ (limit e (m .before .magnitude .ensures) .0)
     (walk-of-r q (m .make-kept-half .ensures)) (c .before .if4 .taken) in
     (c .refused4 .ensures ∙ s .0, s .1)
 
@@ -163,7 +157,7 @@ returns-5 c =
     let e = m .before .before .before .before in
     let q = walked e in
     Stopping.made-done (kind q) (n q) (start q .args .j) (w e) _ (start q .pre) (old q) _ (d-is q)
-    (few-due q (omega arith)) (good e) (omega arith) _ _ (limit-is e (m .before .magnitude .ensures))
+    (few-due q (omega arith)) (good e) (omega arith) _ _ (limit e (m .before .magnitude .ensures) .0)
     (walk-of-r q (m .make-kept-half .ensures)) (c .if4 .left)
 
 pub stop-at-spec : {M : Type 1} → statement M

@@ -33,16 +33,12 @@ passes-test-requires : tie.Need-passes-test-requires
 unfolding entries
 passes-test-requires c κs =
     let p = c .before .before in
-    let f : SFits w64 (getD (p .args .a .now) (p .args .i) 0ℤ) = record { sfits = c .before .passes-test-arg .given } in
-    let g : SFits w64 (getD (p .args .a .now) (p .args .i - p .args .d) 0ℤ) = record
-    { sfits = c .passes-test-arg2 .given } in (
+    let x = getD (p .args .a .now) (p .args .i) 0ℤ in
+    let y = getD (p .args .a .now) (p .args .i - p .args .d) 0ℤ in
+    let f : SFits w64 x = record { sfits = c .before .passes-test-arg .given } in
+    let g : SFits w64 y = record { sfits = c .passes-test-arg2 .given } in (
       p .pre .0 .2,
-      p .pre .0 .3,
-      λ t. (
-        rw (toZ-ofZ f) (p .pre .1 t (p .args .i)),
-        rw (toZ-ofZ g)
-            (p .pre .1 t (p .args .i - p .args .d)),
-      ),
+      λ t. (rw (toZ-ofZ f) (p .pre .1 t (p .args .i)), rw (toZ-ofZ g) (p .pre .1 t (p .args .i - p .args .d))),
     )
 
 returns : tie.Need-returns

@@ -19,7 +19,7 @@ returns c =
     let p = c .before .before in
     c .within .ensures
     ∙ ap (inRange (p .args .w))
-    (handed (p .pre .2)
+    (handed (p .pre .1)
     (c .before .new-value .ensures ∙ seen-both (p .fits .x) (p .fits .y) (newValue (sortMeans (p .args .sort)))))
 
 pub new-value-within-spec : {M : Type 1} → statement M

@@ -37,9 +37,8 @@ module _ (p : tie.Start) where
 new-value-within-requires : tie.Need-new-value-within-requires
 new-value-within-requires c κs =
     let p = c .before in
-    let small = p .pre .2 (c .if1 .taken) in (
+    let small = p .pre .1 (c .if1 .taken) in (
       p .pre .0,
-      p .pre .1,
       taken p (small-in-range (sortMeans (p .args .sort)) (p .args .x) (p .args .y) (small .0)
           (small .1)),
     )
@@ -53,7 +52,7 @@ new-value-fits-requires c κs = search needs
 new-value-within-requires-2 : tie.Need-new-value-within-requires-2
 new-value-within-requires-2 c κs =
     let p = c .before .before .before in
-    (p .pre .0, p .pre .1, taken p (sym (within p largest (c .before .new-value-fits .ensures)) ∙ c .if2 .taken))
+    (p .pre .0, taken p (sym (within p largest (c .before .new-value-fits .ensures)) ∙ c .if2 .taken))
 
 returns-2 : tie.Need-returns-2
 returns-2 c =
@@ -65,7 +64,7 @@ returns-3 c =
     let none : inRange largest (value p) ≡ false = sym (within p largest (c .before .new-value-fits .ensures))
     ∙ c .if2 .left in
     sym (not-true-is (inRange (p .args .w) (value p))
-    (λ t. true≢false (sym (range-more (p .pre .1) (value p) t) ∙ none)))
+    (λ t. true≢false (sym (range-more (p .pre .0 .1) (value p) t) ∙ none)))
 
 pub passes-test-spec : {M : Type 1} → statement M
 passes-test-spec =

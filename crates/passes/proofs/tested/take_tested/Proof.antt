@@ -42,12 +42,10 @@ entry-passes-test-requires c κs =
     let e = c .before .place .ensures in (
       (
         next-from p (left (c .before .before)) e,
-        next-below p
-            (left (c .before .before)) e,
+        next-below p (left (c .before .before)) e,
         q .before .pre .2,
-        q .before .pre .3,
       ),
-      λ narrow. still-small (q .loop .inv) (q .before .pre .4 narrow),
+      λ narrow. still-small (q .loop .inv) (q .before .pre .3 narrow),
     )
 
 same-length : tie.Need-same-length Inv-loop μ-loop
@@ -85,8 +83,7 @@ step-entry-requires c κs =
     let h = left (q .before) in (
       next-from p h (q .place .ensures),
       next-below p h (q .place .ensures),
-      range-fits _
-          (range-more (q .before .before .before .pre .3) _ (passed (c .before))),
+      range-fits _ (range-more (q .before .before .before .pre .2 .1) _ (passed (c .before))),
     )
 
 add-t : tie.Need-add-t Inv-loop μ-loop

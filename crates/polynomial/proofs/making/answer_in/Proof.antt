@@ -1,5 +1,5 @@
 -- `answer_in` meets its contract: SHORT, or what the making came to (Answering). The degree is named once.
-use Prim.Native.Nat.{ℕ, _+_, _<_, _≤_}
+use Prim.Native.Nat.{_+_}
 use mathlib.Core.Path.{_≡_, sym, _∙_, ap}
 use native.Mathlib.Omega.{arith}
 use lib.ListN.{length}

@@ -6,13 +6,12 @@ use Prim.Native.Nat.{ℕ, _≤_, _-_}
 use native.Mathlib.Omega.{arith}
 use borrow.Author.Needs.{needs}
 use lib.ListN.{length}
-use lib.IntN.{ℤ, natAbs}
-use mir.Facts.{toZ-ofZ}
+use lib.IntN.{ℤ, pos, natAbs}
 use Rattle.definitions.specs.Codes.{DONE, OVER}
 use Rattle.definitions.specs.Steps.{Sort, stepOver, stepList, belowOne, stepCode, stepCount, stepLeaves}
 use Rattle.step_laws.specs.Told.{Told, told-zero, told-large, told-limit, told-over, told-done, told-long}
-use Rattle.step_laws.specs.Machine.{seen, below-one, limit-within}
-use Rattle.step_laws.specs.WorkingLimit.{good-limit}
+use Rattle.step_laws.specs.Machine.{seen, below-one}
+use Rattle.step_laws.specs.WorkingLimit.{Workable, read-limit}
 use Rattle.bounded.specs.Outcome.{StepOutcomeIs}
 use Rattle.bounded.specs.declared.StepOutcome.{StepOutcome}
 use Rattle.steps.proofs.Step.apply.Statement.{statement}
@@ -81,8 +80,9 @@ module _ (q : tie.Else3) where
   good : belowOne (start .args .w) ≡ false
   good = below-one (start .args .w) (start .fits .w) (q .if3 .left)
 
-  limit : {m : ℕ} → m ≡ natAbs (seen (start .args .w)) → m ≡ natAbs (start .args .w)
-  limit e = e ∙ ap natAbs (toZ-ofZ (start .fits .w))
+  limit : {m : ℕ} → m ≡ natAbs (seen (start .args .w))
+      → (m ≡ natAbs (start .args .w)) × (pos m ≡ start .args .w) × Workable m
+  limit = read-limit (start .args .w) (start .fits .w) good
 
 returns-4 : tie.Need-returns-4
 returns-4 c =
@@ -99,12 +99,7 @@ magnitude-requires c κs = search needs
 take-bounded-requires : tie.Need-take-bounded-requires
 take-bounded-requires c κs =
     let q = c .before .before .before .before .before in
-    let p = start q in (
-      one q,
-      c .before .look .ensures,
-      rw (limit q (c .magnitude .ensures)) (good-limit (p .args .w) (good q) .1),
-      rw (limit q (c .magnitude .ensures)) (limit-within (p .args .w) (p .fits .w) (good q)),
-    )
+    (one q, c .before .look .ensures, limit q (c .magnitude .ensures) .2)
 
 -- the step was taken or not
 module _ (t : tie.After-take-bounded) where
@@ -112,7 +107,7 @@ module _ (t : tie.After-take-bounded) where
   asked = t .before .before .before .before .before .before
 
   is-limit : t .before .magnitude .result ≡ natAbs (start asked .args .w)
-  is-limit = limit asked (t .before .magnitude .ensures)
+  is-limit = limit asked (t .before .magnitude .ensures) .0
 
 refused-requires-4 : tie.Need-refused-requires-4
 refused-requires-4 c κs = search needs

@@ -1,11 +1,10 @@
 -- `untested::fours::take_fours` meets its contract, which is the loop's invariant: t places are taken.
-use mathlib.Core.Path.{_≡_, refl}
-use Prim.Native.Nat.{ℕ, _+_, _-_, _<_, _≤_}
+use Prim.Native.Nat.{_+_, _-_, _≤_}
 use native.Mathlib.Omega.{arith}
 use borrow.Author.Tests.{not-false}
 use lib.ListN.{length}
 use Rattle.passes.specs.Sorts.{sortMeans}
-use Rattle.passes.specs.Passes.{newEntry, FoursApart, PassedTo}
+use Rattle.passes.specs.Passes.{FoursApart, PassedTo}
 use Rattle.passes.proofs.PassedTo.{start}
 use Rattle.untested.proofs.FourEntries.{fours-from, fours-below, fours-are, fours-next}
 use Rattle.untested.proofs.fours.take_fours.Statement.{statement}
