@@ -3,6 +3,7 @@ pub mod Tests
 pub mod Firsts
 pub mod Outside
 pub mod Accumulated
+pub mod Chain
 pub mod Step
 pub mod Told
 pub mod Signed
