@@ -1,21 +1,23 @@
 // Inner: nothing here is offered to callers; the `requires` is shown by `kept` and `steps`. One step under a working
 // limit w, on entries whose magnitudes are bounded: where none can pass w it needs no test, and where all can be added
 // and taken away it needs that of w alone.
+use accumulates::accumulate;
+use combs::comb;
+use combs::comb_or_undo;
 use heights::larger;
 use heights::magnitude;
 use passes::ADDABLE;
 use passes::Sort;
-use passes::step_or_undo;
-use untested::untested_step;
+use tested_accumulates::accumulate_or_undo;
 ghost use Prim.Native.Nat.{ℕ, _+_, _*_, _≤_, _<_, min};
 ghost use mathlib.Core.Path.{_≡_};
-ghost use mathlib.Core.Bool.{true};
+ghost use mathlib.Core.Bool.{true, false};
 ghost use lib.ListN.{length};
-ghost use Rattle.definitions.specs.Steps.{entries};
+ghost use Rattle.definitions.specs.Steps.{entries, largest, stepOver, stepList};
 ghost use Rattle.step_laws.specs.Bound.{Bounded, growth};
 ghost use Rattle.step_laws.specs.WorkingLimit.{Workable};
 ghost use Rattle.passes.specs.Sorts.{sortMeans};
-ghost use Rattle.passes.specs.Passes.{addable};
+ghost use Rattle.passes.specs.Passes.{addable, Narrow, SteppedOrUndone};
 ghost use Rattle.bounded.specs.Outcome.{StepOutcomeIs};
 
 // The outcome of one step: a value that passes the working limit, or the bound of the magnitudes after it.
@@ -54,6 +56,28 @@ fn smaller(a: u64, b: u64) -> u64
     ensures { λ r. ⌜ r ≡ min a b ⌝ }
 {
     if a < b { a } else { b }
+}
+
+// The step of either sort, of which it is known that no value leaves the range.
+fn untested_step(sort: Sort, a: &mut [i64], d: usize)
+    requires { ⌜ (1 ≤ d) × (d < length (now a)) × (stepOver largest (sortMeans sort) d (now a) ≡ false) ⌝ }
+    ensures { λ _. ⌜ now (a .exit) ≡ stepList (sortMeans sort) d (now (a .entry)) ⌝ }
+{
+    match sort {
+        Sort::Comb => comb(a, d),
+        Sort::Accumulate => accumulate(a, d),
+    }
+}
+
+// The step of either sort, whole; or, where a value passes w, nothing.
+fn step_or_undo(sort: Sort, narrow: bool, w: u64, a: &mut [i64], d: usize) -> bool
+    requires { ⌜ (1 ≤ d) × (d ≤ length (now a)) × Workable w × (narrow ≡ true → Narrow w (now a)) ⌝ }
+    ensures { λ r. ⌜ SteppedOrUndone w (sortMeans sort) d (now (a .entry)) (now (a .exit)) r ⌝ }
+{
+    match sort {
+        Sort::Comb => comb_or_undo(narrow, w, a, d),
+        Sort::Accumulate => accumulate_or_undo(narrow, w, a, d),
+    }
 }
 
 // A step that looks at each value, and before at whether it can be taken.

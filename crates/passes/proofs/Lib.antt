@@ -1,6 +1,4 @@
--- Laws that the functions' proofs share, here and in `untested`.
+-- Laws that the functions' proofs share, here and in the crates above.
 pub mod Split
 mod Values
-pub mod Places
-pub mod PassedTo
-pub mod TestedTo
+pub mod Tested

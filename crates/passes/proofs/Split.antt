@@ -1,4 +1,5 @@
--- A pass whose new entries need no others, from the bottom up: a store of f's value at i moves the split up.
+-- A pass that has got to some place: a store of f's value there moves the split up, one of g's just below it moves it
+-- down. One whose split stands at an end has only entries of one kind.
 use mathlib.Core.Path.{_≡_, sym, _∙_, ap}
 use mathlib.Core.List.{List}
 use Prim.Native.Nat.{ℕ, _+_, _<_, _≤_}
@@ -34,6 +35,19 @@ module _ {l : List ℤ} {n i : ℕ} {f g : Series} (s : Split l n i f g) (k j : 
       }
     where
       never : {x : ℕ} → x ≡ k → j ≤ x → ⊥
+      never q h = omega arith
+
+  pub moved-down : i ≡ k + 1 → j ≡ k → (v : ℤ) → v ≡ g k → Split (set l k v) n j f g
+  moved-down next here v e =
+      record {
+        len = length-set l k v ∙ s .len;
+        below = λ x h m. getD-set-by l k v (omega arith) x (f x) (λ q. absurd (never q h))
+            (λ ne. s .below x (omega arith) m);
+        above = λ x h m. getD-set-by l k v (omega arith) x (g x) (λ q. e ∙ ap g (sym q))
+            (λ ne. s .above x (omega arith) m);
+      }
+    where
+      never : {x : ℕ} → x ≡ k → x < j → ⊥
       never q h = omega arith
 
 pub all-firsts : {l : List ℤ} {n : ℕ} {f : Series} → All l n f → l ≡ firsts n f

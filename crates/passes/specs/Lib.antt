@@ -1,3 +1,3 @@
--- What the contracts of `passes`, and of `untested` above it, cite beside `definitions`.
+-- What the contracts of `passes`, and of the crates of passes above it, cite beside `definitions`.
 pub mod Sorts
 pub mod Passes

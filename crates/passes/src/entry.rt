@@ -1,7 +1,7 @@
 // A step at one entry: the entry with the one that stands d before it added, or taken away.
 
 ghost use mathlib.Core.Path.{_≡_};
-ghost use mathlib.Core.Bool.{true};
+ghost use mathlib.Core.Bool.{true, cond};
 ghost use Prim.Native.Nat.{_≤_, _<_};
 ghost use lib.ListN.{length, set};
 ghost use lib.IntN.{natAbs};
@@ -53,7 +53,7 @@ fn new_value_within(sort: Sort, w: u64, x: i64, y: i64) -> bool
 }
 
 // The test of a step: of two numbers that are known to be small it is the value's alone.
-fn passes_test(sort: Sort, narrow: bool, w: u64, x: i64, y: i64) -> bool
+pub fn passes_test(sort: Sort, narrow: bool, w: u64, x: i64, y: i64) -> bool
     requires { ⌜ Workable w × (narrow ≡ true → (natAbs x ≤ addable) × (natAbs y ≤ addable)) ⌝ }
     ensures { λ r. ⌜ r ≡ inRange w (newValue (sortMeans sort) x y) ⌝ }
 {
@@ -64,23 +64,6 @@ fn passes_test(sort: Sort, narrow: bool, w: u64, x: i64, y: i64) -> bool
         return new_value_within(sort, w, x, y);
     }
     false
-}
-
-// The same at a place of the slice. That an entry fits its type is known where it is read, and an undoing needs it.
-pub(crate) fn entry_passes_test(
-    sort: Sort,
-    narrow: bool,
-    w: u64,
-    a: &[i64],
-    i: usize,
-    d: usize,
-) -> bool
-    requires { ⌜ (d ≤ i) × (i < length (now a)) × Workable w ⌝ }
-    requires { ⌜ (narrow ≡ true → Bounded addable (entries (now a))) ⌝ }
-    ensures { λ r.
-        ⌜ (r ≡ inRange w (newEntry (sortMeans sort) d (now (a .entry)) i)) × SFits w64 (entries (now (a .entry)) i) ⌝ }
-{
-    passes_test(sort, narrow, w, a[i], a[i - d])
 }
 
 pub fn new_entry(sort: Sort, a: &[i64], i: usize, d: usize) -> i64
@@ -111,4 +94,32 @@ pub fn step_entry(sort: Sort, a: &mut [i64], i: usize, d: usize)
 {
     let v = new_entry(sort, a, i, d);
     put(a, i, v);
+}
+
+// The step at one place where its value is within w, each entry read once; tells whether it is. That an entry fits its
+// type is known where it is read, and an undoing needs it.
+pub fn step_entry_within(
+    sort: Sort,
+    narrow: bool,
+    w: u64,
+    a: &mut [i64],
+    i: usize,
+    d: usize,
+) -> bool
+    requires { ⌜ (d ≤ i) × (i < length (now a)) × Workable w ⌝ }
+    requires { ⌜ (narrow ≡ true → Bounded addable (entries (now a))) ⌝ }
+    ensures { λ r.
+        ⌜ (r ≡ inRange w (newEntry (sortMeans sort) d (now (a .entry)) i)) × SFits w64 (entries (now (a .entry)) i) ⌝ }
+    ensures { λ r.
+        ⌜ now (a .exit)
+        ≡ cond r (set (now (a .entry)) i (newEntry (sortMeans sort) d (now (a .entry)) i)) (now (a .entry)) ⌝ }
+{
+    let x = read_entry(a, i);
+    let y = read_entry(a, i - d);
+    if !passes_test(sort, narrow, w, x, y) {
+        return false;
+    }
+    let v = new_value(sort, x, y);
+    put(a, i, v);
+    true
 }

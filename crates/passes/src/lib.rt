@@ -1,18 +1,15 @@
-// Inner: nothing here but `Sort` is offered to callers; `bounded` and `untested` show each `requires`.
-// A step at one entry, the order in which a pass takes its places, and the tested pass over a slice, of either sort,
-// whole or not at all. The loops are written over the sort, which the compiler takes out of them.
+// Inner: nothing here but `Sort` is offered to callers; `combs` and `chains` show each `requires`. What the passes of
+// both are made of: a step at one entry, its test, and a pass that has got to some place.
 
 mod entry;
-mod order;
-mod tested;
 
 pub use entry::new_entry;
 pub use entry::new_value;
+pub use entry::passes_test;
 pub use entry::put;
 pub use entry::read_entry;
 pub use entry::step_entry;
-pub use order::place;
-pub use tested::step_or_undo;
+pub use entry::step_entry_within;
 
 // 2^62 - 1: two numbers that are no larger can be added and taken away.
 pub const ADDABLE: u64 = 4611686018427387903;

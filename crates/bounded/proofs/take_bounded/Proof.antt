@@ -52,7 +52,7 @@ add-grown c = omega (arith, most c, start c .pre .2 .1)
 untested-step-requires : tie.Need-untested-step-requires
 untested-step-requires c κs =
     let q = c .before in
-    (start q .pre .0, none q largest (omega (arith, most q, start q .pre .2 .1)) .0)
+    (start q .pre .0, omega arith, none q largest (omega (arith, most q, start q .pre .2 .1)) .0)
 
 same-length : tie.Need-same-length
 same-length c = search needs

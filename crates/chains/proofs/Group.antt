@@ -1,0 +1,167 @@
+-- A group of neighbouring chains, row by row: before its second row, what a row brings it, and that a whole row brings
+-- it to the next one. The running sums are the new entries of the row before (step_laws: Chain).
+use mathlib.Core.Path.{_≡_, refl, sym, _∙_, ap, ap₂, subst}
+use mathlib.Core.List.{List}
+use Prim.Native.Nat.{ℕ, _+_, _-_, _%_, _<_, _≤_}
+use native.Mathlib.Nat.{mod-eq-of-lt, mod-eq-sub-mod, add-mod-right}
+use native.Mathlib.Omega.{arith}
+use lib.ListN.{length, getD}
+use lib.IntN.{ℤ}
+use Rattle.definitions.specs.Integers.{_⊕_, 0ℤ}
+use Rattle.definitions.specs.Steps.{accumulated, entries}
+use Rattle.step_laws.specs.Accumulated.{accumulated-from, accumulated-below}
+use Rattle.step_laws.specs.Chain.{in-row, next-row}
+use Rattle.step_laws.specs.Tests.{by-order}
+use Rattle.chains.specs.Chains.{sumAt, RowTaken, Each, Taken}
+
+-- the chains from c on, as many as there are sums, are taken before the row that begins at k
+pub record GroupAt (d c g k : ℕ) (l a s : List ℤ) : Type 0 where
+  pub first : k % d ≡ c
+  pub from : d ≤ k
+  pub most : k ≤ length l + d
+  pub many : length s ≡ g
+  pub taken : Taken d c (c + g) k l a
+  pub sums : (j : ℕ) → j < g → getD s j 0ℤ ≡ accumulated d (entries l) (k - d + j)
+
+-- the places of a group, by its rows
+module _ (d c g : ℕ) (one : 1 ≤ d) (room : c + g ≤ d) where
+  -- below the second row only the first entries are taken
+  pub each-first : (l : List ℤ) (P : ℕ → Type 0) → ((x : ℕ) → x < d → x < length l → P x) → Each d c (c + g) (c + d) l P
+  each-first l P all x low high below in′ =
+      by-order x d (λ h. all x h in′)
+      (λ h.
+      let e : x % d ≡ x - d = mod-eq-sub-mod h ∙ mod-eq-of-lt (omega arith) in
+      absurd (clash h e below low))
+    where
+      clash : {x : ℕ} → d ≤ x → x % d ≡ x - d → x < c + d → c ≤ x % d → ⊥
+      clash h e b low = omega arith
+
+  module _ (k : ℕ) (r : k % d ≡ c) where
+    pub member : (j : ℕ) → j < g → (k + j) % d ≡ c + j
+    member j h = in-row d one k c j r (omega arith)
+
+    -- a place of the row, by how far it is from its beginning
+    at : (x : ℕ) → k ≤ x → x ≡ k + (x - k)
+    at x h = omega arith
+
+    in-group : (x q : ℕ) → q ≤ g → k ≤ x → x < k + q → (c ≤ x % d) × (x % d < c + g)
+    in-group x q most low high =
+        let e : x % d ≡ c + (x - k) = ap (λ y. y % d) (at x low) ∙ member (x - k) (omega arith) in
+        (omega (arith, e), omega (arith, e))
+
+    -- what holds of each place before the row and of the row's first q holds of each place before the next
+    module _ (l : List ℤ) (P : ℕ → Type 0) where
+      pub each-further : (q : ℕ) → Each d c (c + g) k l P → ((j : ℕ) → j < q → k + j < length l → P (k + j))
+          → Each d c (c + g) (k + q) l P
+      each-further q before row x low high below in′ =
+          by-order x k (λ h. before x low high h in′)
+          (λ h. subst P (sym (at x h)) (row (x - k) (omega arith) (omega arith)))
+
+      -- between the row's end and the next row's beginning none is taken
+      pub each-ahead : Each d c (c + g) (k + g) l P → Each d c (c + g) (k + d) l P
+      each-ahead before x low high below in′ =
+          by-order x (k + g) (λ h. before x low high h in′)
+          (λ h.
+          let e = ap (λ y. y % d) (at x (omega arith)) in
+          by-order (c + (x - k)) d
+          (λ b. absurd (beyond (e ∙ in-row d one k c (x - k) r b) h high))
+          (λ b. absurd (beside (e ∙ next-row d one k c (x - k) r b (omega arith)) b below low)))
+        where
+          beyond : {x : ℕ} → x % d ≡ c + (x - k) → k + g ≤ x → x % d < c + g → ⊥
+          beyond e h b = omega arith
+
+          beside : {x : ℕ} → x % d ≡ c + (x - k) - d → d ≤ c + (x - k) → x < k + d → c ≤ x % d → ⊥
+          beside e m h b = omega arith
+
+  -- before the second row
+  pub group-start : (l s : List ℤ) → 1 ≤ g → c + g + d ≤ length l → length s ≡ g
+      → ((j : ℕ) → j < g → getD s j 0ℤ ≡ getD l (c + j) 0ℤ) → GroupAt d c g (c + d) l l s
+  unfolding entries
+  group-start l s some long many begun =
+      record {
+        first = add-mod-right c d ∙ mod-eq-of-lt (omega arith);
+        from = omega arith;
+        most = omega arith;
+        many = many;
+        taken = record {
+          len = refl;
+          new = each-first l (λ x. getD l x 0ℤ ≡ accumulated d (entries l) x)
+              (λ x h b. sym (accumulated-below d (entries l) x h));
+          lower = λ x h b. refl;
+          upper = λ x h b. refl;
+          later = λ x h b. refl;
+        };
+        sums = λ j h.
+            let back : c + d - d + j ≡ c + j = omega arith in
+            begun j h
+            ∙ sym (ap (accumulated d (entries l)) back ∙ accumulated-below d (entries l) (c + j) (omega arith));
+      }
+
+  -- a row
+  module _ (k : ℕ) {l a s : List ℤ} (p : GroupAt d c g k l a s) where
+    -- what it makes is the accumulate's
+    pub row-sum : (j : ℕ) → j < g → k + j < length l → sumAt s a k j ≡ accumulated d (entries l) (k + j)
+    row-sum j h b =
+        let back : k - d + j ≡ k + j - d = omega (arith, p .from) in
+        ap₂ _⊕_ (p .taken .later (k + j) (omega arith) b)
+        (p .sums j h ∙ ap (accumulated d (entries l)) back)
+        ∙ sym (accumulated-from d (entries l) (k + j) one (omega (arith, p .from)))
+
+    module _ {q : ℕ} {s′ a′ : List ℤ} (r : RowTaken k q s a s′ a′) (most : q ≤ g) where
+      pub row-taken : k + q ≤ length l → Taken d c (c + g) (k + q) l a′
+      row-taken in′ =
+          record {
+            len = r .len ∙ p .taken .len;
+            new = each-further k (p .first) l (λ x. getD a′ x 0ℤ ≡ accumulated d (entries l) x) q
+                (λ x low high below b. r .others x (λ h _. early below h) ∙ p .taken .new x low high below b)
+                (λ j h b. r .new j h ∙ row-sum j (omega arith) b);
+            lower = λ x h b. r .others x (λ low high. early h (in-group k (p .first) x q most low high .0))
+                ∙ p .taken .lower x h b;
+            upper = λ x h b. r .others x (λ low high. early (in-group k (p .first) x q most low high .1) h)
+                ∙ p .taken .upper x h b;
+            later = λ x h b. r .others x (λ low high. early high h) ∙ p .taken .later x (omega arith) b;
+          }
+        where
+          early : {x y : ℕ} → x < y → y ≤ x → ⊥
+          early h m = omega arith
+
+    -- a whole one
+    pub row-ahead : {s′ a′ : List ℤ} → RowTaken k g s a s′ a′ → k + g ≤ length l → GroupAt d c g (k + d) l a′ s′
+    row-ahead {s′} {a′} r in′ =
+        let t = row-taken r (omega arith) in′ in
+        record {
+          first = add-mod-right k d ∙ p .first;
+          from = omega arith;
+          most = omega arith;
+          many = r .sums ∙ p .many;
+          taken = record {
+            len = t .len;
+            new = each-ahead k (p .first) l (λ x. getD a′ x 0ℤ ≡ accumulated d (entries l) x) (t .new);
+            lower = t .lower;
+            upper = t .upper;
+            later = λ x h b. t .later x (omega arith) b;
+          };
+          sums = λ j h.
+              let back : k + d - d + j ≡ k + j = omega arith in
+              r .carried j h ∙ row-sum j h (omega arith) ∙ ap (accumulated d (entries l)) (sym back);
+        }
+
+    -- past the last one
+    pub group-ended : length l ≤ k → Taken d c (c + g) (length l) l a
+    group-ended past =
+        record {
+          len = p .taken .len;
+          new = λ x low high below b. p .taken .new x low high (omega arith) b;
+          lower = p .taken .lower;
+          upper = p .taken .upper;
+          later = λ x h b. absurd (out h b);
+        }
+      where
+        out : {x : ℕ} → length l ≤ x → x < length l → ⊥
+        out h b = omega arith
+
+-- the same, its numbers written otherwise
+pub settled : {d c to to′ end end′ : ℕ} {l m : List ℤ} → to ≡ to′ → end ≡ end′ → Taken d c to end l m
+    → Taken d c to′ end′ l m
+settled {d} {c} {to} {end′ = end′} {l} {m} e f t =
+    subst (λ x. Taken d c x end′ l m) e (subst (λ y. Taken d c to y l m) f t)

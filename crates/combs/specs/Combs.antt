@@ -1,0 +1,41 @@
+-- A comb that has got down to some place: from there on stand the new values, below it the old entries.
+use Prim.Native.Nat.{ℕ, _+_, _<_, _≤_}
+use mathlib.Core.Bool.{true}
+use mathlib.Core.Path.{_≡_}
+use mathlib.Core.List.{List}
+use lib.ListN.{length, set}
+use lib.IntN.{ℤ}
+use Rattle.definitions.specs.Series.{Series}
+use Rattle.definitions.specs.Steps.{comb, stepped, inRange, entries}
+use Rattle.passes.specs.Passes.{Fit, Split}
+
+-- four values v put into their places, from k on
+abbrev pub setFour : List ℤ → ℕ → Series → List ℤ
+setFour l k v = set (set (set (set l k (v k)) (k + 1) (v (k + 1))) (k + 2) (v (k + 2))) (k + 3) (v (k + 3))
+
+-- the comb of size d got down to the place i of l, which left m
+pub record CombedTo (d : ℕ) (l m : List ℤ) (i : ℕ) : Type 0 where
+  pub from : d ≤ i
+  pub most : i ≤ length l
+  pub split : Split m (length l) i (entries l) (stepped comb d (entries l))
+
+-- m is what a comb left of some list whose new values all fit
+pub record Fitting (d : ℕ) (m : List ℤ) (i : ℕ) : Type 0 where
+  pub before : List ℤ
+  pub done : CombedTo d before m i
+  pub fit : Fit d (length before) (stepped comb d (entries before))
+
+-- a comb that has got so far, each old entry, which was read, fits, so that it can be put back
+pub record ReadTo (d : ℕ) (l m : List ℤ) (i : ℕ) : Type 0 where
+  pub done : CombedTo d l m i
+  pub fit : Fit i (length l) (entries l)
+
+-- a tested one: each new value is within w
+pub record TestedTo (w d : ℕ) (l m : List ℤ) (i : ℕ) : Type 0 where
+  pub read : ReadTo d l m i
+  pub inside : (k : ℕ) → i ≤ k → k < length l → inRange w (stepped comb d (entries l) k) ≡ true
+
+-- m is what such a comb left of some list
+pub record Undoable (d : ℕ) (m : List ℤ) (i : ℕ) : Type 0 where
+  pub before : List ℤ
+  pub read : ReadTo d before m i

@@ -1,0 +1,2 @@
+-- What the contracts of `combs` cite beside `definitions` and `passes`.
+pub mod Combs

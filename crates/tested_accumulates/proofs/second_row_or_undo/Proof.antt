@@ -1,0 +1,73 @@
+-- `tested_accumulates::second_row_or_undo` meets its contract: the row came to its end, or it is a group of all
+-- chains that stopped short, and is undone.
+use Prim.Native.Nat.{ℕ, _<_}
+use mathlib.Core.Path.{refl}
+use mathlib.Core.List.{List}
+use native.Mathlib.Omega.{arith}
+use borrow.Author.Needs.{needs}
+use lib.ListN.{length}
+use lib.IntN.{ℤ}
+use Rattle.definitions.specs.Steps.{stepped}
+use Rattle.passes.proofs.Tested.{undone}
+use Rattle.tested_chains.proofs.TestedGroup.{settled-tested}
+use Rattle.tested_accumulates.specs.Stopped.{Stopped}
+use Rattle.tested_accumulates.proofs.TestedPass.{none-tested, stopped, all-tested}
+use Rattle.tested_accumulates.proofs.second_row_or_undo.Statement.{statement}
+use Rattle.tested_accumulates.proofs.second_row_or_undo.Tie as tie
+
+test-second-row-requires : tie.Need-test-second-row-requires
+test-second-row-requires c κs = search needs
+
+same-length : tie.Need-same-length
+same-length c = search needs
+
+returns : tie.Need-returns
+returns c =
+    let t = c .before .before .test-second-row in
+    let p = c .before .before .before .before in
+    all-tested (p .pre .0) (omega arith)
+    (settled-tested refl (omega (arith, t .ensures .0 .taken .len)) (t .ensures .0))
+
+-- where it stopped short
+module _ (c : tie.Else1) where
+  abbrev p : tie.Start
+  p = c .before .before .before .before
+
+  abbrev stop : ℕ
+  stop = c .before .before .test-second-row .result
+
+  abbrev left : List ℤ
+  left = c .before .before .test-second-row .last .1 .1 .0
+
+  found : Stopped (p .args .d) 0 (p .args .d) stop (p .args .a .now) left
+  found =
+      stopped (p .pre .0) (none-tested (p .args .w) (p .args .d) (p .args .a .now)) (omega arith)
+      (c .before .before .test-second-row .ensures .0)
+
+undo-requires : tie.Need-undo-requires
+undo-requires c κs =
+    let e = c .before in
+    let t = e .before .before .test-second-row .ensures .1 in (
+      p e .pre .0,
+      omega arith,
+      omega arith,
+      t .0,
+      omega (arith, t .1, found e .len),
+      record { before = p e .args .a .now; stopped = found e },
+    )
+
+same-length-2 : tie.Need-same-length-2
+same-length-2 c = search needs
+
+returns-2 : tie.Need-returns-2
+unfolding stepped
+returns-2 c =
+    let e = c .before .before .before in
+    let t = e .before .before .test-second-row .ensures .1 in
+    let short : stop e < length (p e .args .a .now) = omega (arith, t .1, found e .len) in
+    undone (stop e) (t .0) short (t .2 short .1) (c .before .undo .ensures (p e .args .a .now) (found e))
+
+pub second-row-or-undo-spec : {M : Type 1} → statement M
+second-row-or-undo-spec =
+    tie.close
+    (tie.spec test-second-row-requires same-length returns undo-requires same-length-2 returns-2)

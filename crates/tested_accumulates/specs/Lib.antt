@@ -1,0 +1,2 @@
+-- What the contracts of `accumulates` cite beside `definitions`, `passes` and `chains`.
+pub mod Stopped

@@ -1,3 +1,0 @@
--- Laws that the functions' proofs share.
-pub mod FourEntries
-pub mod Fitting
