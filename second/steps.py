@@ -37,9 +37,23 @@ SLICES = [
 
 LIMITS = (NONE, 0, 1, 4, 2**62 - 1, 2**62, MOST)
 
-for a in SLICES:
-    for d in (0, 1, 2, 3, 7, 8, 9, 65535, 65536, 2**64 - 1):
-        for w in LIMITS:
-            for sort in "CA":
-                code, count, left = step(sort, d, w, a)
-                print(sort, d, w, code, count, ":" + "".join(f" {v}" for v in left))
+LONG_SLICES = [
+    [(7 * i * i + 13 * i) % 101 - 50 for i in range(60)],
+    # of an odd size every sum is in the largest range, and half of the old entries are -2^63
+    [MOST, NONE] * 30,
+    # one late value that passes the limit, where other chains are finished and others not begun
+    [1] * 57 + [999, 1, 1],
+]
+
+
+def lines(slices, sizes, limits):
+    for a in slices:
+        for d in sizes:
+            for w in limits:
+                for sort in "CA":
+                    code, count, left = step(sort, d, w, a)
+                    print(sort, d, w, code, count, ":" + "".join(f" {v}" for v in left))
+
+
+lines(SLICES, (0, 1, 2, 3, 7, 8, 9, 65535, 65536, 2**64 - 1), LIMITS)
+lines(LONG_SLICES, (1, 2, 3, 4, 5, 6, 7, 8, 9, 11, 15, 16, 17, 19, 25, 29, 31, 59), (60, 999, MOST))

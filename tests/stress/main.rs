@@ -27,6 +27,7 @@ fn main() {
     let mut of = Reference::new();
     let mut all = 0;
     all += tell("steps", (0..20_000 * share).map(|_| steps::any(&mut random)).sum());
+    all += tell("steps, every size", (0..3 * share).map(|len| steps::every_size(&mut random, len % 300)).sum());
     all += tell("records", (0..5_000 * share).map(|_| records::any(&mut random, &of)).sum());
     all += tell("partial requests", (0..500 * share).map(|_| requests::stop(&mut random, &mut of)).sum());
     all += tell("polynomials, any request", (0..2_000 * share).map(|_| requests::any(&mut random, &mut of)).sum());

@@ -53,6 +53,34 @@ fn least(comb: bool, size: u64, a: &[i64]) -> i64 {
     i64::try_from(largest).unwrap_or(i64::MAX).max(1)
 }
 
+fn hold(comb: bool, size: u64, w: i64, before: &[i64]) {
+    let (answer, after) = expected(comb, size, w, before);
+    let mut buf = before.to_vec();
+    let told = library::step(comb, size, w, &mut buf);
+    assert!(told == answer, "step {comb} {size} {w} on {before:?}: {told:?}, not {answer:?}");
+    assert!(buf == after, "step {comb} {size} {w} on {before:?}: {buf:?}, not {after:?}");
+}
+
+/// Both sorts of every size on so many entries, at the least limit that delivers, one below and with none: so every number of chains side by
+/// side, all that can be left over, and an OVER in any of them.
+pub fn every_size(random: &mut Random, len: usize) -> u64 {
+    let mut tried = 0;
+    for size in 1..=len + 1 {
+        for comb in [true, false] {
+            let before = match size < len && random.one_in(2) {
+                true => undone(random, comb, size, len),
+                false => random.slice(len),
+            };
+            let least = least(comb, size as u64, &before);
+            for w in [least, least - 1, i64::MAX] {
+                hold(comb, size as u64, w, &before);
+                tried += 1;
+            }
+        }
+    }
+    tried
+}
+
 pub fn any(random: &mut Random) -> u64 {
     let len = if random.one_in(200) { random.below(3000) } else { random.below(64) };
     let size = match random.below(6) {
@@ -66,10 +94,6 @@ pub fn any(random: &mut Random) -> u64 {
         false => random.slice(len),
     };
     let w = random.limit(least(comb, size, &before));
-    let (answer, after) = expected(comb, size, w, &before);
-    let mut buf = before.clone();
-    let told = library::step(comb, size, w, &mut buf);
-    assert!(told == answer, "step {comb} {size} {w} on {before:?}: {told:?}, not {answer:?}");
-    assert!(buf == after, "step {comb} {size} {w} on {before:?}: {buf:?}, not {after:?}");
+    hold(comb, size, w, &before);
     1
 }
