@@ -8,7 +8,7 @@ const ROUNDS: usize = 301;
 const ENTRIES: usize = 10_000;
 
 /// Two indices of four odd primes and two of five.
-const INDICES: [u64; 4] = [1155, 65535, 15015, 51051];
+pub const INDICES: [u64; 4] = [1155, 65535, 15015, 51051];
 const SIZES: [u64; 4] = [1, 3, 15, 1001];
 /// Registers of 16 bits.
 const SMALL: i64 = 32767;
@@ -24,7 +24,7 @@ fn step(comb: bool, size: u64, w: i64, buf: &mut [i64]) -> u64 {
 }
 
 /// The least working limit that delivers: what one delivers, every larger one does.
-fn least(kind: u64, n: u64, buf: &mut [i64]) -> i64 {
+pub fn least(kind: u64, n: u64, buf: &mut [i64]) -> i64 {
     let (mut below, mut enough) = (0, NO_LIMIT);
     while enough - below > 1 {
         let middle = below + (enough - below) / 2;
@@ -63,15 +63,20 @@ fn requests() {
     }
 }
 
-fn steps() {
-    println!("single steps on {ENTRIES} entries from -100 to 100, median of {ROUNDS}, microseconds");
-    println!("             step   no limit  w = {SMALL}   ratio");
+/// From -100 to 100, the same at each call.
+pub fn entries(count: usize) -> Vec<i64> {
     let mut seed = 1u64;
     let mut entry = || {
         seed = seed.wrapping_mul(6364136223846793005).wrapping_add(1442695040888963407);
         (seed >> 33) as i64 % 201 - 100
     };
-    let start: Vec<i64> = (0..ENTRIES).map(|_| entry()).collect();
+    (0..count).map(|_| entry()).collect()
+}
+
+fn steps() {
+    println!("single steps on {ENTRIES} entries from -100 to 100, median of {ROUNDS}, microseconds");
+    println!("             step   no limit  w = {SMALL}   ratio");
+    let start = entries(ENTRIES);
     for comb in [true, false] {
         for size in SIZES {
             let name = format!("{} {size}", if comb { "comb" } else { "accumulate" });

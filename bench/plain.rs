@@ -28,7 +28,7 @@ fn accumulate(a: &mut [i64], d: usize) -> Result<(), Overflow> {
     Ok(())
 }
 
-fn odd_primes(n: usize) -> Vec<usize> {
+pub fn odd_primes(n: usize) -> Vec<usize> {
     let mut rest = n >> n.trailing_zeros();
     let mut found = Vec::new();
     let mut p = 3;
