@@ -1,5 +1,5 @@
-// Inner: nothing here but `Sort` is offered to callers; `combs` and `chains` show each `requires`. What the passes of
-// both are made of: a step at one entry, its test, and a pass that has got to some place.
+// Inner: nothing here but `Sort` is offered to callers; the crates of combs and of accumulates show each `requires`.
+// What their passes are made of: a step at one entry, its test, and a pass that has got to some place.
 
 mod entry;
 
