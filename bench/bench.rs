@@ -18,7 +18,7 @@ struct Answer {
     degree: u64,
     additions: u64,
     height: u64,
-    gain: u64,
+    gain: i64,
 }
 
 #[repr(C)]

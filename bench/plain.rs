@@ -6,7 +6,7 @@ pub struct Answer {
     pub degree: u64,
     pub additions: u64,
     pub height: u64,
-    pub gain: u64,
+    pub gain: i64,
 }
 
 /// A refusal: its code and the degree that it tells.
@@ -151,10 +151,10 @@ fn made(kind: u64, n: u64, h: i64, buf: &mut [i64]) -> Result<Answer, Refused> {
         a.fill(0);
         return Err(Refused(6, top));
     }
-    let prime = t == 1 && (primes.len() == 1 && m == r || m == 2 && n == 2);
+    let power = primes.len() == 1 && m == r || m == 2;
     let gain = match (inverse, n) {
         (false, 1) => 0,
-        (false, _) if prime => n,
+        (false, _) if power => m as i64,
         (false, _) => 1,
         (true, 1) => 1,
         (true, _) => 0,

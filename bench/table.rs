@@ -21,7 +21,7 @@ fn main() {
         let a = plain::polynomial(told[0] as u64, told[1] as u64, told[2] as i64, &mut buf[..room]);
         let end = told[10] as usize;
         let sum = buf[..end].iter().fold(1, |s: u64, &c| (s * 31 + residue(c)) % 1000000007);
-        let found = [a.code, a.degree, a.additions, a.height, a.gain, end as u64, sum];
+        let found = [a.code, a.degree, a.additions, a.height, a.gain as u64, end as u64, sum];
         assert!(told[5..].iter().zip(found).all(|(&t, f)| t == f as i128), "{line}: {found:?}");
         lines += 1;
     }

@@ -70,16 +70,14 @@ extern "C" {
 #define BV_FIELD UINT64_C(10) /* bv_read: a number in the header is wrong; bv_write: count is not degree + 1 */
 #define BV_WIDTH UINT64_C(11) /* bv_read: the coefficients are not stored in the least width that holds them */
 
-/* Every field of every answer is 64 bits, in this order. */
+/* Every field of every answer is 64 bits, in this order; the gain alone has a sign, as coefficients have. */
 
 typedef struct bv_answer {
     uint64_t code;
     uint64_t degree;    /* of the polynomial: degree + 1 entries are needed, and filled */
     uint64_t additions; /* how many additions and subtractions made it */
     uint64_t height;    /* the largest magnitude among its coefficients */
-    uint64_t gain;      /* the stage's scale at zero frequency, by this rule. F: 0 for n = 1, n where n is prime, else 1;
-                           I: 1 for n = 1, else 0. (The sum of the coefficients, but for F at n = 4, 8, 9, ..: a higher power
-                           of a prime, where the sum is that prime and the rule says 1.) */
+    int64_t gain;       /* the sum of its coefficients */
 } bv_answer;
 
 typedef struct bv_stop {

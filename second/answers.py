@@ -7,18 +7,10 @@ an empty list is an untouched buffer.
 from cyclotomic import polynomial as made
 from kept import additions, degree, half_degree, over_after, stops
 from polynomials import height
-from whole import divisors_below, is_prime, odd_part
+from whole import divisors_below, odd_part
 
 DONE, KIND, INDEX, LIMIT, SHORT, OVER, TALL, STEP = range(8)
 MOST_INDEX = 65535
-
-
-def gain(kind, n):
-    if kind == 2:
-        return 1 if n == 1 else 0
-    if n == 1:
-        return 0
-    return n if is_prime(n) else 1
 
 
 def polynomial(kind, n, h, w, room):
@@ -40,7 +32,7 @@ def polynomial(kind, n, h, w, room):
     if height(coefficients) > h:
         return (TALL, top, 0, 0, 0), [0] * (top + 1)
     count = additions(kind, r, len(divisors_below(r)))
-    return (DONE, top, count, height(coefficients), gain(kind, n)), coefficients
+    return (DONE, top, count, height(coefficients), sum(coefficients)), coefficients
 
 
 def partial(kind, n, j, w, room):

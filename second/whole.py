@@ -26,10 +26,6 @@ def primes(n):
     return tuple(found)
 
 
-def is_prime(n):
-    return n > 1 and all(n % p for p in range(2, n) if p * p <= n)
-
-
 def odd_part(n):
     """r: the product of n's distinct odd primes."""
     r = 1

@@ -45,7 +45,7 @@ int main(void) {
     bv_answer tall = bv_polynomial(BV_KIND_F, N, 1, BV_NO_LIMIT, stage, ROOM);
     printf("height 1:     %s, degree %" PRIu64 "\n", name(tall.code), tall.degree);
     bv_answer a = bv_polynomial(BV_KIND_F, N, 2, BV_NO_LIMIT, stage, ROOM);
-    printf("height 2:     %s, degree %" PRIu64 ", %" PRIu64 " additions, height %" PRIu64 ", gain %" PRIu64 "\n", name(a.code), a.degree,
+    printf("height 2:     %s, degree %" PRIu64 ", %" PRIu64 " additions, height %" PRIu64 ", gain %" PRId64 "\n", name(a.code), a.degree,
            a.additions, a.height, a.gain);
     if (a.code != BV_DONE)
         return 1;

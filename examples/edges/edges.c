@@ -22,7 +22,7 @@ static void hold(int right, const char *what, int line) {
 }
 #define HOLD(x) hold((x), #x, __LINE__)
 
-static int answers(bv_answer a, uint64_t code, uint64_t degree, uint64_t additions, uint64_t height, uint64_t gain) {
+static int answers(bv_answer a, uint64_t code, uint64_t degree, uint64_t additions, uint64_t height, int64_t gain) {
     return a.code == code && a.degree == degree && a.additions == additions && a.height == height && a.gain == gain;
 }
 
@@ -124,8 +124,8 @@ static int zero_to(uint64_t degree) {
 
 /* what a delivered request tells, and the least working limit that delivers it, from the second program */
 typedef struct polynomial_case {
-    uint64_t kind, n, degree, additions, height, gain;
-    int64_t least;
+    uint64_t kind, n, degree, additions, height;
+    int64_t gain, least;
 } polynomial_case;
 
 static const polynomial_case POLYNOMIALS[] = {
@@ -133,10 +133,13 @@ static const polynomial_case POLYNOMIALS[] = {
     {2, 1, 0, 0, 1, 1, 1},
     {1, 2, 1, 0, 1, 2, 1},
     {2, 2, 1, 0, 1, 0, 1},
+    {1, 9, 6, 1, 1, 3, 1},
+    {2, 9, 3, 0, 1, 0, 1},
     {1, 105, 48, 98, 2, 1, 2},
     {2, 105, 57, 122, 1, 0, 1},
     {1, 420, 96, 98, 2, 1, 2},
     {2, 4004, 2564, 646, 2, 0, 2},
+    {1, 32768, 16384, 0, 1, 2, 1},
     {1, 65535, 32768, 205314, 4, 1, 4},
     {2, 65535, 32767, 205300, 2, 0, 2},
 };

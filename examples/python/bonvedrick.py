@@ -13,8 +13,9 @@ NAMES = "DONE KIND INDEX LIMIT SHORT OVER TALL STEP CUT MARK FIELD WIDTH".split(
 
 
 def struct(name, fields):
-    """A C struct of 64-bit numbers."""
-    return type(name, (ctypes.Structure,), {"_fields_": [(f, c_uint64) for f in fields.split()]})
+    """A C struct of 64-bit numbers; the gain alone has a sign, as the coefficients have."""
+    types = [(f, c_int64 if f == "gain" else c_uint64) for f in fields.split()]
+    return type(name, (ctypes.Structure,), {"_fields_": types})
 
 
 Answer = struct("Answer", "code degree additions height gain")

@@ -52,6 +52,8 @@ for hz in 0, 50, 100, 150, 200:
     print(f"{hz:4} Hz: {response(f, hz):.3f}")
 i, _ = bv.polynomial(I, N)
 print(f"F({N}) I({N}) = z^{N} - 1:", product(f, i) == [-1] + [0] * (N - 1) + [1])
+nine, b = bv.polynomial(F, 9)
+print(f"F(9): {' '.join(map(str, nine))}, gain {b.gain}")
 half, stop = bv.partial(F, N, 1)
 print(f"lower half after 1 divisor, {stop.due} due:", *half)
 print("comb of size 2:      ", *bv.comb(2, [1, 2, 3, 4, 5]))

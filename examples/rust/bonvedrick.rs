@@ -9,7 +9,7 @@ mod c {
         pub degree: u64,
         pub additions: u64,
         pub height: u64,
-        pub gain: u64,
+        pub gain: i64,
     }
 
     #[repr(C)]
@@ -114,7 +114,7 @@ pub struct Polynomial<'a> {
     pub coeffs: &'a mut [i64],
     pub additions: u64,
     pub height: u64,
-    pub gain: u64,
+    pub gain: i64,
 }
 
 /// A half-built polynomial.

@@ -9,7 +9,7 @@ pub struct Answer {
     pub degree: u64,
     pub additions: u64,
     pub height: u64,
-    pub gain: u64,
+    pub gain: i64,
 }
 
 #[repr(C)]

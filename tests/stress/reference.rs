@@ -137,10 +137,6 @@ impl Reference {
     pub fn least(&mut self, kind: u64, n: usize) -> i64 {
         least(&self.met(kind, odd_part(n)))
     }
-
-    pub fn is_prime(&self, n: usize) -> bool {
-        n > 1 && self.phi[n] == n - 1
-    }
 }
 
 /// The product of the distinct odd primes of n.

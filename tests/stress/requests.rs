@@ -5,16 +5,6 @@ use crate::library::{self, Answer, Stop};
 use crate::random::Random;
 use crate::reference::{divisors, odd_part, Reference, LARGEST};
 
-fn gain(of: &Reference, kind: u64, n: usize) -> u64 {
-    match (kind, n) {
-        (1, 1) => 0,
-        (1, _) if of.is_prime(n) => n as u64,
-        (1, _) => 1,
-        (_, 1) => 1,
-        _ => 0,
-    }
-}
-
 /// Demand 3's sum over the first j divisors of r.
 fn additions(half: usize, divisors: &[(usize, i32)]) -> u64 {
     divisors.iter().filter(|(d, _)| *d <= half).map(|(d, _)| (half + 1 - d) as u64).sum()
@@ -55,7 +45,8 @@ fn expected(of: &mut Reference, kind: u64, n: u64, h: i64, w: i64, before: &[i64
     }
     let r = odd_part(index);
     let count = if r == 1 { 0 } else { additions(of.degree(kind, r) / 2, &divisors(r)) };
-    let answer = Answer { code: 0, degree: top as u64, additions: count, height, gain: gain(of, kind, index) };
+    let gain = buf[..top + 1].iter().sum();
+    let answer = Answer { code: 0, degree: top as u64, additions: count, height, gain };
     (answer, buf)
 }
 

@@ -16,7 +16,7 @@ letterOf kind = cond (eqb kind 1) 70 73
 unfoldable pub headOf : ℕ → ℕ → Answer → List ℕ
 headOf kind n a =
     letterOf kind
-    ∷ spaced (pos n ∷ pos (a .code) ∷ pos (a .degree) ∷ pos (a .additions) ∷ pos (a .height) ∷ pos (a .gain) ∷ [])
+    ∷ spaced (pos n ∷ pos (a .code) ∷ pos (a .degree) ∷ pos (a .additions) ∷ pos (a .height) ∷ a .gain ∷ [])
     ++ (SPACE ∷ COLON ∷ [])
 
 -- after the colon: `cs` are the coefficients, printed on code 0 alone

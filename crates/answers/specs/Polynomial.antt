@@ -7,6 +7,7 @@ use lib.ListN.{length}
 use lib.Dec.{eqb, leb}
 use lib.IntN.{ℤ, pos, natAbs}
 use lib.Signed.{ltZ}
+use Rattle.definitions.specs.Integers.{0ℤ}
 use Rattle.definitions.specs.Codes.{DONE, KIND, INDEX, LIMIT, SHORT, OVER, TALL}
 use Rattle.definitions.specs.Numbers.{rOf}
 use Rattle.definitions.specs.Polynomials.{degree}
@@ -33,7 +34,7 @@ answered kind n code =
       degree = cond (eqb code DONE || leb SHORT code) (degree kind n) 0;
       additions = cond (eqb code DONE) (additionsFor kind n) 0;
       height = cond (eqb code DONE) (height kind n) 0;
-      gain = cond (eqb code DONE) (gain kind n) 0;
+      gain = cond (eqb code DONE) (gain kind n) 0ℤ;
     }
 
 unfoldable pub answer : ℕ → ℕ → ℤ → ℤ → ℕ → Answer

@@ -2,6 +2,7 @@
 // order of the fields is that of the C library.
 
 ghost use mathlib.Core.Path.{_≡_};
+ghost use lib.IntN.{pos};
 ghost use Rattle.definitions.specs.Requests.{knownKind, goodIndex};
 
 pub const DONE: u64 = 0;
@@ -35,7 +36,7 @@ pub struct Answer {
     pub degree: u64,
     pub additions: u64,
     pub height: u64,
-    pub gain: u64,
+    pub gain: i64,
 }
 
 // A partial request's answer.
@@ -50,7 +51,7 @@ pub struct Stop {
 impl Answer {
     // A refusal: its code and the degree that it tells; the rest is 0.
     pub fn refused(code: u64, degree: u64) -> Answer
-        ensures { λ r. ⌜ r ≡ record { code = code; degree = degree; additions = 0; height = 0; gain = 0 } ⌝ }
+        ensures { λ r. ⌜ r ≡ record { code = code; degree = degree; additions = 0; height = 0; gain = pos 0 } ⌝ }
     {
         Answer {
             code,

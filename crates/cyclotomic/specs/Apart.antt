@@ -1,22 +1,21 @@
 -- How a polynomial is made from that of r (docs/RULES.md, 'How n is taken apart'): F(1), F(2), I(1), I(2) as printed;
 -- for odd squarefree r > 1, F(2r) is F(r) with -z for z and I(2r) is I(r), so negated, times 1 - z^r, the two copies
 -- never overlapping; and F(n), I(n) are those of m with z^t for z.
-use Prim.Native.Nat.{ℕ, zero, suc, _+_, _*_, _-_, _%_, _≤_, _<_, _∣_}
+use Prim.Native.Nat.{ℕ, _+_, _*_, _-_, _%_, _≤_, _<_, _∣_}
 use mathlib.Core.Path.{_≡_, refl, sym, _∙_, ap, ap₂}
 use mathlib.Core.Bool.{Bool, true, false, cond}
 use mathlib.Core.Logic.{_≢_}
-use mathlib.Core.List.{List, [], _∷_}
+use mathlib.Core.List.{[], _∷_}
 use native.Mathlib.Omega.{arith}
 use native.Mathlib.Nat as NatL
-use lib.IntN.{ℤ}
 use lib.Dec.{eqb}
 use Rattle.definitions.specs.Integers.{_⊕_, ⊖, _⊝_, 0ℤ, 1ℤ}
-use Rattle.definitions.specs.Series.{Series, constant, 𝟙, _+ˢ_, -ˢ, _·_, z^, spread, alternate}
-use Rattle.definitions.specs.Numbers.{phi, rOf, mOf, tOf}
-use Rattle.definitions.specs.Polynomials.{z^-1, F, I, polynomial, degree}
+use Rattle.definitions.specs.Series.{Series, 𝟙, _+ˢ_, -ˢ, _·_, z^, spread, alternate}
+use Rattle.definitions.specs.Numbers.{mOf, tOf}
+use Rattle.definitions.specs.Polynomials.{z^-1, F, I, polynomial}
 use Rattle.integers.specs.Solver.{:1, _:+_, _:*_, :-, x, y, z, w}
 use Rattle.integers.specs.Whole.{⊕-zero, zero-⊕, ⊖-zero}
-use Rattle.series.specs.Laws.{Unitˢ, at-+ˢ, at--ˢ, cancel, ·-comm, ·-one, ringˢ}
+use Rattle.series.specs.Laws.{Unitˢ, at-+ˢ, at--ˢ, cancel, ·-one, ringˢ}
 use Rattle.series.specs.Maps.{z^-add, shift-below, shift-at, spread-mul, spread-zero, spread-one, spread-spread}
 use Rattle.series.specs.Maps.{alternate-mul, alternate-add, alternate-neg, alternate-constant, alternate-z^-odd}
 use Rattle.series.specs.Maps.{alternate-none, alternate-spread}

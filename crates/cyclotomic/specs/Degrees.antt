@@ -1,27 +1,25 @@
 -- F(n) is monic of degree phi(n) (`monic-F`), and I(n) of degree n - phi(n) (`monic-I`): from one prime to the next,
 -- degrees multiply by p where z^p is put for z, and phi does the same.
 use Prim.Native.Nat.{ℕ, zero, suc, _+_, _*_, _-_, _≤_, _<_, _∣_}
-use mathlib.Core.Path.{_≡_, refl, sym, _∙_, ap, ap₂}
+use mathlib.Core.Path.{_≡_, refl, sym, _∙_, ap}
 use mathlib.Core.Bool.{cond, true, false}
 use native.Mathlib.Omega.{arith}
 use native.Mathlib.Nat as NatL
 use native.Mathlib.Decide.{decDvd}
-use lib.IntN.{ℤ}
 use lib.Dec.{eqb}
-use Rattle.definitions.specs.Integers.{_⊕_, ⊖, 0ℤ, 1ℤ}
-use Rattle.definitions.specs.Series.{Series, constant, 𝟙, _+ˢ_, -ˢ, _·_, z^, spread}
+use Rattle.definitions.specs.Integers.{_⊕_, ⊖, 0ℤ}
+use Rattle.definitions.specs.Series.{constant, 𝟙, _+ˢ_, -ˢ, _·_, z^, spread}
 use Rattle.definitions.specs.Numbers.{phi, mOf, tOf}
 use Rattle.definitions.specs.Polynomials.{z^-1, F, I, polynomial, degree}
-use Rattle.integers.specs.Whole.{⊕-zero, ⊖-zero, zero-⊕}
+use Rattle.integers.specs.Whole.{⊕-zero, ⊖-zero}
 use Rattle.series.specs.Laws.{at-+ˢ, at--ˢ, ·-comm}
 use Rattle.series.specs.Maps.{at-z^, off-z^}
-use Rattle.series.specs.Degree.{ZeroFrom, Poly, Monic, monic-spread, monic-div, monic-mul}
-use Rattle.numbers.specs.Tests.{either}
+use Rattle.series.specs.Degree.{Monic, monic-spread, monic-div}
 use Rattle.numbers.specs.Primes.{Prime, prime-pos, by-primes}
 use Rattle.numbers.specs.Phi.{phi-old, phi-new, phi-one, phi-le}
 use Rattle.numbers.specs.Apart.{m-times-t}
 use Rattle.numbers.specs.PhiApart.{phi-m, phi-apart}
-use Rattle.cyclotomic.specs.Family.{F-one, pair-law, inverse-product}
+use Rattle.cyclotomic.specs.Family.{F-one, pair-law}
 use Rattle.cyclotomic.specs.OnePrime.{prime-old, prime-new}
 use Rattle.cyclotomic.specs.Finite.{finite-F, finite-I}
 

@@ -2,28 +2,26 @@
 -- (`product-law`), and whatever family has that product law is F (`only-family`): two families with equal products over
 -- the divisors are equal, since all but the factor at n itself cancel (`same-family`). F(n) I(n) = z^n - 1
 -- (`pair-law`), and I(n) is the only such series (`only-inverse`).
-use Prim.Native.Nat.{ℕ, zero, suc, _+_, _*_, _≤_, _<_, _∣_}
+use Prim.Native.Nat.{ℕ, zero, suc, _+_, _*_, _≤_, _<_}
 use mathlib.Core.Path.{_≡_, refl, sym, _∙_, ap, ap₂}
-use mathlib.Core.Bool.{Bool, true, false, cond, not}
+use mathlib.Core.Bool.{Bool, true, false, cond}
 use mathlib.Core.Logic.{_≢_}
-use mathlib.Core.List.{List, [], _∷_}
+use mathlib.Core.List.{[]}
 use native.Mathlib.Omega.{arith}
 use native.Mathlib.Nat as NatL
 use native.Mathlib.Decide.{ℕ-discrete}
 use borrow.Author.Tests.{eq-eqb, ne-eqb}
-use lib.Dec.{eqb}
-use lib.IntN.{ℤ}
-use Rattle.definitions.specs.Integers.{_⊕_, _⊗_, ⊖, 0ℤ, 1ℤ}
+use Rattle.definitions.specs.Integers.{_⊕_, _⊗_, ⊖, 1ℤ}
 use Rattle.definitions.specs.Series.{Series, constant, 𝟙, _+ˢ_, -ˢ, _·_, _÷_, z^}
 use Rattle.definitions.specs.Numbers.{divides}
 use Rattle.definitions.specs.Polynomials.{productTo, atDivisors, overDivisors, z^-1, familyTo, F, I}
-use Rattle.integers.specs.Solver.{:1, _:*_, :-, x}
-use Rattle.integers.specs.Whole.{zero-⊕, ringℤ, ⊗-one}
+use Rattle.integers.specs.Solver.{:1, _:*_, :-}
+use Rattle.integers.specs.Whole.{zero-⊕, ringℤ}
 use Rattle.series.specs.Laws.{Unitˢ, at-+ˢ, at--ˢ, div-mul, div-unique, cancel, unit-mul, unit-one, unit-div, ·-assoc}
 use Rattle.series.specs.Laws.{·-comm, one-·, ·-one}
 use Rattle.series.specs.Maps.{off-z^}
 use Rattle.numbers.specs.Folds.{Monoid, foldTo, fold-same}
-use Rattle.numbers.specs.Tests.{strong, either, divides-yes}
+use Rattle.numbers.specs.Tests.{strong, divides-yes}
 
 -- ---- products of series are folds
 abbrev pub times : Monoid Series

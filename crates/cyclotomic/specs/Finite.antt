@@ -7,24 +7,23 @@ use Prim.Native.Nat.{ℕ, zero, suc, _+_, _*_, _≤_, _<_, _∣_, _/_}
 use mathlib.Core.Path.{_≡_, refl, sym, _∙_, ap, ap₂, fun-ext}
 use mathlib.Core.Bool.{Bool, true, false, cond}
 use mathlib.Core.Logic.{⊎-elim}
-use mathlib.Core.List.{List, [], _∷_}
+use mathlib.Core.List.{[], _∷_}
 use native.Mathlib.Omega.{arith}
 use native.Mathlib.Nat as NatL
-use native.Mathlib.Decide.{decDvd, decLt}
-use lib.IntN.{ℤ}
-use Rattle.definitions.specs.Integers.{_⊕_, _⊗_, ⊖, 0ℤ, 1ℤ}
-use Rattle.definitions.specs.Series.{Series, tail, constant, 𝟘, 𝟙, _+ˢ_, -ˢ, _·_, _÷_, z^, spread}
+use native.Mathlib.Decide.{decDvd}
+use Rattle.definitions.specs.Integers.{0ℤ, 1ℤ}
+use Rattle.definitions.specs.Series.{Series, tail, constant, 𝟘, 𝟙, _+ˢ_, -ˢ, _·_, z^, spread}
 use Rattle.definitions.specs.Numbers.{divides}
 use Rattle.definitions.specs.Polynomials.{productTo, atDivisors, z^-1, F, I}
 use Rattle.integers.specs.Solver.{v, :0, :1, _:+_, _:*_, :-, x, z, w, u}
 use Rattle.integers.specs.Solver.{y as y′}
-use Rattle.integers.specs.Whole.{⊕-zero, zero-⊕}
-use Rattle.series.specs.Laws.{Unitˢ, at-+ˢ, at-mul-zero, at-𝟘, ·-comm, ·-one, one-·, cancel, ringˢ, div-unique}
-use Rattle.series.specs.Laws.{unit-one}
-use Rattle.series.specs.Maps.{z^-zero, z^-add, shift-below, shift-at, spread-add, spread-mul, spread-constant}
-use Rattle.series.specs.Maps.{spread-z^, spread-spread}
+use Rattle.series.specs.Laws.{Unitˢ, at-𝟘, ·-comm, ·-one, cancel, ringˢ}
+use Rattle.series.specs.Maps.{z^-add, spread-add, spread-mul, spread-constant}
+use Rattle.series.specs.Maps.{spread-z^, spread-spread, head-tail}
 use Rattle.series.specs.Degree.{ZeroFrom, Poly, poly-add, poly-neg, poly-mul, poly-constant, poly-z^, poly-spread}
-use Rattle.numbers.specs.Tests.{strong, either, yes-divides}
+use Rattle.series.specs.Degree.{poly-z^-1}
+use Rattle.series.specs.AtOne.{powers}
+use Rattle.numbers.specs.Tests.{strong, yes-divides}
 use Rattle.numbers.specs.Primes.{Prime, Coprime, prime-pos, prime-divisor, prime-coprime, quotient-pos}
 use Rattle.numbers.specs.Bezout.{inverse}
 use Rattle.cyclotomic.specs.Family.{F-one, unit-F, unit-divisors, inverse-product, pair-law}
@@ -34,34 +33,9 @@ use Rattle.cyclotomic.specs.OnePrime.{spread-z^-1, prime-old, prime-new}
 abbrev Some : (Series → Type 0) → Type 0
 Some E = (q : Series) × Poly q × E q
 
-pub poly-z^-1 : (n : ℕ) → Poly (z^-1 n)
-unfolding z^-1
-poly-z^-1 n = poly-add (z^ n) (-ˢ 𝟙) (poly-z^ n) (poly-neg 𝟙 (poly-constant 1ℤ))
-
 -- ---- z^(n c) is 1 modulo z^n - 1
 power : (n c : ℕ) → Some (λ g. z^ (n * c) ≡ 𝟙 +ˢ z^-1 n · g)
-unfolding z^-1
-power n zero =
-    (𝟘, poly-constant 0ℤ, ap z^ (NatL.mul-zero n) ∙ z^-zero ∙ ringˢ (z^ n ∷ []) :1 (:1 :+ (x :+ :- :1) :* :0) refl)
-power n (suc c) =
-    let (g, p, e) = power n c in (
-      z^ (n * c) +ˢ g,
-      poly-add (z^ (n * c)) g (poly-z^ (n * c)) p,
-      ap z^ (NatL.mul-suc n c) ∙ sym (z^-add (n * c) n)
-          ∙ ringˢ (z^ (n * c) ∷ z^ n ∷ []) (x :* y′) (x :+ (y′ :+ :- :1) :* x) refl
-          ∙ ap (λ q. q +ˢ (z^ n +ˢ -ˢ 𝟙) · z^ (n * c)) e
-          ∙ ringˢ ((z^ n +ˢ -ˢ 𝟙) ∷ g ∷ z^ (n * c) ∷ []) (:1 :+ x :* y′ :+ x :* z) (:1 :+ x :* (z :+ y′)) refl,
-    )
-
--- ---- f(0) + z (tail f)
-head-tail : (f : Series) → f ≡ constant (f zero) +ˢ z^ 1 · tail f
-unfolding constant
-head-tail f = fun-ext (λ i. sym (at-+ˢ (constant (f zero)) (z^ 1 · tail f) i ∙ at i))
-  where
-    at : (i : ℕ) → constant (f zero) i ⊕ (z^ 1 · tail f) i ≡ f i
-    at zero = ap (λ q. f zero ⊕ q) (shift-below 1 (tail f) 0 (omega arith)) ∙ ⊕-zero (f zero)
-    at (suc i) = zero-⊕ ((z^ 1 · tail f) (suc i)) ∙ ap (z^ 1 · tail f) (sym (NatL.add-comm 1 i ∙ omega arith))
-        ∙ shift-at 1 (tail f) i
+power n c = let (g, p, s, e) = powers n c in (g, p, e)
 
 -- z^k for z changes nothing modulo z^n - 1 where k is 1 modulo n
 module _ (n c k : ℕ) (e : k ≡ 1 + n * c) where

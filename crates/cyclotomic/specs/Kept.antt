@@ -2,7 +2,7 @@
 -- above 1. All terms but that of r itself, 1 - z^r, are in it; so for F it agrees with F(r) below degree r, and for I,
 -- where each term is inverted and the start is -1, it is -(1 - z^r) / F(r) = I(r) itself. A step is a product with its
 -- term (`step-term`): so the kept half after j steps is the product of the first j terms (`step-kept`).
-use Prim.Native.Nat.{ℕ, zero, suc, _+_, _*_, _-_, _/_, _%_, _≤_, _<_, _∣_}
+use Prim.Native.Nat.{ℕ, zero, suc, _+_, _*_, _-_, _/_, _≤_, _<_}
 use mathlib.Core.Path.{_≡_, refl, sym, _∙_, ap, ap₂, fun-ext}
 use mathlib.Core.Bool.{Bool, true, false, cond, not}
 use mathlib.Core.Logic.{_≢_}
@@ -11,15 +11,14 @@ use native.Mathlib.Omega.{arith}
 use native.Mathlib.Nat as NatL
 use native.Mathlib.Decide.{decLt}
 use borrow.Author.Tests.{eqb-true}
-use lib.IntN.{ℤ}
 use lib.Dec.{eqb}
 use lib.ListN.{length, take, getD}
 use lib.Seq.{take-length, take-suc}
-use Rattle.definitions.specs.Integers.{_⊕_, _⊗_, ⊖, _⊝_, 0ℤ, 1ℤ}
-use Rattle.definitions.specs.Series.{Series, constant, 𝟙, _+ˢ_, -ˢ, _·_, z^, firsts}
+use Rattle.definitions.specs.Integers.{_⊝_, 0ℤ}
+use Rattle.definitions.specs.Series.{Series, 𝟙, _+ˢ_, -ˢ, _·_, z^, firsts}
 use Rattle.definitions.specs.Numbers.{divides, listTo, divisorsBelow, muIsPlus, phi}
-use Rattle.definitions.specs.Polynomials.{productTo, atDivisors, overDivisors, z^-1, F, I, polynomial, degree}
-use Rattle.definitions.specs.Steps.{Sort, comb, accumulate, stepped, combed, accumulated, entries, stepList}
+use Rattle.definitions.specs.Polynomials.{productTo, atDivisors, z^-1, F, I, polynomial, degree}
+use Rattle.definitions.specs.Steps.{Sort, comb, accumulate, stepped, accumulated, entries, stepList}
 use Rattle.definitions.specs.Requests.{nextDivisor}
 use Rattle.definitions.specs.KeptHalf.{halfDegree, sortOf, termOf, term, start, productOf, keptSeries, keptHalf}
 use Rattle.integers.specs.Solver.{:1, _:+_, _:*_, :-, x, y, z}
@@ -32,7 +31,7 @@ use Rattle.step_laws.specs.Step.{combed-from, stepped-below}
 use Rattle.step_laws.specs.Accumulated.{accumulated-from, accumulated-below}
 use Rattle.cyclotomic.specs.Family.{last-divisor, only-inverse}
 use Rattle.cyclotomic.specs.OnePrime.{divisors-both}
-use Rattle.cyclotomic.specs.Terms.{other, comb-below, comb-from, inverse-terms, unit-term, terms, all-terms}
+use Rattle.cyclotomic.specs.Terms.{other, comb-below, comb-from, inverse-terms, terms, all-terms}
 use Rattle.cyclotomic.specs.Terms.{last-comb, over-same, over-ones}
 
 -- ---- products over a list

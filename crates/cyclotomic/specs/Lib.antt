@@ -8,6 +8,7 @@ pub mod Signs
 pub mod Mirrors
 pub mod Apart
 pub mod Heights
+pub mod Gain
 pub mod Terms
 pub mod Kept
 pub mod Worked

@@ -1,25 +1,24 @@
 -- F(n) and I(n) read backwards, for n above 1: F(n) is its own mirror (`mirror-F`), and I(n) the negative of its own
 -- (`mirror-I`). F(1) = z - 1 changes its sign; from one prime to the next that sign cancels.
-use Prim.Native.Nat.{ℕ, zero, suc, _+_, _*_, _-_, _≤_, _<_, _∣_}
+use Prim.Native.Nat.{ℕ, _*_, _-_, _≤_, _<_, _∣_}
 use mathlib.Core.Path.{_≡_, refl, sym, _∙_, ap, ap₂}
 use mathlib.Core.Bool.{Bool, true, false, cond}
 use mathlib.Core.Logic.{_≢_}
-use mathlib.Core.List.{List, [], _∷_}
+use mathlib.Core.List.{[], _∷_}
 use native.Mathlib.Omega.{arith}
 use native.Mathlib.Nat as NatL
 use native.Mathlib.Decide.{decDvd, ℕ-discrete}
 use lib.IntN.{ℤ}
 use lib.Dec.{eqb}
-use Rattle.definitions.specs.Integers.{_⊕_, ⊖, 0ℤ, 1ℤ}
-use Rattle.definitions.specs.Series.{Series, constant, 𝟙, _+ˢ_, -ˢ, _·_, z^, spread}
+use Rattle.definitions.specs.Integers.{⊖, 0ℤ}
+use Rattle.definitions.specs.Series.{_·_, -ˢ, spread}
 use Rattle.definitions.specs.Numbers.{phi}
 use Rattle.definitions.specs.Polynomials.{z^-1, F, I, polynomial, degree}
 use Rattle.integers.specs.Solver.{:1, _:*_, :-, x, y}
 use Rattle.integers.specs.Whole.{⊖-zero, ringℤ}
 use Rattle.series.specs.Laws.{at--ˢ, cancel, ·-comm, ringˢ}
 use Rattle.series.specs.Maps.{off-z^}
-use Rattle.series.specs.Degree.{Monic}
-use Rattle.series.specs.Mirror.{mirror, mirror-in, mirror-out, is-mirror, mirror-mul, mirror-spread}
+use Rattle.series.specs.Mirror.{mirror, mirror-in, is-mirror, mirror-mul, mirror-spread}
 use Rattle.numbers.specs.Primes.{Prime, prime-pos, by-primes}
 use Rattle.numbers.specs.Phi.{phi-old, phi-new, phi-one, phi-le}
 use Rattle.cyclotomic.specs.Family.{F-one, z^-1-zero, unit-F, pair-law}

@@ -3,10 +3,10 @@
 use Prim.Native.Nat.{ℕ, _<_}
 use mathlib.Core.Path.{_≡_, refl, sym, _∙_, ap, fun-ext}
 use mathlib.Core.Logic.{_≢_}
-use mathlib.Core.List.{List, [], _∷_}
+use mathlib.Core.List.{[], _∷_}
 use lib.IntN.{ℤ}
 use Rattle.definitions.specs.Integers.{_⊗_, ⊖, 1ℤ}
-use Rattle.definitions.specs.Series.{Series, constant, 𝟙, -ˢ, _·_, spread}
+use Rattle.definitions.specs.Series.{Series, constant, -ˢ, _·_, spread}
 use Rattle.integers.specs.Solver.{:1, _:*_, :-, x, y, z}
 use Rattle.integers.specs.Whole.{⊗-one, ringℤ}
 use Rattle.series.specs.Laws.{Unitˢ, at--ˢ, cancel, unit-mul, constant-mul, one-·, ringˢ}

@@ -5,11 +5,10 @@ use Prim.Native.Nat.{ℕ, zero, suc, _+_, _*_, _-_, _/_, _%_, _≤_, _<_, _∣_}
 use mathlib.Core.Path.{_≡_, refl, sym, _∙_, ap, ap₂, fun-ext}
 use mathlib.Core.Bool.{Bool, true, false, cond, not}
 use mathlib.Core.Logic.{_≢_}
-use mathlib.Core.List.{List, [], _∷_}
+use mathlib.Core.List.{[], _∷_}
 use native.Mathlib.Omega.{arith}
 use native.Mathlib.Nat as NatL
-use native.Mathlib.Decide.{decLt, decDvd}
-use lib.IntN.{ℤ}
+use native.Mathlib.Decide.{decLt}
 use lib.Dec.{eqb}
 use Rattle.definitions.specs.Integers.{_⊕_, _⊗_, ⊖, _⊝_, 0ℤ, 1ℤ}
 use Rattle.definitions.specs.Series.{Series, constant, 𝟙, _+ˢ_, -ˢ, _·_, z^, spread}
@@ -18,11 +17,11 @@ use Rattle.definitions.specs.Polynomials.{productTo, atDivisors, overDivisors, 
 use Rattle.definitions.specs.Steps.{Sort, comb, accumulate}
 use Rattle.definitions.specs.KeptHalf.{sortOf, termOf, term}
 use Rattle.integers.specs.Solver.{:1, _:+_, _:*_, :-, x, y, z}
-use Rattle.integers.specs.Whole.{⊕-zero, zero-⊕, ⊕-neg, ⊖-zero, ⊗-one, ringℤ}
+use Rattle.integers.specs.Whole.{⊕-zero, ⊕-neg, ⊖-zero, ⊗-one}
 use Rattle.series.specs.Laws.{Unitˢ, at-+ˢ, at--ˢ, cancel, ·-comm, ·-one, one-·, ringˢ}
 use Rattle.series.specs.Maps.{off-z^, shift-below, shift-from, spread-add, spread-neg, spread-constant, spread-mul}
-use Rattle.series.specs.Maps.{spread-z^, spread-zero}
-use Rattle.numbers.specs.Tests.{same, test-divides, divides-yes, divides-no, yes-divides, no-divides}
+use Rattle.series.specs.Maps.{spread-z^}
+use Rattle.numbers.specs.Tests.{same, test-divides, divides-yes, divides-no, yes-divides}
 use Rattle.numbers.specs.Folds.{fold-units}
 use Rattle.numbers.specs.Primes.{Prime, prime-pos, quotient-pos}
 use Rattle.numbers.specs.Divisors.{quotient-old, quotient-free}

@@ -4,6 +4,7 @@
 use Prim.Native.Nat.{ℕ}
 use mathlib.Core.Path.{_≡_, refl}
 use mathlib.Core.List.{List, [], _∷_}
+use lib.IntN.{pos}
 use Rattle.definitions.specs.Integers.{_⊕_, _⊗_, ⊖}
 use Rattle.definitions.specs.Series.{constant, _+ˢ_, -ˢ, _·_, _÷_, z^, firsts}
 use Rattle.definitions.specs.Numbers.{someTo, countTo, listTo, productOfTo, divides, shareFactor, phi, isPrime}
@@ -14,7 +15,7 @@ use Rattle.definitions.specs.Steps.{belowOne}
 use Rattle.definitions.specs.Steps.{stepOver}
 use Rattle.definitions.specs.KeptHalf.{halfDegree, sortOf, termOf, term, start, productOf, keptSeries, keptHalf, sumOf}
 use Rattle.definitions.specs.KeptHalf.{additions}
-use Rattle.definitions.specs.Answer.{coefficients, heightOf, height, gain, additionsFor}
+use Rattle.definitions.specs.Answer.{coefficients, heightOf, height, gainOf, gain, additionsFor}
 use Rattle.definitions.specs.Requests.{knownKind, goodIndex, nextDivisor, divisorsDue, overAt, overAmong}
 use Rattle.answers.specs.Polynomial.{code, answered, answer}
 use Rattle.text.specs.Text.{decimalIn, decimal, sign, signed, spaced}
@@ -45,16 +46,16 @@ example : listing input ≡ output
 unfolding input output listing heading replies linesFrom lastLine reply replyTo readLine isGood isGoodWith placeOfLimit
     numberAt digitsAt valueOf valueFrom digits between kindOf wrong goodLine headOf tailOf letterOf wrongLine spaced
     signed sign decimal decimalIn answer answered code knownKind goodIndex divisorsDue overAmong overAt nextDivisor
-    coefficients height heightOf gain additionsFor additions sumOf keptHalf keptSeries productOf start term termOf
-    sortOf halfDegree stepOver someOutside stepped accumulated accumulatedIn combed inRange entries belowOne degree
-    polynomial
+    coefficients height heightOf gain gainOf additionsFor additions sumOf keptHalf keptSeries productOf start term
+    termOf sortOf halfDegree stepOver someOutside stepped accumulated accumulatedIn combed inRange entries belowOne
+    degree polynomial
     F I familyTo z^-1 atDivisors productTo muIsPlus primesOf divisorsBelow rOf oddPrimeOf isPrime phi shareFactor
     divides
     productOfTo listTo countTo someTo firsts z^ _÷_ _·_ -ˢ _+ˢ_ constant ⊖ _⊗_ _⊕_
 example = refl
 
 -- `F 105 6 48 0 0 0 :`
-refused : goodLine 1 105 (record { code = 6; degree = 48; additions = 0; height = 0; gain = 0 }) []
+refused : goodLine 1 105 (record { code = 6; degree = 48; additions = 0; height = 0; gain = pos 0 }) []
     ≡ 70 ∷ 32 ∷ 49 ∷ 48 ∷ 53 ∷ 32 ∷ 54 ∷ 32 ∷ 52 ∷ 56 ∷ 32 ∷ 48 ∷ 32 ∷ 48 ∷ 32 ∷ 48 ∷ 32 ∷ 58 ∷ 10 ∷ []
 unfolding goodLine headOf tailOf letterOf spaced signed sign decimal decimalIn
 refused = refl

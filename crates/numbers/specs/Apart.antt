@@ -88,6 +88,16 @@ module _ (n : ℕ) where
       go (no u) (yes h) = rw (m-even h) (dvd-mul-left-of-dvd p (prime-r l p P d u) 2)
       go (no u) (no h) = rw (m-odd h) (prime-r l p P d u)
 
+  -- and none of them twice
+  pub m-squarefree : (p : ℕ) → Prime p → ¬ (p * p ∣ mOf n)
+  m-squarefree = go (decDvd 2 n)
+    where
+      go : Dec (2 ∣ n) → (p : ℕ) → Prime p → ¬ (p * p ∣ mOf n)
+      go (yes d) p P h =
+          squarefree-times (rOf n) 2 (r-odd-squarefree .squarefree) prime-two r-odd p P
+          (rw (m-even d, mul-comm 2 (rOf n)) at h)
+      go (no d) p P h = r-odd-squarefree .squarefree p P (rw (m-odd d) at h)
+
 -- from m to m t, whose primes all divide m: each prime more divides what is there
 pub by-repeats :
     (Q : ℕ → Type 0) (m : ℕ)

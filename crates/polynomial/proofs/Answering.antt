@@ -1,5 +1,5 @@
 -- The polynomial request's outcomes: which code each test leads to, and what is then told and left.
-use Prim.Native.Nat.{ℕ, zero, suc, _+_, _-_, _<_, _≤_}
+use Prim.Native.Nat.{ℕ, suc, _+_, _-_, _<_, _≤_}
 use mathlib.Core.Path.{_≡_, refl, sym, _∙_, ap, ap₂}
 use mathlib.Core.Bool.{Bool, true, false, cond, _||_}
 use mathlib.Core.Logic.{_≢_, _⊎_, inl, inr, ⊎-elim}
@@ -8,7 +8,7 @@ use native.Mathlib.Omega.{arith}
 use native.Mathlib.Numerals.{add-one}
 use borrow.Author.Tests.{le-ltb, le-leb, lt-leb, eq-eqb, ne-eqb}
 use lib.ListN.{length, drop, length-replicate}
-use lib.Dec.{eqb, ltb}
+use lib.Dec.{ltb}
 use lib.IntN.{ℤ, pos}
 use Rattle.definitions.specs.Integers.{0ℤ}
 use Rattle.definitions.specs.Codes.{DONE, KIND, INDEX, LIMIT, SHORT, OVER, TALL}
@@ -57,7 +57,7 @@ Answers kind n h w a m l = (a ≡ answer kind n h w (length l)) × (m ≡ leaves
 
 -- nothing is told but a code and a degree
 abbrev pub told-only : ℕ → ℕ → Answer
-told-only c d = record { code = c; degree = d; additions = 0; height = 0; gain = 0 }
+told-only c d = record { code = c; degree = d; additions = 0; height = 0; gain = 0ℤ }
 
 module _ (kind n : ℕ) (h w : ℤ) (l : List ℤ) where
   by-code : (c : ℕ) (a : Answer) (m : List ℤ) → a ≡ answered kind n c → m ≡ left kind n c l → code kind n h w (length l)
@@ -149,7 +149,7 @@ module _
             → Answers kind n (pos h) (pos w) (told-only (r .code) d) (m ++ drop (d + 1) l) l
         go c x s = let y = s (last-code ∙ x) in (ap₂ told-only x ed ∙ y .0, zeroed q ∙ y .1)
 
-    pub delivers : r .code ≡ DONE → (x : ℕ) → x ≡ gain kind n
+    pub delivers : r .code ≡ DONE → (x : ℤ) → x ≡ gain kind n
         → Answers kind n (pos h) (pos w)
         (record { code = DONE; degree = d; additions = r .additions; height = r .height; gain = x })
         (m ++ drop (d + 1) l) l
@@ -162,7 +162,7 @@ module _
               (eq-eqb (r .code) DONE q)) ∙ y .1,
         )
       where
-        same : {x y z u x′ y′ z′ u′ : ℕ} → x ≡ x′ → y ≡ y′ → z ≡ z′ → u ≡ u′
+        same : {x y z x′ y′ z′ : ℕ} {u u′ : ℤ} → x ≡ x′ → y ≡ y′ → z ≡ z′ → u ≡ u′
             → _≡_ {A = Answer} (record { code = DONE; degree = x; additions = y; height = z; gain = u })
             (record { code = DONE; degree = x′; additions = y′; height = z′; gain = u′ })
         same p q r s i = record { code = DONE; degree = p i; additions = q i; height = r i; gain = s i }

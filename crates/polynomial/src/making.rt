@@ -90,7 +90,7 @@ pub(crate) fn answer_in(kind: u64, n: u64, parts: Parts, h: u64, w: u64, buf: &m
     if made.code != answers::DONE {
         return Answer::refused(made.code, degree);
     }
-    let gain = super::gain::gain_of(kind, n, parts.phi);
+    let gain = super::gain::gain_of(kind, n, parts);
     Answer {
         code: answers::DONE,
         degree,

@@ -2,18 +2,17 @@
 -- highest coefficients of a product multiply; a polynomial factor of a monic polynomial by a monic one is monic, and
 -- its degree is the difference (`monic-div`).
 use Prim.Native.Nat.{ℕ, zero, suc, _+_, _*_, _-_, _/_, _%_, _≤_, _<_}
-use mathlib.Core.Path.{_≡_, refl, sym, _∙_, ap, ap₂, subst, fun-ext}
-use mathlib.Core.Logic.{_≢_, _⊎_, inl, inr}
-use mathlib.Core.List.{List, [], _∷_}
+use mathlib.Core.Path.{_≡_, refl, sym, _∙_, ap, ap₂}
 use native.Mathlib.Omega.{arith}
-use native.Mathlib.Decide.{decLe, decLt, ℕ-discrete}
+use native.Mathlib.Decide.{decLe, ℕ-discrete}
 use native.Mathlib.Nat as NatL
 use lib.IntN.{ℤ}
-use Rattle.definitions.specs.Integers.{_⊕_, _⊗_, ⊖, _⊝_, 0ℤ, 1ℤ}
-use Rattle.definitions.specs.Series.{Series, tail, constant, 𝟘, 𝟙, _+ˢ_, -ˢ, _·_, z^, spread}
-use Rattle.integers.specs.Whole.{⊕-zero, ⊗-one, ⊗-zero, zero-⊗, zero-⊕, ⊖-zero, ringℤ}
+use Rattle.definitions.specs.Integers.{_⊕_, _⊗_, ⊖, 0ℤ, 1ℤ}
+use Rattle.definitions.specs.Series.{Series, tail, constant, 𝟙, _+ˢ_, -ˢ, _·_, z^, spread}
+use Rattle.definitions.specs.Polynomials.{z^-1}
+use Rattle.integers.specs.Whole.{⊕-zero, ⊗-one, ⊗-zero, zero-⊗, zero-⊕, ⊖-zero}
 use Rattle.series.specs.Laws.{at-+ˢ, at--ˢ, at-mul-zero, at-mul-suc}
-use Rattle.series.specs.Maps.{at-z^, off-z^, spread-on, spread-off}
+use Rattle.series.specs.Maps.{off-z^, spread-on, spread-off}
 
 -- nothing at n and above
 abbrev pub ZeroFrom : ℕ → Series → Type 0
@@ -96,6 +95,10 @@ poly-z^ n = (suc n, λ i h. off-z^ n i (λ e. lemma i h e))
   where
     lemma : (i : ℕ) → suc n ≤ i → i ≡ n → ⊥
     lemma i h e = omega arith
+
+pub poly-z^-1 : (n : ℕ) → Poly (z^-1 n)
+unfolding z^-1
+poly-z^-1 n = poly-add (z^ n) (-ˢ 𝟙) (poly-z^ n) (poly-neg 𝟙 (poly-constant 1ℤ))
 
 spread-zero-from : (t n : ℕ) (f : Series) → 0 < t → ZeroFrom n f → (i : ℕ) → n * t ≤ i → Dec (i % t ≡ 0)
     → spread t f i ≡ 0ℤ

@@ -9,8 +9,8 @@ use lib.IntN.{ℤ}
 use Rattle.definitions.specs.Integers.{_⊕_, _⊗_, ⊖, _⊝_, 0ℤ, 1ℤ}
 use Rattle.definitions.specs.Series.{Series, tail, constant, 𝟘, 𝟙, _+ˢ_, -ˢ, _·_, _÷_}
 use Rattle.integers.specs.Ring.{Ring}
-use Rattle.integers.specs.Solver.{Expr, :0, :1, _:+_, _:*_, :-, x, y, z, w, u, normal, eval, ring}
-use Rattle.integers.specs.Whole.{⊕-assoc, ⊕-comm, ⊕-zero, ⊕-neg, ⊗-comm, ⊗-zero, zero-⊗, zero-⊕, one-⊗, ⊗-one, ringℤ}
+use Rattle.integers.specs.Solver.{Expr, _:+_, _:*_, :-, x, y, z, w, u, normal, eval, ring}
+use Rattle.integers.specs.Whole.{⊕-assoc, ⊕-comm, ⊕-zero, ⊕-neg, ⊗-comm, ⊗-zero, zero-⊗, one-⊗, ⊗-one, ringℤ}
 
 mul-suc-right : (f g : Series) (n : ℕ) → (f · g) (suc n) ≡ (f · tail g) n ⊕ f (suc n) ⊗ g zero
 unfolding _·_

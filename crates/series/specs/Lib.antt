@@ -3,4 +3,5 @@
 pub mod Laws
 pub mod Maps
 pub mod Degree
+pub mod AtOne
 pub mod Mirror

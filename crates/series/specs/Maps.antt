@@ -2,25 +2,25 @@
 -- image of the tail, φ f = f(0) + z w φ(tail f), is a ring homomorphism (`sub-add`, `sub-mul`, ..). z ↦ z^t (`spread`)
 -- is one with w = z^(t-1), and z ↦ -z (`alternate`) with w = -1.
 use Prim.Native.Nat.{ℕ, zero, suc, pred, _+_, _*_, _-_, _/_, _%_, _≤_, _<_}
-use mathlib.Core.Path.{_≡_, refl, sym, _∙_, ap, ap₂, subst, fun-ext}
-use mathlib.Core.Bool.{Bool, true, false, cond}
+use mathlib.Core.Path.{_≡_, refl, sym, _∙_, ap, ap₂, fun-ext}
+use mathlib.Core.Bool.{cond}
 use mathlib.Core.Logic.{_≢_, _⊎_, inl, inr}
-use mathlib.Core.List.{List, [], _∷_}
+use mathlib.Core.List.{[], _∷_}
 use native.Mathlib.Omega.{arith}
-use native.Mathlib.Decide.{decLe, decLt, ℕ-discrete}
+use native.Mathlib.Decide.{decLt, ℕ-discrete}
 use native.Mathlib.Nat as NatL
 use lib.IntN.{ℤ}
 use native.Mathlib.Numerals.{add-one}
 use borrow.Author.Tests.{eq-eqb, ne-eqb}
 use lib.Arith.{mod-mul}
 use lib.Dec.{eqb, eqb·suc-suc}
-use Rattle.definitions.specs.Integers.{_⊕_, _⊗_, ⊖, _⊝_, 0ℤ, 1ℤ}
+use Rattle.definitions.specs.Integers.{_⊕_, _⊗_, ⊖, 0ℤ, 1ℤ}
 use Rattle.definitions.specs.Series.{Series, tail, constant, 𝟘, 𝟙, _+ˢ_, -ˢ, _·_, z^, spread, alternate}
-use Rattle.integers.specs.Solver.{Expr, :0, :1, _:+_, _:*_, :-, x, y, z, w, u}
+use Rattle.integers.specs.Solver.{:1, _:*_, :-, x, z, w}
 use Rattle.integers.specs.Ring as Laws
-use Rattle.integers.specs.Whole.{⊕-assoc, ⊕-zero, ⊗-one, zero-⊗, zero-⊕, ⊖-zero, ⊗-zero, ringℤ}
+use Rattle.integers.specs.Whole.{⊕-zero, zero-⊗, zero-⊕, ⊖-zero, ringℤ}
 use Rattle.series.specs.Laws.{scale, at-+ˢ, at--ˢ, at-𝟘, at-mul-zero, at-mul-suc, agree-mul, tail-mul, scale-mul}
-use Rattle.series.specs.Laws.{constant-mul, one-·, +ˢ-zero, +ˢ-neg, ·-+ˢ, ·-assoc, series-ring, ringˢ}
+use Rattle.series.specs.Laws.{constant-mul, one-·, +ˢ-zero, +ˢ-neg, ·-+ˢ, ·-assoc, series-ring}
 
 -- ---- two families of series that start alike and go on alike are the same
 module _ {X : Type 0} (w : Series) (next : X → X) (c : X → Series) (A B : X → Series)
@@ -177,6 +177,16 @@ z^-add m n =
     go : (i : ℕ) → Dec (i ≡ n) → z^ (m + n) (m + i) ≡ z^ n i
     go i (yes e) = z^-yes (m + n) (m + i) (ap (λ k. m + k) e) ∙ sym (z^-yes n i e)
     go i (no e) = z^-no (m + n) (m + i) (λ q. e (NatL.add-left-cancel m q)) ∙ sym (z^-no n i e)
+
+-- ---- f(0) + z (tail f)
+pub head-tail : (f : Series) → f ≡ constant (f zero) +ˢ z^ 1 · tail f
+unfolding constant
+head-tail f = fun-ext (λ i. sym (at-+ˢ (constant (f zero)) (z^ 1 · tail f) i ∙ at i))
+  where
+    at : (i : ℕ) → constant (f zero) i ⊕ (z^ 1 · tail f) i ≡ f i
+    at zero = ap (λ q. f zero ⊕ q) (shift-below 1 (tail f) 0 (omega arith)) ∙ ⊕-zero (f zero)
+    at (suc i) = zero-⊕ ((z^ 1 · tail f) (suc i)) ∙ ap (z^ 1 · tail f) (sym (NatL.add-comm 1 i ∙ omega arith))
+        ∙ shift-at 1 (tail f) i
 
 -- ---- z ↦ z^t
 pub spread-puts : (k : ℕ) → Puts (spread (suc k)) (z^ k)

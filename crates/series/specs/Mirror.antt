@@ -5,20 +5,20 @@ use Prim.Native.Nat.{ℕ, zero, suc, _+_, _*_, _-_, _/_, _%_, _≤_, _<_}
 use mathlib.Core.Path.{_≡_, refl, sym, _∙_, ap, ap₂, fun-ext}
 use mathlib.Core.Bool.{cond}
 use mathlib.Core.Logic.{_≢_}
-use mathlib.Core.List.{List, [], _∷_}
+use mathlib.Core.List.{[], _∷_}
 use native.Mathlib.Omega.{arith}
-use native.Mathlib.Decide.{decLe, ℕ-discrete}
+use native.Mathlib.Decide.{decLe}
 use native.Mathlib.Nat as NatL
 use lib.IntN.{ℤ}
 use lib.Dec.{leb}
 use borrow.Author.Tests.{le-leb, lt-leb}
 use Rattle.definitions.specs.Integers.{_⊕_, _⊗_, ⊖, 0ℤ, 1ℤ}
-use Rattle.definitions.specs.Series.{Series, tail, constant, 𝟘, 𝟙, _+ˢ_, -ˢ, _·_, z^, spread}
+use Rattle.definitions.specs.Series.{Series, tail, constant, _+ˢ_, -ˢ, _·_, z^, spread}
 use Rattle.integers.specs.Solver.{_:+_, _:*_, x, y, z, w, u}
-use Rattle.integers.specs.Whole.{⊕-zero, ⊗-one, ⊗-zero, zero-⊕, ⊖-zero, ringℤ}
-use Rattle.series.specs.Laws.{at-+ˢ, at--ˢ, at-mul-zero, tail-mul, scale, constant-mul, constants-mul, ·-comm}
-use Rattle.series.specs.Laws.{·-assoc, ·-+ˢ, ringˢ}
-use Rattle.series.specs.Maps.{at-z^, off-z^, shift-below, shift-from, is-shift, spread-on, spread-off, is-spread}
+use Rattle.integers.specs.Whole.{⊕-zero, ⊗-one, ⊗-zero, zero-⊕, ⊖-zero}
+use Rattle.series.specs.Laws.{at-+ˢ, at--ˢ, at-mul-zero, tail-mul, scale, constant-mul, constants-mul}
+use Rattle.series.specs.Laws.{ringˢ}
+use Rattle.series.specs.Maps.{at-z^, off-z^, is-shift, spread-on, spread-off, is-spread}
 use Rattle.series.specs.Degree.{ZeroFrom}
 
 unfoldable pub mirror : ℕ → Series → Series

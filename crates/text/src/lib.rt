@@ -73,8 +73,8 @@ fn put_sign(out: &mut [u8], at: usize, c: i64) -> usize
     at
 }
 
-// A space and a coefficient.
-fn put_coefficient(out: &mut [u8], at: usize, c: i64) -> usize
+// A space and a signed number.
+pub fn put_signed(out: &mut [u8], at: usize, c: i64) -> usize
     requires { ⌜ at + 22 ≤ length (now out) ⌝ }
     ensures { λ r. ⌜ Puts (spaced (c ∷ [])) at (now (out .entry)) (now (out .exit)) r ⌝ }
     ensures { λ r. ⌜ r ≤ at + 22 ⌝ }
@@ -93,7 +93,7 @@ pub fn put_coefficients(out: &mut [u8], at: usize, entries: &[i64], count: usize
     let mut p = at;
     let mut i = 0;
     while i < count {
-        p = put_coefficient(out, p, entries[i]);
+        p = put_signed(out, p, entries[i]);
         i += 1;
     }
     p

@@ -1,5 +1,7 @@
--- `replies::reply::put_head` meets its contract: its five parts, one after the other.
+-- `replies::reply::put_head` meets its contract: its seven parts, one after the other.
 use native.Mathlib.Omega.{arith}
+use mir.Syntax.{w64}
+use mir.Facts.{toZ-ofZ}
 use Rattle.answer_lines.proofs.Head.{put-headed}
 use borrow.Author.Needs.{needs}
 use Rattle.answer_lines.proofs.put_head.Statement.{statement}
@@ -14,8 +16,14 @@ put-requires c κs = search needs
 put-three-requires : tie.Need-put-three-requires
 put-three-requires c κs = search needs
 
-put-three-requires-2 : tie.Need-put-three-requires-2
-put-three-requires-2 c κs = search needs
+put-item-requires : tie.Need-put-item-requires
+put-item-requires c κs = search needs
+
+put-item-requires-2 : tie.Need-put-item-requires-2
+put-item-requires-2 c κs = search needs
+
+put-signed-requires : tie.Need-put-signed-requires
+put-signed-requires c κs = search needs
 
 put-requires-2 : tie.Need-put-requires-2
 put-requires-2 c κs = search needs
@@ -28,26 +36,30 @@ same-length c = search needs
 
 returns : tie.Need-returns
 returns c =
-    let s = c .before .before .before .before .before .before .before .before .before .before .before .before .before
-    .before .before .before .before .before .before .before .before .before in
-    let first = rw
-    (c .before .before .before .before .before .before .before .before .before .before .before .before .before
-    .before .before .before .before .before .before .letter-of .ensures) at
-    (c .before .before .before .before .before .before .before .before .before .before .before .before .before
-    .before .before .before .before .before .put .ensures) in (
-      put-headed (s .args .kind) (s .args .n) (s .args .a) first
-          (c .before .before .before .before .before .before .before .before .before .before .before .before .before
-          .before .put-three .ensures .0)
-          (c .before .before .before .before .before .before .before .before .before .before .put-three2 .ensures .0)
-          (c .before .before .before .before .before .before .put2 .ensures) (c .before .before .put3 .ensures),
+    let colon-put = c .before .before in
+    let space-put = colon-put .before .before .before .before in
+    let gain-put = space-put .before .before .before .before in
+    let height-put = gain-put .before .before .before .before .before in
+    let additions-put = height-put .before .before .before .before in
+    let code-put = additions-put .before .before .before .before in
+    let letter-put = code-put .before .before .before .before in
+    let s = letter-put .before .before .before .before in
+    let first = rw (letter-put .before .letter-of .ensures) at (letter-put .put .ensures) in
+    let told = gain-put .before .struct-told .given in
+    let gain = rw (toZ-ofZ {w = w64} {z = s .args .a .gain} (record { sfits = told .1 .1 .1 .1 .0 .1 })) at
+    (gain-put .put-signed .ensures .0) in (
+      put-headed (s .args .kind) (s .args .n) (s .args .a) first (code-put .put-three .ensures .0)
+          (additions-put .put-item .ensures .0) (height-put .put-item2 .ensures .0) gain
+          (space-put .put2 .ensures) (colon-put .put3 .ensures),
       omega (
         arith,
         first .place,
-        c .before .before .before .before .before .before .before .before .before .before .before .before .before
-            .before .put-three .ensures .1,
-        c .before .before .before .before .before .before .before .before .before .before .put-three2 .ensures .1,
-        c .before .before .before .before .before .before .put2 .ensures .place,
-        c .before .before .put3 .ensures .place,
+        code-put .put-three .ensures .1,
+        additions-put .put-item .ensures .1,
+        height-put .put-item2 .ensures .1,
+        gain-put .put-signed .ensures .1,
+        space-put .put2 .ensures .place,
+        colon-put .put3 .ensures .place,
       ),
     )
 
@@ -58,7 +70,9 @@ put-head-spec =
     letter-of-requires
     put-requires
     put-three-requires
-    put-three-requires-2
+    put-item-requires
+    put-item-requires-2
+    put-signed-requires
     put-requires-2
     put-requires-3
     same-length

@@ -26,15 +26,15 @@ loop-holds : tie.Need-loop-holds Inv-loop μ-loop
 unfolding spaced
 loop-holds c = (omega arith, nothing-put (c .before .args .at) (c .before .args .out .now), omega arith, refl)
 
-mul-put-coefficient : tie.Need-mul-put-coefficient Inv-loop μ-loop
-mul-put-coefficient c = search needs
+mul-put-signed : tie.Need-mul-put-signed Inv-loop μ-loop
+mul-put-signed c = search needs
 
-shared-slice-copy-out-put-coefficient :
-    tie.Need-shared-slice-copy-out-put-coefficient Inv-loop μ-loop
-shared-slice-copy-out-put-coefficient c = omega arith
+shared-slice-copy-out-put-signed :
+    tie.Need-shared-slice-copy-out-put-signed Inv-loop μ-loop
+shared-slice-copy-out-put-signed c = omega arith
 
-put-coefficient-requires : tie.Need-put-coefficient-requires Inv-loop μ-loop
-put-coefficient-requires c κs = omega arith
+put-signed-requires : tie.Need-put-signed-requires Inv-loop μ-loop
+put-signed-requires c κs = omega arith
 
 add-i : tie.Need-add-i Inv-loop μ-loop
 add-i c = omega arith
@@ -53,11 +53,11 @@ loop-again c =
           (rw (toZ-ofZ
           (record {
             sfits =
-                c .before .before .before .put-coefficient-arg2 .given;
+                c .before .before .before .put-signed-arg2 .given;
           })) at
-          (c .before .before .put-coefficient .ensures .0))),
-      omega (arith, c .before .before .put-coefficient .ensures .1),
-      c .before .before .put-coefficient .kept .0 ∙ t .inv .3,
+          (c .before .before .put-signed .ensures .0))),
+      omega (arith, c .before .before .put-signed .ensures .1),
+      c .before .before .put-signed .kept .0 ∙ t .inv .3,
     )
 
 same-length : tie.Need-same-length Inv-loop μ-loop
@@ -76,9 +76,9 @@ put-coefficients-spec =
     Inv-loop
     μ-loop
     loop-holds
-    mul-put-coefficient
-    shared-slice-copy-out-put-coefficient
-    put-coefficient-requires
+    mul-put-signed
+    shared-slice-copy-out-put-signed
+    put-signed-requires
     add-i
     loop-less
     loop-again

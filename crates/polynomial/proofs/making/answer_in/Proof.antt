@@ -1,12 +1,16 @@
 -- `answer_in` meets its contract: SHORT, or what the making came to (Answering). The degree is named once.
-use Prim.Native.Nat.{_+_}
+use Prim.Native.Nat.{_+_, _≤_}
 use mathlib.Core.Path.{_≡_, sym, _∙_, ap}
 use native.Mathlib.Omega.{arith}
-use lib.ListN.{length}
+use lib.IntN.{ℤ, natAbs}
+use mir.Syntax.{w64}
+use mir.Val.{SFits}
+use mir.Facts.{toZ-ofZ}
 use lib.Seq.{length-take-le}
 use Rattle.definitions.specs.Codes.{SHORT}
 use Rattle.definitions.specs.Polynomials.{degree}
-use Rattle.index.proofs.Laws.{index-good, parts-phi, parts-degree}
+use Rattle.step_laws.specs.Signed.{mag-abs}
+use Rattle.index.proofs.Laws.{parts-degree}
 use Rattle.polynomial.proofs.Answering.{told-only, ask-short, at-short, refuses, delivers}
 use borrow.Author.Needs.{needs}
 use Rattle.polynomial.proofs.making.answer_in.Statement.{statement}
@@ -18,6 +22,10 @@ module _ (g : tie.After-degree-from) where
 
   degree-is : g .degree-from .result ≡ degree (start .args .kind) (start .args .n)
   degree-is = parts-degree (start .args .n) _ (start .pre .0) (start .args .kind) _ (g .degree-from .ensures)
+
+-- a small number is what the machine reads back
+small : (z : ℤ) → natAbs z ≤ 65535 → SFits w64 z
+small z l = record { sfits = omega (arith, mag-abs z) }
 
 degree-from-requires : tie.Need-degree-from-requires
 degree-from-requires c κs = search needs
@@ -75,9 +83,7 @@ returns-2 c =
 
 gain-of-requires : tie.Need-gain-of-requires
 gain-of-requires c κs =
-    let p = start (c .before .before .before .before .before .before) in
-    let i = index-good (p .args .n) (p .pre .2) in
-    (i .0, i .1, parts-phi (p .args .n) _ (p .pre .0))
+    let p = start (c .before .before .before .before .before .before) in (p .pre .0, p .pre .2)
 
 same-length-2 : tie.Need-same-length-2
 same-length-2 c = search needs
@@ -89,7 +95,7 @@ returns-3 c =
     delivers (p .args .kind) (p .args .n) (p .args .h) (p .args .w) (p .args .buf .now) (p .pre .1) (p .pre .2)
     (p .pre .3) (p .pre .4 .0) _ (degree-is g) (omega arith) _ _ (c .before .before .before .before .make .ensures)
     (c .before .if2 .left) _
-    (c .gain-of .ensures)
+    (toZ-ofZ (small _ (c .gain-of .ensures .1)) ∙ c .gain-of .ensures .0)
 
 pub answer-in-spec : {M : Type 1} → statement M
 answer-in-spec =

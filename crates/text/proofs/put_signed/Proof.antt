@@ -1,12 +1,12 @@
--- `text::write::put_coefficient` meets its contract: a space, the sign, the digits of the magnitude.
+-- `text::write::put_signed` meets its contract: a space, the sign, the digits of the magnitude.
 use native.Mathlib.Omega.{arith}
 use mir.Facts.{toZ-ofZ}
 use Rattle.step_laws.specs.Machine.{seen}
 use Rattle.step_laws.specs.Signed.{abs-mag}
 use Rattle.text.proofs.Putting.{then, put-one, length-spaced, length-sign}
 use borrow.Author.Needs.{needs}
-use Rattle.text.proofs.put_coefficient.Statement.{statement}
-use Rattle.text.proofs.put_coefficient.Tie as tie
+use Rattle.text.proofs.put_signed.Statement.{statement}
+use Rattle.text.proofs.put_signed.Tie as tie
 
 put-requires : tie.Need-put-requires
 put-requires c κs = search needs
@@ -44,8 +44,8 @@ returns c =
     (then sign digits) in
     (whole, omega (arith, whole .place, length-spaced x (omega (arith, abs-mag x, f .sfits)), length-sign x))
 
-pub put-coefficient-spec : {M : Type 1} → statement M
-put-coefficient-spec =
+pub put-signed-spec : {M : Type 1} → statement M
+put-signed-spec =
     tie.close
     (tie.spec
     put-requires
