@@ -6,10 +6,8 @@ use mathlib.Core.Logic.{_↔_, ⊎-elim}
 use native.Mathlib.Nat.{one-mul, mul-comm, mul-le-mul-left, mul-suc, div-mul-cancel, eq-or-lt-of-le, eq-one-of-dvd-one}
 use native.Mathlib.Decide.{decDvd}
 use native.Mathlib.Omega.{arith}
-use lib.Dec.{eqb}
-use Rattle.definitions.specs.Numbers.{phi, isPrime}
-use Rattle.numbers.specs.Tests.{same, test-eq}
-use Rattle.numbers.specs.Primes.{Prime, test-prime, prime-divisor, quotient-pos}
+use Rattle.definitions.specs.Numbers.{phi}
+use Rattle.numbers.specs.Primes.{Prime, prime-divisor, quotient-pos}
 use Rattle.numbers.specs.Phi.{phi-old, phi-new, phi-times, phi-one, phi-lt}
 
 prime-has : (n : ℕ) → Prime n → phi n + 1 ≡ n
@@ -45,9 +43,3 @@ prime-phi n l = (has-prime, prime-has n)
         (λ one. rw (sym (one-mul p) ∙ ap (λ q. q * p) one ∙ whole) at P)
         (λ more. absurd (omega (arith, P .above, composite (n / p) p more P, whole, ap phi whole)))
         (eq-or-lt-of-le (quotient-pos p n (omega arith) d))
-
--- the test by phi is the test by divisors
-pub prime-by-phi : (n : ℕ) → 1 < n → isPrime n ≡ eqb (phi n) (n - 1)
-prime-by-phi n l =
-    same (test-prime n) (test-eq (phi n) (n - 1)) (λ P. omega (arith, prime-phi n l .1 P))
-    (λ e. prime-phi n l .0 (omega arith))
