@@ -1,7 +1,8 @@
 -- The theorems between the requests: after all divisors the partial request shows the lower half of what the full
 -- request for r delivers (`same-lower-half`); the additions reported are demand 3's sum and within 2^k (D + 1)
--- (`additions-within`); and no coefficient delivered is larger in magnitude than the working limit (`within-limit`), so
--- none is -2^63 (`can-be-negated`).
+-- (`additions-within`); the height and the gain told are those of the entries that are left (`told-of-entries`); and no
+-- coefficient delivered is larger in magnitude than the working limit (`within-limit`), so none is -2^63
+-- (`can-be-negated`).
 use Prim.Native.Nat.{ℕ, zero, suc, _+_, _*_, _^_, _<_, _≤_}
 use mathlib.Core.Path.{_≡_, refl, sym, _∙_, ap, subst}
 use mathlib.Core.Bool.{false, cond}
@@ -21,7 +22,7 @@ use Rattle.definitions.specs.Polynomials.{polynomial, degree}
 use Rattle.definitions.specs.Steps.{entries, largest, belowOne}
 use Rattle.definitions.specs.KeptHalf.{halfDegree, sortOf, keptHalf, additions}
 use Rattle.definitions.specs.Requests.{divisorsDue, nextDivisor, overAt, overAmong, written}
-use Rattle.definitions.specs.Answer.{coefficients, height, additionsFor}
+use Rattle.definitions.specs.Answer.{coefficients, heightOf, height, gainOf, gain, additionsFor}
 use Rattle.numbers.specs.Apart.{r-odd-squarefree}
 use Rattle.numbers.specs.HowMany.{k-of-r}
 use Rattle.numbers.specs.Below.{additions-at-most}
@@ -84,6 +85,22 @@ additions-within kind n h w room l e =
   where
     told : cond (eqb (Polynomial.code kind n h w room) DONE) (additions kind (rOf n)) 0 ≡ additions kind (rOf n)
     told = ap (λ c. cond (eqb c DONE) (additions kind (rOf n)) 0) e
+
+-- ---- the height and the gain are those of entries 0 to degree, as they stand in the buffer
+pub told-of-entries :
+    (kind n : ℕ) (h w : ℤ) (l : List ℤ) → Polynomial.code kind n h w (length l) ≡ DONE
+    → let a = Polynomial.answer kind n h w (length l) in
+    let delivered = take (suc (a .degree)) (Polynomial.leaves kind n h w l) in
+    (a .height ≡ heightOf delivered) × (a .gain ≡ gainOf delivered)
+unfolding Polynomial.answer Polynomial.answered Polynomial.leaves Polynomial.left coefficients height gain
+told-of-entries kind n h w l e =
+    rw e (ap heightOf (sym front), ap gainOf (sym front))
+  where
+    front : take (suc (degree kind n)) (written (coefficients kind n) l) ≡ coefficients kind n
+    front =
+        written-front (coefficients kind n) l (suc (degree kind n))
+        (NatL.le-of-eq (sym (length-firsts (suc (degree kind n)) (polynomial kind n))))
+        ∙ firsts-front (suc (degree kind n)) (suc (degree kind n)) (polynomial kind n) (NatL.le-refl (suc (degree kind n)))
 
 -- ---- no coefficient passes the working limit
 kept-step : (w kind r j : ℕ) → j < divisorsDue r → Bounded w (entries (keptHalf kind r j)) → overAt w kind r j ≡ false
