@@ -1,20 +1,17 @@
 -- F(n) is monic of degree phi(n) (`monic-F`), and I(n) of degree n - phi(n) (`monic-I`): from one prime to the next,
 -- degrees multiply by p where z^p is put for z, and phi does the same.
-use Prim.Native.Nat.{ℕ, zero, suc, _+_, _*_, _-_, _≤_, _<_, _∣_}
-use mathlib.Core.Path.{_≡_, refl, sym, _∙_, ap}
+use Prim.Native.Nat.{ℕ, _*_, _-_, _<_, _∣_}
+use mathlib.Core.Path.{_≡_, sym, _∙_, ap}
 use mathlib.Core.Bool.{cond, true, false}
 use native.Mathlib.Omega.{arith}
 use native.Mathlib.Nat as NatL
 use native.Mathlib.Decide.{decDvd}
 use lib.Dec.{eqb}
-use Rattle.definitions.specs.Integers.{_⊕_, ⊖, 0ℤ}
-use Rattle.definitions.specs.Series.{constant, 𝟙, _+ˢ_, -ˢ, _·_, z^, spread}
+use Rattle.definitions.specs.Series.{_·_, spread}
 use Rattle.definitions.specs.Numbers.{phi, mOf, tOf}
-use Rattle.definitions.specs.Polynomials.{z^-1, F, I, polynomial, degree}
-use Rattle.integers.specs.Whole.{⊕-zero, ⊖-zero}
-use Rattle.series.specs.Laws.{at-+ˢ, at--ˢ, ·-comm}
-use Rattle.series.specs.Maps.{at-z^, off-z^}
-use Rattle.series.specs.Degree.{Monic, monic-spread, monic-div}
+use Rattle.definitions.specs.Polynomials.{F, I, polynomial, degree}
+use Rattle.series.specs.Laws.{·-comm}
+use Rattle.series.specs.Degree.{Monic, monic-spread, monic-div, monic-z^-1}
 use Rattle.numbers.specs.Primes.{Prime, prime-pos, by-primes}
 use Rattle.numbers.specs.Phi.{phi-old, phi-new, phi-one, phi-le}
 use Rattle.numbers.specs.Apart.{m-times-t}
@@ -22,27 +19,6 @@ use Rattle.numbers.specs.PhiApart.{phi-m, phi-apart}
 use Rattle.cyclotomic.specs.Family.{F-one, pair-law}
 use Rattle.cyclotomic.specs.OnePrime.{prime-old, prime-new}
 use Rattle.cyclotomic.specs.Finite.{finite-F, finite-I}
-
-one-at : (i : ℕ) → 0 < i → 𝟙 i ≡ 0ℤ
-unfolding constant
-one-at zero l = absurd (NatL.not-suc-le-zero l)
-one-at (suc i) l = refl
-
--- z^n - 1 above degree 0
-pub z^-1-at : (n i : ℕ) → 0 < i → z^-1 n i ≡ z^ n i
-unfolding z^-1
-z^-1-at n i l = at-+ˢ (z^ n) (-ˢ 𝟙) i ∙ ap (λ a. z^ n i ⊕ a) (at--ˢ 𝟙 i ∙ ap ⊖ (one-at i l) ∙ ⊖-zero) ∙ ⊕-zero (z^ n i)
-
-pub monic-z^-1 : (n : ℕ) → 0 < n → Monic n (z^-1 n)
-monic-z^-1 n l =
-    record {
-      top = z^-1-at n n l ∙ at-z^ n;
-      above = λ i h. z^-1-at n i (omega arith)
-          ∙ off-z^ n i (λ e. not-same i h e);
-    }
-  where
-    not-same : (i : ℕ) → suc n ≤ i → i ≡ n → ⊥
-    not-same i h e = omega arith
 
 pub monic-F : (n : ℕ) → 0 < n → Monic (phi n) (F n)
 monic-F = by-primes (λ n. Monic (phi n) (F n)) (rw (phi-one, F-one) (monic-z^-1 1 (omega arith))) next

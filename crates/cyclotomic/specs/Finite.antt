@@ -4,7 +4,7 @@
 -- J(z^q') = J K, and putting z^q for z, J(z^q) K(z^q) = J(z^(q q')) = J + m Y, since z^(q q') is z modulo m. Times
 -- F(n)(z^q): F(n)(z^q) J = m(z^q) K(z^q) - m Y F(n)(z^q) = m X = F(n) J X, and J is a unit.
 use Prim.Native.Nat.{ℕ, zero, suc, _+_, _*_, _≤_, _<_, _∣_, _/_}
-use mathlib.Core.Path.{_≡_, refl, sym, _∙_, ap, ap₂, fun-ext}
+use mathlib.Core.Path.{_≡_, refl, sym, _∙_, ap, ap₂}
 use mathlib.Core.Bool.{Bool, true, false, cond}
 use mathlib.Core.Logic.{⊎-elim}
 use mathlib.Core.List.{[], _∷_}
@@ -17,11 +17,11 @@ use Rattle.definitions.specs.Numbers.{divides}
 use Rattle.definitions.specs.Polynomials.{productTo, atDivisors, z^-1, F, I}
 use Rattle.integers.specs.Solver.{v, :0, :1, _:+_, _:*_, :-, x, z, w, u}
 use Rattle.integers.specs.Solver.{y as y′}
-use Rattle.series.specs.Laws.{Unitˢ, at-𝟘, ·-comm, ·-one, cancel, ringˢ}
+use Rattle.series.specs.Laws.{Unitˢ, ·-comm, ·-one, cancel, ringˢ}
 use Rattle.series.specs.Maps.{z^-add, spread-add, spread-mul, spread-constant}
 use Rattle.series.specs.Maps.{spread-z^, spread-spread, head-tail}
 use Rattle.series.specs.Degree.{ZeroFrom, Poly, poly-add, poly-neg, poly-mul, poly-constant, poly-z^, poly-spread}
-use Rattle.series.specs.Degree.{poly-z^-1}
+use Rattle.series.specs.Degree.{poly-z^-1, nothing}
 use Rattle.series.specs.AtOne.{powers}
 use Rattle.numbers.specs.Tests.{strong, yes-divides}
 use Rattle.numbers.specs.Primes.{Prime, Coprime, prime-pos, prime-divisor, prime-coprime, quotient-pos}
@@ -83,7 +83,7 @@ module _ (n c k : ℕ) (e : k ≡ 1 + n * c) where
   )
     where
       none : h ≡ 𝟘
-      none = fun-ext (λ i. a i (omega arith) ∙ sym (at-𝟘 i))
+      none = nothing h a
   round-to (suc N) h a =
       round-step h (N, λ i l. a (suc i) (omega arith)) (round-to N (tail h) (λ i l. a (suc i) (omega arith)))
 
@@ -211,7 +211,7 @@ module _ (k : ℕ) (ih : (d : ℕ) → d < suc k → 0 < d → Good d) where
 
 -- ---- F(n p) from F(n)
 first : Poly (F 1)
-first = rw F-one (poly-z^-1 1)
+first = rw F-one (poly-z^-1 1 (omega arith))
 
 poly-next : (n p : ℕ) → 0 < n → Prime p → Good n → Poly (F (n * p))
 unfolding Multiple

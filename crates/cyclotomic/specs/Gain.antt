@@ -21,8 +21,8 @@ use Rattle.integers.specs.Whole.{zero-⊕, ringℤ, no-divisors, 1≢0}
 use Rattle.series.specs.Laws.{ringˢ, cancel}
 use Rattle.series.specs.Degree.{Poly}
 use Rattle.series.specs.AtOne.{AtOne, at-one, at-one-constant, at-one-mul, at-one-spread, only, powers}
-use Rattle.numbers.specs.Primes.{Prime, prime-pos, prime-same, prime-divisor, by-primes, euclid, quotient-pos}
-use Rattle.numbers.specs.Apart.{m-divides, prime-m, m-squarefree}
+use Rattle.numbers.specs.Primes.{Prime, prime-pos, prime-same, by-primes, euclid}
+use Rattle.numbers.specs.Apart.{m-pos, t-pos, m-above, m-squarefree}
 use Rattle.cyclotomic.specs.Family.{F-one, unit-F, pair-law}
 use Rattle.cyclotomic.specs.OnePrime.{prime-old, prime-new, spread-z^-1}
 use Rattle.cyclotomic.specs.Degrees.{monic}
@@ -222,18 +222,11 @@ gains =
 -- ---- from n taken apart: the gain for n is that for m, which has no prime twice, so it is a power of a prime only
 -- where it is that prime
 pub gain-m : (kind n : ℕ) → 0 < n → gain kind n ≡ gain kind (mOf n)
-unfolding tOf
 gain-m kind n l =
     gain-is kind n (gain kind (mOf n)) l
     (rw (taken-apart kind n l)
-    (at-one-spread (tOf n) (quotient-pos (mOf n) n l (m-divides n)) (polynomial kind (mOf n)) (gain kind (mOf n))
-    (gain-at-one kind (mOf n) (NatL.pos-of-dvd-of-pos (m-divides n) l))))
-
-pub m-above : (n : ℕ) → 1 < n → 1 < mOf n
-m-above n l =
-    let (p, P, d) = prime-divisor n l in
-    let pos : 0 < mOf n = NatL.pos-of-dvd-of-pos (m-divides n) (omega arith) in
-    omega (arith, P .above, NatL.le-of-dvd pos (prime-m n (omega arith) p P d))
+    (at-one-spread (tOf n) (t-pos n l) (polynomial kind (mOf n)) (gain kind (mOf n))
+    (gain-at-one kind (mOf n) (m-pos n l))))
 
 no-power : (n : ℕ) → ¬ Prime (mOf n) → (p : ℕ) → ¬ PowerOfPrime (mOf n) p
 no-power n not p w = go (w .exponent) (w .above) (w .power)

@@ -17,8 +17,7 @@ use Rattle.definitions.specs.Polynomials.{productTo, atDivisors, z^-1, familyTo
 use Rattle.definitions.specs.KeptHalf.{halfDegree}
 use Rattle.definitions.specs.Answer.{coefficients, heightOf, height}
 use Rattle.series.specs.Maps.{parity, spread-on, spread-off, alternate-even, alternate-odd}
-use Rattle.numbers.specs.Primes.{quotient-pos}
-use Rattle.numbers.specs.Apart.{OddSquarefree, r-pos, r-odd-squarefree, m-even, m-odd, m-divides}
+use Rattle.numbers.specs.Apart.{OddSquarefree, r-pos, r-odd-squarefree, m-even, m-odd, m-pos, t-pos}
 use Rattle.step_laws.specs.Signed.{abs-⊖}
 use Rattle.cyclotomic.specs.Degrees.{monic}
 use Rattle.cyclotomic.specs.Mirrors.{turned, mirrored}
@@ -57,24 +56,17 @@ module _ (kind n : ℕ) where
 
 -- ---- n and m: coefficients move to degree times t, zeros between
 module _ (kind n : ℕ) (p : 0 < n) where
-  t-pos : 0 < tOf n
-  unfolding tOf
-  t-pos = quotient-pos (mOf n) n p (m-divides n)
-
-  m-pos : 0 < mOf n
-  m-pos = NatL.pos-of-dvd-of-pos (m-divides n) p
-
   spread-at-most : (i : ℕ) → Dec (i % tOf n ≡ 0) → natAbs (spread (tOf n) (polynomial kind (mOf n)) i)
       ≤ height kind (mOf n)
   spread-at-most i (yes e) =
-      rw (spread-on (tOf n) i (polynomial kind (mOf n)) e) (at-most-height kind (mOf n) m-pos (i / tOf n))
+      rw (spread-on (tOf n) i (polynomial kind (mOf n)) e) (at-most-height kind (mOf n) (m-pos n p) (i / tOf n))
   spread-at-most i (no e) = none-le (spread-off (tOf n) i (polynomial kind (mOf n)) e)
 
   moved : (i : ℕ) → polynomial kind n (i * tOf n) ≡ polynomial kind (mOf n) i
   moved i =
       ap (λ f. f (i * tOf n)) (taken-apart kind n p)
       ∙ spread-on (tOf n) (i * tOf n) (polynomial kind (mOf n)) (NatL.mul-mod-left i (tOf n))
-      ∙ ap (polynomial kind (mOf n)) (NatL.mul-div-cancel i t-pos)
+      ∙ ap (polynomial kind (mOf n)) (NatL.mul-div-cancel i (t-pos n p))
 
   height-m : height kind n ≡ height kind (mOf n)
   height-m =

@@ -18,12 +18,13 @@ use Rattle.integers.specs.Solver.{:1, _:*_, :-, x, y}
 use Rattle.integers.specs.Whole.{⊖-zero, ringℤ}
 use Rattle.series.specs.Laws.{at--ˢ, cancel, ·-comm, ringˢ}
 use Rattle.series.specs.Maps.{off-z^}
+use Rattle.series.specs.Degree.{z^-1-at, monic-z^-1}
 use Rattle.series.specs.Mirror.{mirror, mirror-in, is-mirror, mirror-mul, mirror-spread}
 use Rattle.numbers.specs.Primes.{Prime, prime-pos, by-primes}
 use Rattle.numbers.specs.Phi.{phi-old, phi-new, phi-one, phi-le}
 use Rattle.cyclotomic.specs.Family.{F-one, z^-1-zero, unit-F, pair-law}
 use Rattle.cyclotomic.specs.OnePrime.{prime-old, prime-new}
-use Rattle.cyclotomic.specs.Degrees.{z^-1-at, monic-z^-1, monic-F, monic-I}
+use Rattle.cyclotomic.specs.Degrees.{monic-F, monic-I}
 use Rattle.cyclotomic.specs.Signs.{Signed, signed, unsigned, minus-one, sign-step}
 
 -- z^n - 1 backwards is 1 - z^n

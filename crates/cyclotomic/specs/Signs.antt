@@ -1,7 +1,7 @@
 -- Two families that agree up to sign at 1 and grow by the same law agree above 1. The law is that of a new prime, X(np)
 -- X(n) = X(n) with z^p for z: the sign stands on both sides of X(np) (±Y(n)) = ± Y(np) Y(n), and cancels (`sign-step`).
 use Prim.Native.Nat.{ℕ, _<_}
-use mathlib.Core.Path.{_≡_, refl, sym, _∙_, ap, fun-ext}
+use mathlib.Core.Path.{_≡_, refl, sym, _∙_, ap}
 use mathlib.Core.Logic.{_≢_}
 use mathlib.Core.List.{[], _∷_}
 use lib.IntN.{ℤ}
@@ -9,7 +9,7 @@ use Rattle.definitions.specs.Integers.{_⊗_, ⊖, 1ℤ}
 use Rattle.definitions.specs.Series.{Series, constant, -ˢ, _·_, spread}
 use Rattle.integers.specs.Solver.{:1, _:*_, :-, x, y, z}
 use Rattle.integers.specs.Whole.{⊗-one, ringℤ}
-use Rattle.series.specs.Laws.{Unitˢ, at--ˢ, cancel, unit-mul, constant-mul, one-·, ringˢ}
+use Rattle.series.specs.Laws.{Unitˢ, cancel, unit-mul, one-·, ringˢ, constants-neg}
 use Rattle.series.specs.Maps.{spread-mul, spread-constant}
 
 -- X is Y or -Y, and Y where n is not 1
@@ -35,7 +35,7 @@ minus-one {Y} e =
     }
   where
     minus-mul : (f : Series) → constant (⊖ 1ℤ) · f ≡ -ˢ f
-    minus-mul f = fun-ext (λ i. constant-mul (⊖ 1ℤ) f i ∙ ringℤ (f i ∷ []) (:- :1 :* x) (:- x) refl ∙ sym (at--ˢ f i))
+    minus-mul f = ap (λ c. c · f) (constants-neg 1ℤ) ∙ ringˢ (f ∷ []) (:- :1 :* x) (:- x) refl
 
 pub sign-step :
     (n p : ℕ) → 0 < p → (X X′ Y Y′ : Series) → Unitˢ Y → X′ · X ≡ spread p X → Y′ · Y ≡ spread p Y → Signed n X Y

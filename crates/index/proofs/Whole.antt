@@ -2,9 +2,9 @@
 use Prim.Native.Nat.{ℕ, _*_, _/_, _≤_, _<_}
 use mathlib.Core.Path.{_≡_, sym, ap, _∙_}
 use mathlib.Core.Bool.{cond}
-use native.Mathlib.Nat.{le-of-dvd, le-trans, pos-of-dvd-of-pos}
+use native.Mathlib.Nat.{le-of-dvd, le-trans}
 use Rattle.definitions.specs.Numbers.{divides, rOf, kOf, mOf, tOf, phi}
-use Rattle.numbers.specs.Apart.{r-divides, m-divides}
+use Rattle.numbers.specs.Apart.{r-divides, m-pos as of-m}
 use Rattle.numbers.specs.Phi.{phi-le}
 use Rattle.numbers.specs.PhiApart.{phi-apart}
 use Rattle.sieve.specs.declared.OddPrimes.{OddPrimes}
@@ -30,7 +30,7 @@ module _ (n : ℕ) (l : 0 < n) (u : n ≤ 65535) (o : OddPrimes) (h : o ≡ oddT
     is-m = e ∙ ap (λ r. cond (divides 2 n) (2 * r) r) product-r
 
     pub m-pos : 0 < m
-    m-pos = rw is-m (pos-of-dvd-of-pos (m-divides n) l)
+    m-pos = rw is-m (of-m n l)
 
     is-phi : o .free * (n / m) ≡ phi n
     unfolding tOf

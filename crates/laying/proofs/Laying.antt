@@ -1,29 +1,27 @@
 -- The polynomial of n laid out: what n taken apart gives, and that the polynomial of m in the first entries, with z^t
 -- for z, is that of n.
-use Prim.Native.Nat.{ℕ, zero, suc, _+_, _*_, _-_, _/_, _%_, _<_, _≤_}
+use Prim.Native.Nat.{ℕ, _+_, _*_, _-_, _/_, _%_, _<_, _≤_}
 use mathlib.Core.Path.{_≡_, refl, sym, _∙_, ap, ap₂}
 use mathlib.Core.Bool.{Bool, true, false, cond}
-use mathlib.Core.Logic.{_≢_}
 use mathlib.Core.List.{List, _++_}
 use native.Mathlib.Omega.{arith}
 use native.Mathlib.Nat as NatL
 use native.Mathlib.Numerals.{add-one}
 use native.Mathlib.Decide.{ℕ-discrete}
-use lib.ListN.{length, getD, take, drop, length-append, length-drop, List·getD-append}
+use lib.ListN.{length, take, drop, length-append, length-drop, List·getD-append}
 use lib.Seq.{length-take-le}
 use lib.Dec.{eqb}
 use lib.IntN.{ℤ}
 use Rattle.definitions.specs.Integers.{0ℤ}
-use Rattle.definitions.specs.Series.{Series, firsts, spread}
+use Rattle.definitions.specs.Series.{firsts, spread}
 use Rattle.definitions.specs.Numbers.{divides, phi, rOf, mOf, tOf}
 use Rattle.definitions.specs.Polynomials.{polynomial, degree}
 use Rattle.definitions.specs.Steps.{entries}
 use Rattle.definitions.specs.Answer.{coefficients}
-use Rattle.numbers.specs.Apart.{m-times-t}
-use Rattle.numbers.specs.Phi.{phi-le}
+use Rattle.numbers.specs.Apart.{t-pos as of-t}
 use Rattle.numbers.specs.PhiApart.{phi-m}
 use Rattle.series.specs.Maps.{spread-on, spread-off}
-use Rattle.step_laws.specs.Firsts.{firsts-same, length-firsts, getD-firsts}
+use Rattle.step_laws.specs.Firsts.{firsts-same}
 use Rattle.cyclotomic.specs.Apart.{taken-apart}
 use Rattle.cyclotomic.specs.Degrees.{degree-apart}
 use Rattle.laying.specs.Ready.{Ready}
@@ -67,11 +65,8 @@ module _ (kind n : ℕ) (a : Parts) (l : List ℤ) (R : Ready kind n a l) where
   free-m : a .free ≡ phi (a .m)
   free-m = free-is ∙ sym (ap phi m-is ∙ phi-m n)
 
-  positive : (x y : ℕ) → x * y ≡ n → 0 < x
-  positive x y e = NatL.pos-of-ne-zero (λ z. omega (arith, ap (λ s. s * y) z, NatL.zero-mul y, above-zero))
-
   t-pos : 1 ≤ a .t
-  t-pos = rw t-is (positive (tOf n) (mOf n) (NatL.mul-comm (tOf n) (mOf n) ∙ m-times-t n))
+  t-pos = rw t-is (of-t n above-zero)
 
   pub m-by-parity : cond (eqb (n % 2) 0) (2 * a .r) (a .r) ≡ mOf n
   unfolding mOf divides

@@ -78,6 +78,13 @@ module _ (n : ℕ) where
   unfolding tOf
   m-times-t = mul-div-cancel' (mOf n) m-divides
 
+  pub m-pos : 0 < n → 0 < mOf n
+  m-pos l = pos-of-dvd-of-pos m-divides l
+
+  pub t-pos : 0 < n → 0 < tOf n
+  unfolding tOf
+  t-pos l = quotient-pos (mOf n) n l m-divides
+
   -- every prime of n divides m
   pub prime-m : 0 < n → (p : ℕ) → Prime p → p ∣ n → p ∣ mOf n
   prime-m l p P d = go (ℕ-discrete p 2) (decDvd 2 n)
@@ -87,6 +94,11 @@ module _ (n : ℕ) where
       go (yes e) (no h) = absurd (h (rw e at d))
       go (no u) (yes h) = rw (m-even h) (dvd-mul-left-of-dvd p (prime-r l p P d u) 2)
       go (no u) (no h) = rw (m-odd h) (prime-r l p P d u)
+
+  pub m-above : 1 < n → 1 < mOf n
+  m-above l =
+      let (p, P, d) = prime-divisor n l in
+      omega (arith, P .above, le-of-dvd (m-pos (omega arith)) (prime-m (omega arith) p P d))
 
   -- and none of them twice
   pub m-squarefree : (p : ℕ) → Prime p → ¬ (p * p ∣ mOf n)

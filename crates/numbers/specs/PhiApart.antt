@@ -6,9 +6,9 @@ use native.Mathlib.Nat.{dvd-trans, dvd-mul-left, dvd-mul-right-of-dvd, mul-one, 
 use native.Mathlib.Decide.{decDvd}
 use native.Mathlib.Omega.{arith}
 use Rattle.definitions.specs.Numbers.{phi, rOf, mOf, tOf}
-use Rattle.numbers.specs.Primes.{Prime, prime-two, by-primes, quotient-divides, quotient-pos}
+use Rattle.numbers.specs.Primes.{Prime, prime-two, by-primes, quotient-divides}
 use Rattle.numbers.specs.Phi.{phi-old, phi-times}
-use Rattle.numbers.specs.Apart.{r-odd, m-even, m-odd, m-divides, m-times-t, prime-m}
+use Rattle.numbers.specs.Apart.{r-odd, m-even, m-odd, m-divides, m-times-t, prime-m, t-pos}
 
 pub phi-repeats :
     (m t : ℕ) → 0 < t → ((p : ℕ) → Prime p → p ∣ t → p ∣ m) → phi (m * t) ≡ phi m * t
@@ -36,6 +36,6 @@ pub phi-apart : (n : ℕ) → 0 < n → phi n ≡ phi (rOf n) * tOf n
 unfolding tOf
 phi-apart n l =
     ap phi (sym (m-times-t n))
-    ∙ (phi-repeats (mOf n) (tOf n) (quotient-pos (mOf n) n l (m-divides n))
+    ∙ (phi-repeats (mOf n) (tOf n) (t-pos n l)
     (λ p P d. prime-m n l p P (dvd-trans p d (quotient-divides (mOf n) n (m-divides n))))
     ∙ ap (λ x. x * tOf n) (phi-m n))

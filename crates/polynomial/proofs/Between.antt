@@ -93,14 +93,15 @@ pub told-of-entries :
     let delivered = take (suc (a .degree)) (Polynomial.leaves kind n h w l) in
     (a .height ≡ heightOf delivered) × (a .gain ≡ gainOf delivered)
 unfolding Polynomial.answer Polynomial.answered Polynomial.leaves Polynomial.left coefficients height gain
-told-of-entries kind n h w l e =
-    rw e (ap heightOf (sym front), ap gainOf (sym front))
+told-of-entries kind n h w l e = rw e (ap heightOf (sym front), ap gainOf (sym front))
   where
-    front : take (suc (degree kind n)) (written (coefficients kind n) l) ≡ coefficients kind n
+    N : ℕ
+    N = suc (degree kind n)
+
+    front : take N (written (coefficients kind n) l) ≡ coefficients kind n
     front =
-        written-front (coefficients kind n) l (suc (degree kind n))
-        (NatL.le-of-eq (sym (length-firsts (suc (degree kind n)) (polynomial kind n))))
-        ∙ firsts-front (suc (degree kind n)) (suc (degree kind n)) (polynomial kind n) (NatL.le-refl (suc (degree kind n)))
+        written-front (coefficients kind n) l N (NatL.le-of-eq (sym (length-firsts N (polynomial kind n))))
+        ∙ firsts-front N N (polynomial kind n) (NatL.le-refl N)
 
 -- ---- no coefficient passes the working limit
 kept-step : (w kind r j : ℕ) → j < divisorsDue r → Bounded w (entries (keptHalf kind r j)) → overAt w kind r j ≡ false

@@ -2,37 +2,27 @@
 -- that is the sum (`at-one`); so the laws of the sum are ring equations: it goes through sums and products, and stays
 -- where z^t is put for z.
 use Prim.Native.Nat.{ℕ, zero, suc, _+_, _*_, _<_}
-use mathlib.Core.Path.{_≡_, refl, sym, _∙_, ap, ap₂, fun-ext}
+use mathlib.Core.Path.{_≡_, refl, sym, _∙_, ap, ap₂}
 use mathlib.Core.List.{[], _∷_}
 use native.Mathlib.Omega.{arith}
 use native.Mathlib.Nat as NatL
 use native.Mathlib.Numerals.{add-one}
-use native.Mathlib.Decide.{ℕ-discrete}
 use lib.IntN.{ℤ, pos}
 use Rattle.definitions.specs.Integers.{_⊕_, _⊗_, ⊖, 0ℤ, 1ℤ}
 use Rattle.definitions.specs.Series.{Series, tail, constant, 𝟘, 𝟙, _+ˢ_, -ˢ, _·_, z^, spread, firsts}
 use Rattle.definitions.specs.Polynomials.{z^-1}
 use Rattle.definitions.specs.Answer.{gainOf}
 use Rattle.integers.specs.Solver.{:0, :1, _:+_, _:*_, :-, x, y, z, w, u}
-use Rattle.integers.specs.Whole.{⊕-zero, zero-⊕, ⊖-zero, ⊗-one, ringℤ}
-use Rattle.series.specs.Laws.{at-+ˢ, at--ˢ, at-𝟘, constants-mul, ringˢ}
-use Rattle.series.specs.Maps.{z^-zero, z^-add, shift-at, spread-add, spread-mul, spread-neg, spread-constant}
+use Rattle.integers.specs.Whole.{zero-⊕, ⊗-one, ringℤ}
+use Rattle.series.specs.Laws.{constants-mul, constants-add, constants-neg, constant-above, ringˢ}
+use Rattle.series.specs.Maps.{z^-zero, z^-add, spread-add, spread-mul, spread-neg, spread-constant}
 use Rattle.series.specs.Maps.{spread-z^, head-tail}
 use Rattle.series.specs.Degree.{ZeroFrom, Poly, poly-add, poly-neg, poly-mul, poly-constant, poly-z^, poly-spread}
-use Rattle.series.specs.Degree.{poly-z^-1}
+use Rattle.series.specs.Degree.{poly-z^-1, monic-z^-1, nothing, lower}
 
 -- f is a + (z - 1) q for a polynomial q
 abbrev pub AtOne : Series → ℤ → Type 0
 AtOne f a = (q : Series) × Poly q × (f ≡ constant a +ˢ z^-1 1 · q)
-
--- ---- constants
-constants-add : (a b : ℤ) → constant (a ⊕ b) ≡ constant a +ˢ constant b
-unfolding constant
-constants-add a b = fun-ext (λ i. go i ∙ sym (at-+ˢ (constant a) (constant b) i))
-  where
-    go : (i : ℕ) → constant (a ⊕ b) i ≡ constant a i ⊕ constant b i
-    go zero = refl
-    go (suc i) = sym (⊕-zero 0ℤ)
 
 pub at-one-constant : (a : ℤ) → AtOne (constant a) a
 at-one-constant a = (𝟘, poly-constant 0ℤ, ringˢ (constant a ∷ z^-1 1 ∷ []) x (x :+ y :* :0) refl)
@@ -62,7 +52,9 @@ module _ (f g : Series) (a b : ℤ) where
   )
     where
       whole : Poly f
-      whole = rw d (poly-add (constant a) (z^-1 1 · p) (poly-constant a) (poly-mul (z^-1 1) p (poly-z^-1 1) P))
+      whole =
+          rw d
+          (poly-add (constant a) (z^-1 1 · p) (poly-constant a) (poly-mul (z^-1 1) p (poly-z^-1 1 (omega arith)) P))
 
 -- ---- powers of z are 1; z^(n c) is 1 + (z^n - 1) g, and g, which is 1 + z^n + .. + z^(n (c - 1)), is c
 pub at-one-z^ : (n : ℕ) → AtOne (z^ n) 1ℤ
@@ -124,7 +116,7 @@ unfolding gainOf firsts z^-1
 at-one zero f h = (
   𝟘,
   poly-constant 0ℤ,
-  fun-ext (λ i. h i (omega arith) ∙ sym (at-𝟘 i)) ∙ ringˢ (z^-1 1 ∷ []) :0 (:0 :+ x :* :0) refl,
+  nothing f h ∙ ringˢ (z^-1 1 ∷ []) :0 (:0 :+ x :* :0) refl,
 )
 at-one (suc n) f h = next (at-one n (tail f) later)
   where
@@ -145,52 +137,25 @@ at-one (suc n) f h = next (at-one n (tail f) later)
         )
 
 -- ---- it is the only such number: a constant is a multiple of z - 1 only where it is 0
-times-one : (q : Series) (i : ℕ) → (z^-1 1 · q) (suc i) ≡ q i ⊕ ⊖ (q (suc i))
-unfolding z^-1
-times-one q i =
-    ap (λ h. h (suc i)) (ringˢ (z^ 1 ∷ q ∷ []) ((x :+ :- :1) :* y) (x :* y :+ :- y) refl)
-    ∙ at-+ˢ (z^ 1 · q) (-ˢ q) (suc i)
-    ∙ ap₂ _⊕_ (ap (z^ 1 · q) (sym (add-one i) ∙ NatL.add-comm i 1) ∙ shift-at 1 q i) (at--ˢ q (suc i))
-
-module _ (c : ℤ) (q : Series) (e : constant c ≡ z^-1 1 · q) where
-  lower : (k : ℕ) → ZeroFrom (suc k) q → ZeroFrom k q
-  unfolding constant
-  lower k h i l = go (ℕ-discrete i k)
-    where
-      at-k : q k ≡ 0ℤ
-      at-k =
-          sym (⊕-zero (q k)) ∙ ap (λ s. q k ⊕ s) (sym (ap ⊖ (h (suc k) (NatL.le-refl (suc k))) ∙ ⊖-zero))
-          ∙ sym (times-one q k) ∙ sym (ap (λ s. s (suc k)) e)
-
-      go : Dec (i ≡ k) → q i ≡ 0ℤ
-      go (yes d) = ap q d ∙ at-k
-      go (no d) = h i (omega arith)
-
-  none : (k : ℕ) → ZeroFrom k q → c ≡ 0ℤ
-  unfolding constant
-  none zero h =
-      ap (λ s. s zero) (e ∙ ap (λ s. z^-1 1 · s) (fun-ext (λ i. h i (omega arith) ∙ sym (at-𝟘 i)))
-      ∙ ringˢ (z^-1 1 ∷ []) (x :* :0) :0 refl)
-  none (suc k) h = none k (lower k h)
+none : (c : ℤ) (q : Series) → constant c ≡ q · z^-1 1 → (k : ℕ) → ZeroFrom k q → c ≡ 0ℤ
+unfolding constant
+none c q e zero h =
+    ap (λ s. s zero) (e ∙ ap (λ s. s · z^-1 1) (nothing q h) ∙ ringˢ (z^-1 1 ∷ []) (:0 :* x) :0 refl)
+none c q e (suc k) h =
+    none c q e k
+    (lower q (z^-1 1) 1 (monic-z^-1 1 (omega arith)) k
+    (sym (ap (λ s. s (k + 1)) e) ∙ constant-above c (k + 1) (omega arith)) h)
 
 pub only : (f : Series) (a b : ℤ) → AtOne f a → AtOne f b → a ≡ b
-unfolding constant
 only f a b (p, P, d) (q, Q, e) =
     ringℤ (a ∷ b ∷ []) x (x :+ :- y :+ y) refl ∙ ap (λ c. c ⊕ b) difference ∙ zero-⊕ b
   where
-    minus : constant (⊖ b) ≡ -ˢ (constant b)
-    minus = fun-ext (λ i. go i ∙ sym (at--ˢ (constant b) i))
-      where
-        go : (i : ℕ) → constant (⊖ b) i ≡ ⊖ (constant b i)
-        go zero = refl
-        go (suc i) = sym ⊖-zero
-
-    multiple : constant (a ⊕ ⊖ b) ≡ z^-1 1 · (q +ˢ -ˢ p)
+    multiple : constant (a ⊕ ⊖ b) ≡ (q +ˢ -ˢ p) · z^-1 1
     multiple =
-        constants-add a (⊖ b) ∙ ap (λ s. constant a +ˢ s) minus
+        constants-add a (⊖ b) ∙ ap (λ s. constant a +ˢ s) (constants-neg b)
         ∙ ringˢ (constant a ∷ constant b ∷ z^-1 1 ∷ p ∷ []) (x :+ :- y) (x :+ z :* w :+ :- y :+ :- (z :* w)) refl
         ∙ ap (λ s. s +ˢ -ˢ (constant b) +ˢ -ˢ (z^-1 1 · p)) (sym d ∙ e)
-        ∙ ringˢ (constant b ∷ z^-1 1 ∷ p ∷ q ∷ []) (x :+ y :* w :+ :- x :+ :- (y :* z)) (y :* (w :+ :- z)) refl
+        ∙ ringˢ (constant b ∷ z^-1 1 ∷ p ∷ q ∷ []) (x :+ y :* w :+ :- x :+ :- (y :* z)) ((w :+ :- z) :* y) refl
 
     difference : a ⊕ ⊖ b ≡ 0ℤ
     difference =

@@ -2,17 +2,17 @@
 -- highest coefficients of a product multiply; a polynomial factor of a monic polynomial by a monic one is monic, and
 -- its degree is the difference (`monic-div`).
 use Prim.Native.Nat.{ℕ, zero, suc, _+_, _*_, _-_, _/_, _%_, _≤_, _<_}
-use mathlib.Core.Path.{_≡_, refl, sym, _∙_, ap, ap₂}
+use mathlib.Core.Path.{_≡_, sym, _∙_, ap, ap₂, fun-ext}
 use native.Mathlib.Omega.{arith}
 use native.Mathlib.Decide.{decLe, ℕ-discrete}
 use native.Mathlib.Nat as NatL
 use lib.IntN.{ℤ}
 use Rattle.definitions.specs.Integers.{_⊕_, _⊗_, ⊖, 0ℤ, 1ℤ}
-use Rattle.definitions.specs.Series.{Series, tail, constant, 𝟙, _+ˢ_, -ˢ, _·_, z^, spread}
+use Rattle.definitions.specs.Series.{Series, tail, constant, 𝟘, 𝟙, _+ˢ_, -ˢ, _·_, z^, spread}
 use Rattle.definitions.specs.Polynomials.{z^-1}
 use Rattle.integers.specs.Whole.{⊕-zero, ⊗-one, ⊗-zero, zero-⊗, zero-⊕, ⊖-zero}
-use Rattle.series.specs.Laws.{at-+ˢ, at--ˢ, at-mul-zero, at-mul-suc}
-use Rattle.series.specs.Maps.{off-z^, spread-on, spread-off}
+use Rattle.series.specs.Laws.{at-+ˢ, at--ˢ, at-𝟘, at-mul-zero, at-mul-suc, constant-above}
+use Rattle.series.specs.Maps.{at-z^, off-z^, spread-on, spread-off}
 
 -- nothing at n and above
 abbrev pub ZeroFrom : ℕ → Series → Type 0
@@ -28,6 +28,9 @@ pub record Monic (n : ℕ) (f : Series) : Type 0 where
 
 pub zero-later : {m n : ℕ} {f : Series} → m ≤ n → ZeroFrom m f → ZeroFrom n f
 zero-later h z i k = z i (NatL.le-trans h k)
+
+pub nothing : (f : Series) → ZeroFrom 0 f → f ≡ 𝟘
+nothing f h = fun-ext (λ i. h i (omega arith) ∙ sym (at-𝟘 i))
 
 -- ---- sums and products
 pub zero-add : (n : ℕ) (f g : Series) → ZeroFrom n f → ZeroFrom n g → ZeroFrom n (f +ˢ g)
@@ -83,22 +86,13 @@ pub poly-mul : (f g : Series) → Poly f → Poly g → Poly (f · g)
 poly-mul f g p q = (p .0 + q .0, zero-mul (p .0) (q .0) f g (p .1) (q .1))
 
 pub poly-constant : (a : ℤ) → Poly (constant a)
-unfolding constant
-poly-constant a = (1, zeros)
-  where
-    zeros : ZeroFrom 1 (constant a)
-    zeros zero h = absurd (omega arith)
-    zeros (suc i) h = refl
+poly-constant a = (1, constant-above a)
 
 pub poly-z^ : (n : ℕ) → Poly (z^ n)
 poly-z^ n = (suc n, λ i h. off-z^ n i (λ e. lemma i h e))
   where
     lemma : (i : ℕ) → suc n ≤ i → i ≡ n → ⊥
     lemma i h e = omega arith
-
-pub poly-z^-1 : (n : ℕ) → Poly (z^-1 n)
-unfolding z^-1
-poly-z^-1 n = poly-add (z^ n) (-ˢ 𝟙) (poly-z^ n) (poly-neg 𝟙 (poly-constant 1ℤ))
 
 spread-zero-from : (t n : ℕ) (f : Series) → 0 < t → ZeroFrom n f → (i : ℕ) → n * t ≤ i → Dec (i % t ≡ 0)
     → spread t f i ≡ 0ℤ
@@ -141,21 +135,44 @@ monic-spread t n f h a =
 pub monic-poly : (n : ℕ) (f : Series) → Monic n f → Poly f
 monic-poly n f a = (suc n, a .above)
 
--- q g is monic of degree m + n and g of degree n: then q, a polynomial, is monic of degree m
-module _ (q g : Series) (m n : ℕ) (b : Monic n g) (c : Monic (m + n) (q · g)) where
+-- z^n - 1
+pub z^-1-at : (n i : ℕ) → 0 < i → z^-1 n i ≡ z^ n i
+unfolding z^-1
+z^-1-at n i l =
+    at-+ˢ (z^ n) (-ˢ 𝟙) i ∙ ap (λ a. z^ n i ⊕ a) (at--ˢ 𝟙 i ∙ ap ⊖ (constant-above 1ℤ i l) ∙ ⊖-zero) ∙ ⊕-zero (z^ n i)
+
+pub monic-z^-1 : (n : ℕ) → 0 < n → Monic n (z^-1 n)
+monic-z^-1 n l =
+    record {
+      top = z^-1-at n n l ∙ at-z^ n;
+      above = λ i h. z^-1-at n i (omega arith)
+          ∙ off-z^ n i (λ e. not-same i h e);
+    }
+  where
+    not-same : (i : ℕ) → suc n ≤ i → i ≡ n → ⊥
+    not-same i h e = omega arith
+
+pub poly-z^-1 : (n : ℕ) → 0 < n → Poly (z^-1 n)
+poly-z^-1 n l = monic-poly n (z^-1 n) (monic-z^-1 n l)
+
+-- g is monic of degree n: the highest coefficient of q g is that of q, so where q g has none there, neither has q
+module _ (q g : Series) (n : ℕ) (b : Monic n g) where
   times-top : (k : ℕ) → ZeroFrom (suc k) q → q k ≡ (q · g) (k + n)
   times-top k z = sym (top-mul k n q g z (b .above) ∙ ap (λ a. q k ⊗ a) (b .top) ∙ ⊗-one (q k))
 
-  lower : (k : ℕ) → m < k → ZeroFrom (suc k) q → ZeroFrom k q
-  lower k h z i l = go (ℕ-discrete i k)
+  pub lower : (k : ℕ) → (q · g) (k + n) ≡ 0ℤ → ZeroFrom (suc k) q → ZeroFrom k q
+  lower k e z i l = go (ℕ-discrete i k)
     where
       go : Dec (i ≡ k) → q i ≡ 0ℤ
-      go (yes e) = ap q e ∙ times-top k z ∙ c .above (k + n) (omega arith)
-      go (no e) = z i (omega arith)
+      go (yes d) = ap q d ∙ times-top k z ∙ e
+      go (no d) = z i (omega arith)
 
+-- q g is monic of degree m + n and g of degree n: then q, a polynomial, is monic of degree m
+module _ (q g : Series) (m n : ℕ) (b : Monic n g) (c : Monic (m + n) (q · g)) where
   fall-by : (k : ℕ) → (ZeroFrom k q → ZeroFrom (suc m) q) → ZeroFrom (suc k) q → Dec (k ≤ m) → ZeroFrom (suc m) q
   fall-by k next z (yes h) = λ i l. z i (omega arith)
-  fall-by k next z (no h) = next (lower k (NatL.lt-of-not-le h) z)
+  fall-by k next z (no h) =
+      let l : m < k = NatL.lt-of-not-le h in next (lower q g n b k (c .above (k + n) (omega arith)) z)
 
   fall : (k : ℕ) → ZeroFrom k q → ZeroFrom (suc m) q
   fall zero z = λ i l. z i (omega arith)
@@ -164,4 +181,4 @@ module _ (q g : Series) (m n : ℕ) (b : Monic n g) (c : Monic (m + n) (q · g))
   pub monic-div : Poly q → Monic m q
   monic-div p =
       let z : ZeroFrom (suc m) q = fall (p .0) (p .1) in
-      record { top = times-top m z ∙ c .top; above = z }
+      record { top = times-top q g n b m z ∙ c .top; above = z }

@@ -1,7 +1,7 @@
 -- The power series are a commutative ring. A product recurses on its first factor; the recursion on the second
 -- (`mul-suc-right`) gives commutativity, and scaling gives associativity. Each law holds degree by degree, so the
 -- series are equal.
-use Prim.Native.Nat.{ℕ, zero, suc, _≤_}
+use Prim.Native.Nat.{ℕ, zero, suc, _≤_, _<_}
 use mathlib.Core.Path.{_≡_, refl, sym, _∙_, ap, ap₂, fun-ext}
 use mathlib.Core.List.{List, [], _∷_}
 use native.Mathlib.Omega.{arith}
@@ -10,7 +10,7 @@ use Rattle.definitions.specs.Integers.{_⊕_, _⊗_, ⊖, _⊝_, 0ℤ, 1ℤ}
 use Rattle.definitions.specs.Series.{Series, tail, constant, 𝟘, 𝟙, _+ˢ_, -ˢ, _·_, _÷_}
 use Rattle.integers.specs.Ring.{Ring}
 use Rattle.integers.specs.Solver.{Expr, _:+_, _:*_, :-, x, y, z, w, u, normal, eval, ring}
-use Rattle.integers.specs.Whole.{⊕-assoc, ⊕-comm, ⊕-zero, ⊕-neg, ⊗-comm, ⊗-zero, zero-⊗, one-⊗, ⊗-one, ringℤ}
+use Rattle.integers.specs.Whole.{⊕-assoc, ⊕-comm, ⊕-zero, ⊕-neg, ⊗-comm, ⊗-zero, zero-⊗, one-⊗, ⊗-one, ⊖-zero, ringℤ}
 
 mul-suc-right : (f g : Series) (n : ℕ) → (f · g) (suc n) ≡ (f · tail g) n ⊕ f (suc n) ⊗ g zero
 unfolding _·_
@@ -86,6 +86,27 @@ constants-mul a b = fun-ext (λ n. at n ∙ sym (constant-mul a (constant b) n))
     at : (n : ℕ) → constant (a ⊗ b) n ≡ a ⊗ constant b n
     at zero = refl
     at (suc n) = sym (⊗-zero a)
+
+pub constants-add : (a b : ℤ) → constant (a ⊕ b) ≡ constant a +ˢ constant b
+unfolding _+ˢ_ constant
+constants-add a b = fun-ext (at)
+  where
+    at : (n : ℕ) → constant (a ⊕ b) n ≡ constant a n ⊕ constant b n
+    at zero = refl
+    at (suc n) = sym (⊕-zero 0ℤ)
+
+pub constants-neg : (a : ℤ) → constant (⊖ a) ≡ -ˢ (constant a)
+unfolding -ˢ constant
+constants-neg a = fun-ext (at)
+  where
+    at : (n : ℕ) → constant (⊖ a) n ≡ ⊖ (constant a n)
+    at zero = refl
+    at (suc n) = sym ⊖-zero
+
+pub constant-above : (a : ℤ) (i : ℕ) → 0 < i → constant a i ≡ 0ℤ
+unfolding constant
+constant-above a zero l = absurd (omega arith)
+constant-above a (suc i) l = refl
 
 -- ---- the ring
 pub +ˢ-assoc : (f g h : Series) → f +ˢ g +ˢ h ≡ f +ˢ (g +ˢ h)

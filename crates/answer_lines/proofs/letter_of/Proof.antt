@@ -1,4 +1,4 @@
--- `replies::reply::letter_of` meets its contract, by the test of the kind.
+-- `answer_lines::letter_of` meets its contract, by the test of the kind.
 use borrow.Author.Tests.{eq-eqb, ne-eqb}
 use Rattle.answer_lines.specs.Printed.{letterOf}
 use Rattle.answer_lines.proofs.letter_of.Statement.{statement}

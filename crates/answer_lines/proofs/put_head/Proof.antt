@@ -1,4 +1,4 @@
--- `replies::reply::put_head` meets its contract: its seven parts, one after the other.
+-- `answer_lines::put_head` meets its contract: its seven parts, one after the other.
 use native.Mathlib.Omega.{arith}
 use mir.Syntax.{w64}
 use mir.Facts.{toZ-ofZ}

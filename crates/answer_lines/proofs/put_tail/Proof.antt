@@ -1,4 +1,4 @@
--- `replies::reply::put_tail` meets its contract: on code 0 the degree is below the number of entries.
+-- `answer_lines::put_tail` meets its contract: on code 0 the degree is below the number of entries.
 use native.Mathlib.Omega.{arith}
 use borrow.Author.Tests.{eq-eqb, ne-eqb}
 use Rattle.text.specs.Text.{spaced}

@@ -1,4 +1,4 @@
--- `replies::reply::put_three` meets its contract: three items, one after the other.
+-- `answer_lines::put_three` meets its contract: three items, one after the other.
 use native.Mathlib.Omega.{arith}
 use mathlib.Core.List.{[], _∷_}
 use lib.IntN.{pos}

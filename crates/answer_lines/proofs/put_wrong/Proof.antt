@@ -1,4 +1,4 @@
--- `replies::reply::put_wrong` meets its contract: three parts, one after the other.
+-- `answer_lines::put_wrong` meets its contract: three parts, one after the other.
 use native.Mathlib.Omega.{arith}
 use Rattle.answer_lines.specs.Printed.{wrongLine}
 use Rattle.text.proofs.Putting.{then}

@@ -1,4 +1,4 @@
--- `text::read::between` meets its contract, by the two tests.
+-- `digits::between` meets its contract, by the two tests.
 use borrow.Author.Tests.{le-leb, lt-leb}
 use Rattle.digits.specs.Digits.{between}
 use Rattle.digits.proofs.between.Statement.{statement}

@@ -1,4 +1,4 @@
--- `text::read::byte_at` meets its contract: past the end the default is 0.
+-- `digits::byte_at` meets its contract: past the end the default is 0.
 use mathlib.Core.Path.{sym}
 use lib.ListN.{List·getD-eq-default}
 use borrow.Author.Needs.{needs}

@@ -1,4 +1,4 @@
--- `text::read::digits_at` meets its contract. The loop's invariant: the digits at `place` are those passed and those
+-- `digits::digits_at` meets its contract. The loop's invariant: the digits at `place` are those passed and those
 -- at i.
 use mathlib.Core.Path.{_≡_, sym, _∙_}
 use borrow.Author.Tests.{not-true, not-false}

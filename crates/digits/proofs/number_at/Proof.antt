@@ -1,4 +1,4 @@
--- `text::read::number_at` meets its contract. The loop's invariant: the number is v followed by the digits that are
+-- `digits::number_at` meets its contract. The loop's invariant: the number is v followed by the digits that are
 -- left, and v has i digits.
 use mathlib.Core.Path.{_≡_, refl, sym, _∙_}
 use native.Mathlib.Nat.{add-zero}

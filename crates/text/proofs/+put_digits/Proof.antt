@@ -1,4 +1,4 @@
--- `text::write::put_digits` meets its contract. It calls itself for the tenth of n, so n is the measure.
+-- `text::put_digits` meets its contract. It calls itself for the tenth of n, so n is the measure.
 use borrow.Author.Needs.{needs}
 use mathlib.Core.Path.{ap}
 use native.Mathlib.Omega.{arith}

@@ -1,4 +1,4 @@
--- `text::write::put_coefficients` meets its contract. The loop's invariant: the first i coefficients are written, in
+-- `text::put_coefficients` meets its contract. The loop's invariant: the first i coefficients are written, in
 -- at most 22 bytes each.
 use Prim.Native.Nat.{_+_, _*_, _-_, _≤_, _<_}
 use mathlib.Core.Path.{_≡_, refl, _∙_}

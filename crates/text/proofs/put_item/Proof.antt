@@ -1,4 +1,4 @@
--- `text::write::put_item` meets its contract: a space, then the digits.
+-- `text::put_item` meets its contract: a space, then the digits.
 use native.Mathlib.Omega.{arith}
 use lib.IntN.{pos}
 use Rattle.text.specs.Text.{sign}

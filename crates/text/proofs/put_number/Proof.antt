@@ -1,4 +1,4 @@
--- `text::write::put_number` meets its contract: a number of 64 bits has at most 20 digits.
+-- `text::put_number` meets its contract: a number of 64 bits has at most 20 digits.
 use native.Mathlib.Omega.{arith}
 use Rattle.text.proofs.Decimal.{decimal-small, length-machine}
 use borrow.Author.Needs.{needs}

@@ -1,4 +1,4 @@
--- `text::write::put_sign` meets its contract: the sign is written or nothing is.
+-- `text::put_sign` meets its contract: the sign is written or nothing is.
 use mir.Facts.{toZ-ofZ}
 use Rattle.text.proofs.Sign.{sign-below, sign-above}
 use Rattle.text.proofs.Putting.{nothing-put}

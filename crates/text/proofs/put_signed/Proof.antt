@@ -1,4 +1,4 @@
--- `text::write::put_signed` meets its contract: a space, the sign, the digits of the magnitude.
+-- `text::put_signed` meets its contract: a space, the sign, the digits of the magnitude.
 use native.Mathlib.Omega.{arith}
 use mir.Facts.{toZ-ofZ}
 use Rattle.step_laws.specs.Machine.{seen}

@@ -1,4 +1,4 @@
--- `text::write::put_text` meets its contract. The loop's invariant: the first i bytes are written.
+-- `text::put_text` meets its contract. The loop's invariant: the first i bytes are written.
 use Prim.Native.Nat.{_+_, _-_, _<_, _≤_}
 use mathlib.Core.Path.{_≡_, refl, _∙_}
 use native.Mathlib.Nat.{add-zero}

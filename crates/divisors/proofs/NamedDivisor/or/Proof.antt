@@ -1,4 +1,4 @@
--- `NamedDivisor::or` meets its contract: the cases of its two tests.
+-- `divisors::NamedDivisor::or` meets its contract: the cases of its two tests.
 use borrow.Author.Tests.{lt-ltb, le-ltb}
 use Rattle.divisors.proofs.NamedDivisor.or.Statement.{statement}
 use Rattle.divisors.proofs.NamedDivisor.or.Tie as tie

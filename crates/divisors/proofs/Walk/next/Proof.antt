@@ -1,4 +1,4 @@
--- `Walk::next` meets its contract, by the laws of `Walking`.
+-- `divisors::Walk::next` meets its contract, by the laws of `Walking`.
 use borrow.Author.Needs.{needs}
 use Rattle.divisors.proofs.Walking.{walk-few, walk-row, walk-done, walk-next}
 use Rattle.divisors.proofs.Walk.next.Statement.{statement}

@@ -1,4 +1,4 @@
--- `Walk::over` meets its contract: all ones make 2^count - 1 divisors below r.
+-- `divisors::Walk::over` meets its contract: all ones make 2^count - 1 divisors below r.
 use borrow.Author.Needs.{needs}
 use Rattle.divisors.proofs.Walk.over.Statement.{statement}
 use Rattle.divisors.proofs.Walk.over.Tie as tie

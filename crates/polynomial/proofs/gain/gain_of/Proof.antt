@@ -4,17 +4,17 @@ use mathlib.Core.Path.{_≡_, sym, _∙_, ap}
 use mathlib.Core.Bool.{true}
 use mathlib.Core.Logic.{_≢_}
 use native.Mathlib.Omega.{arith}
-use native.Mathlib.Nat.{le-of-dvd, pos-of-dvd-of-pos}
+use native.Mathlib.Nat.{le-of-dvd}
 use lib.IntN.{pos}
 use mir.Syntax.{w64}
 use mir.Facts.{toZ-ofZ}
 use Rattle.definitions.specs.Numbers.{phi, rOf, mOf}
 use Rattle.definitions.specs.Requests.{goodIndex}
 use Rattle.definitions.specs.Answer.{gain}
-use Rattle.numbers.specs.Apart.{m-divides}
+use Rattle.numbers.specs.Apart.{m-divides, m-pos, m-above}
 use Rattle.numbers.specs.PhiPrime.{prime-phi}
 use Rattle.numbers.specs.PhiApart.{phi-m}
-use Rattle.cyclotomic.specs.Gain.{gains, gain-prime, gain-composite, gain-else, m-above}
+use Rattle.cyclotomic.specs.Gain.{gains, gain-prime, gain-composite, gain-else}
 use Rattle.index.proofs.Laws.{index-good, parts-m, parts-free}
 use Rattle.polynomial.proofs.gain.gain_of.Statement.{statement}
 use Rattle.polynomial.proofs.gain.gain_of.Tie as tie
@@ -32,7 +32,7 @@ module _ (n m free : ℕ) (em : m ≡ mOf n) (ef : free ≡ phi (rOf n)) (l : 1 
 
 m-within : (n m : ℕ) → m ≡ mOf n → goodIndex n ≡ true → (0 < m) × (m ≤ n) × (n ≤ 65535)
 m-within n m e g =
-    let (a, b) = index-good n g in rw e (pos-of-dvd-of-pos (m-divides n) a, le-of-dvd a (m-divides n), b)
+    let (a, b) = index-good n g in rw e (m-pos n a, le-of-dvd a (m-divides n), b)
 
 -- ---- the needs
 module _ (s : tie.Start) where

@@ -1,4 +1,4 @@
--- `Sieve::sift` meets its contract: the cases of `Look`.
+-- `sieve::Sieve::sift` meets its contract: the cases of `Look`.
 use borrow.Author.Needs.{needs}
 use native.Mathlib.Omega.{arith}
 use Rattle.sieve.proofs.Sifting.{Look, look-at}
