@@ -18,6 +18,7 @@ struct Answer {
     degree: u64,
     additions: u64,
     height: u64,
+    peak: u64,
     gain: i64,
 }
 
@@ -33,9 +34,8 @@ extern "C" {
     fn bv_accumulate(size: u64, w: i64, buf: *mut i64, len: usize) -> Step;
 }
 
-fn ours(n: u64, buf: &mut [i64]) -> Told {
-    let a = unsafe { bv_polynomial(1, n, NO_LIMIT, NO_LIMIT, buf.as_mut_ptr(), buf.len()) };
-    Told { code: a.code, degree: a.degree, additions: a.additions, height: a.height, gain: a.gain }
+fn ours(n: u64, buf: &mut [i64]) -> Answer {
+    unsafe { bv_polynomial(1, n, NO_LIMIT, NO_LIMIT, buf.as_mut_ptr(), buf.len()) }
 }
 
 fn plain_rust(n: u64, buf: &mut [i64]) -> Told {
@@ -91,8 +91,9 @@ fn timed(times: &mut Times, class: usize, work: impl FnOnce()) {
     times[6] += took;
 }
 
-fn agree(n: u64, a: Told, b: Told, x: &[i64], y: &[i64]) {
-    assert!(a == b && x == y, "our F({n}) and plain Rust's differ: {a:?}, {b:?}");
+fn agree(n: u64, a: Answer, b: Told, x: &[i64], y: &[i64]) {
+    let told = Told { code: a.code, degree: a.degree, additions: a.additions, height: a.height, gain: a.gain };
+    assert!(told == b && a.peak == plain::peak(b, y) && x == y, "our F({n}) and plain Rust's differ: {told:?}, peak {}, {b:?}", a.peak);
 }
 
 fn round(turn: usize, check: bool) -> Vec<Times> {

@@ -36,7 +36,8 @@ fn main() -> io::Result<()> {
         let text = line.strip_suffix(b"\n").unwrap_or(&line);
         if let Some((letter, n, h)) = request(text) {
             let a = plain::polynomial(if letter == b'F' { 1 } else { 2 }, n, h as i64, &mut buf);
-            write!(out, "{} {n} {} {} {} {} {} :", letter as char, a.code, a.degree, a.additions, a.height, a.gain)?;
+            let peak = plain::peak(a, &buf);
+            write!(out, "{} {n} {} {} {} {} {peak} {} :", letter as char, a.code, a.degree, a.additions, a.height, a.gain)?;
             if a.code == 0 {
                 for c in &buf[..a.degree as usize + 1] {
                     write!(out, " {c}")?;

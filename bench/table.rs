@@ -14,14 +14,14 @@ fn main() {
     for line in std::io::stdin().lines() {
         let line = line.unwrap();
         let told: Vec<i128> = line.split_whitespace().map(|w| w.parse().unwrap()).collect();
-        if told.len() != 12 || told[3] != i64::MAX as i128 {
+        if told.len() != 13 || told[3] != i64::MAX as i128 {
             continue;
         }
         let room = told[4] as usize;
         let a = plain::polynomial(told[0] as u64, told[1] as u64, told[2] as i64, &mut buf[..room]);
-        let end = told[10] as usize;
+        let end = told[11] as usize;
         let sum = buf[..end].iter().fold(1, |s: u64, &c| (s * 31 + residue(c)) % 1000000007);
-        let found = [a.code, a.degree, a.additions, a.height, a.gain as u64, end as u64, sum];
+        let found = [a.code, a.degree, a.additions, a.height, plain::peak(a, &buf), a.gain as u64, end as u64, sum];
         assert!(told[5..].iter().zip(found).all(|(&t, f)| t == f as i128), "{line}: {found:?}");
         lines += 1;
     }

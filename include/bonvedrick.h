@@ -77,6 +77,7 @@ typedef struct bv_answer {
     uint64_t degree;    /* of the polynomial: degree + 1 entries are needed, and filled */
     uint64_t additions; /* how many additions and subtractions made it */
     uint64_t height;    /* the largest magnitude among its coefficients */
+    uint64_t peak;      /* the lowest degree at which that magnitude occurs */
     int64_t gain;       /* the sum of its coefficients */
 } bv_answer;
 
@@ -121,8 +122,8 @@ typedef struct bv_record {
  *             this with BV_NO_LIMIT)
  *   BV_TALL   the height is above h                      yes           entries 0 to degree: 0
  *
- * The order is that of the table. On refusal additions, height and gain are 0. So a call with len 0 asks how many entries are needed:
- * it answers BV_SHORT and the degree.
+ * The order is that of the table. On refusal additions, height, peak and gain are 0. So a call with len 0 asks how many entries are
+ * needed: it answers BV_SHORT and the degree.
  *
  * The steps are those that bv_partial tells of, for all divisors; the values they make are far larger than the coefficients at some
  * indices: I(15015) has height 11 and needs w = 1113164. An index that is 1 or a power of two takes no step. Found by running them:

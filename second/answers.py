@@ -14,25 +14,27 @@ MOST_INDEX = 65535
 
 
 def polynomial(kind, n, h, w, room):
-    """(code, degree, additions, height, gain), entries."""
+    """(code, degree, additions, height, peak, gain), entries."""
     if kind not in (1, 2):
-        return (KIND, 0, 0, 0, 0), []
+        return (KIND, 0, 0, 0, 0, 0), []
     if not 1 <= n <= MOST_INDEX:
-        return (INDEX, 0, 0, 0, 0), []
+        return (INDEX, 0, 0, 0, 0, 0), []
     if h < 1 or w < 1:
-        return (LIMIT, 0, 0, 0, 0), []
+        return (LIMIT, 0, 0, 0, 0, 0), []
     top = degree(kind, n)
     if room < top + 1:
-        return (SHORT, top, 0, 0, 0), []
+        return (SHORT, top, 0, 0, 0, 0), []
     r = odd_part(n)
     if over_after(kind, r, w) is not None:
-        return (OVER, top, 0, 0, 0), [0] * (top + 1)
+        return (OVER, top, 0, 0, 0, 0), [0] * (top + 1)
     coefficients = made(kind, n)
     assert len(coefficients) == top + 1
-    if height(coefficients) > h:
-        return (TALL, top, 0, 0, 0), [0] * (top + 1)
+    tallest = height(coefficients)
+    if tallest > h:
+        return (TALL, top, 0, 0, 0, 0), [0] * (top + 1)
     count = additions(kind, r, len(divisors_below(r)))
-    return (DONE, top, count, height(coefficients), sum(coefficients)), coefficients
+    peak = [abs(c) for c in coefficients].index(tallest)
+    return (DONE, top, count, tallest, peak, sum(coefficients)), coefficients
 
 
 def partial(kind, n, j, w, room):

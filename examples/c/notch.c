@@ -45,8 +45,8 @@ int main(void) {
     bv_answer tall = bv_polynomial(BV_KIND_F, N, 1, BV_NO_LIMIT, stage, ROOM);
     printf("height 1:     %s, degree %" PRIu64 "\n", name(tall.code), tall.degree);
     bv_answer a = bv_polynomial(BV_KIND_F, N, 2, BV_NO_LIMIT, stage, ROOM);
-    printf("height 2:     %s, degree %" PRIu64 ", %" PRIu64 " additions, height %" PRIu64 ", gain %" PRId64 "\n", name(a.code), a.degree,
-           a.additions, a.height, a.gain);
+    printf("height 2:     %s, degree %" PRIu64 ", %" PRIu64 " additions, height %" PRIu64 " at degree %" PRIu64 ", gain %" PRId64 "\n",
+           name(a.code), a.degree, a.additions, a.height, a.peak, a.gain);
     if (a.code != BV_DONE)
         return 1;
 
@@ -74,6 +74,6 @@ int main(void) {
     printf("registers:    I(%d) in %d bits: %s, degree %" PRIu64 "\n", LARGE, bits, name(in.code), in.degree);
     while (in.code == BV_OVER)
         in = in_registers(++bits);
-    printf("              I(%d) in %d bits: %s, height %" PRIu64 "\n", LARGE, bits, name(in.code), in.height);
+    printf("              I(%d) in %d bits: %s, height %" PRIu64 " at degree %" PRIu64 "\n", LARGE, bits, name(in.code), in.height, in.peak);
     return r.code != BV_DONE || in.code != BV_DONE;
 }

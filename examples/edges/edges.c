@@ -22,8 +22,9 @@ static void hold(int right, const char *what, int line) {
 }
 #define HOLD(x) hold((x), #x, __LINE__)
 
-static int answers(bv_answer a, uint64_t code, uint64_t degree, uint64_t additions, uint64_t height, int64_t gain) {
-    return a.code == code && a.degree == degree && a.additions == additions && a.height == height && a.gain == gain;
+static int answers(bv_answer a, uint64_t code, uint64_t degree, uint64_t additions, uint64_t height, uint64_t peak,
+                   int64_t gain) {
+    return a.code == code && a.degree == degree && a.additions == additions && a.height == height && a.peak == peak && a.gain == gain;
 }
 
 static int stops(bv_stop a, uint64_t code, uint64_t degree, uint64_t additions, uint64_t due) {
@@ -61,27 +62,27 @@ static void polynomial(void) {
     static const uint64_t no_index[] = {0, 65536, 65537, UINT64_C(1) << 32 | 1, UINT64_MAX};
     static const int64_t no_limit[] = {0, -1, INT64_MIN};
     for (size_t i = 0; i < 5; i++) {
-        HOLD(answers(bv_polynomial(no_kind[i], 0, 0, NONE, NULL, 0), BV_KIND, 0, 0, 0, 0));
-        HOLD(answers(bv_polynomial(no_kind[i], 6, 1, NONE, buf, 9), BV_KIND, 0, 0, 0, 0) && untouched_from(0));
-        HOLD(answers(bv_polynomial(1 + i % 2, no_index[i], 0, NONE, NULL, 0), BV_INDEX, 0, 0, 0, 0));
-        HOLD(answers(bv_polynomial(1 + i % 2, no_index[i], 1, NONE, buf, 9), BV_INDEX, 0, 0, 0, 0) && untouched_from(0));
+        HOLD(answers(bv_polynomial(no_kind[i], 0, 0, NONE, NULL, 0), BV_KIND, 0, 0, 0, 0, 0));
+        HOLD(answers(bv_polynomial(no_kind[i], 6, 1, NONE, buf, 9), BV_KIND, 0, 0, 0, 0, 0) && untouched_from(0));
+        HOLD(answers(bv_polynomial(1 + i % 2, no_index[i], 0, NONE, NULL, 0), BV_INDEX, 0, 0, 0, 0, 0));
+        HOLD(answers(bv_polynomial(1 + i % 2, no_index[i], 1, NONE, buf, 9), BV_INDEX, 0, 0, 0, 0, 0) && untouched_from(0));
     }
     for (size_t i = 0; i < 3; i++)
-        HOLD(answers(bv_polynomial(BV_KIND_F, 65535, no_limit[i], NONE, NULL, 0), BV_LIMIT, 0, 0, 0, 0));
-    HOLD(answers(bv_polynomial(BV_KIND_F, 15, 1, NONE, NULL, 0), BV_SHORT, 8, 0, 0, 0));
-    HOLD(answers(bv_polynomial(BV_KIND_F, 15, 1, NONE, buf, 8), BV_SHORT, 8, 0, 0, 0) && untouched_from(0));
-    HOLD(answers(bv_polynomial(BV_KIND_F, 15, 1, NONE, buf, 9), BV_DONE, 8, 6, 1, 1) && buf[8] == 1 && untouched_from(9));
-    HOLD(fresh() && answers(bv_polynomial(BV_KIND_F, 105, 1, NONE, buf, 60), BV_TALL, 48, 0, 0, 0) && untouched_from(49));
+        HOLD(answers(bv_polynomial(BV_KIND_F, 65535, no_limit[i], NONE, NULL, 0), BV_LIMIT, 0, 0, 0, 0, 0));
+    HOLD(answers(bv_polynomial(BV_KIND_F, 15, 1, NONE, NULL, 0), BV_SHORT, 8, 0, 0, 0, 0));
+    HOLD(answers(bv_polynomial(BV_KIND_F, 15, 1, NONE, buf, 8), BV_SHORT, 8, 0, 0, 0, 0) && untouched_from(0));
+    HOLD(answers(bv_polynomial(BV_KIND_F, 15, 1, NONE, buf, 9), BV_DONE, 8, 6, 1, 0, 1) && buf[8] == 1 && untouched_from(9));
+    HOLD(fresh() && answers(bv_polynomial(BV_KIND_F, 105, 1, NONE, buf, 60), BV_TALL, 48, 0, 0, 0, 0) && untouched_from(49));
     for (size_t i = 0; i <= 48; i++)
         HOLD(buf[i] == 0);
-    HOLD(answers(bv_polynomial(BV_KIND_F, 105, 2, NONE, buf, 60), BV_DONE, 48, 98, 2, 1) && buf[7] == -2 && buf[41] == -2 &&
+    HOLD(answers(bv_polynomial(BV_KIND_F, 105, 2, NONE, buf, 60), BV_DONE, 48, 98, 2, 7, 1) && buf[7] == -2 && buf[41] == -2 &&
          untouched_from(49));
-    HOLD(fresh() && answers(bv_polynomial(BV_KIND_F, 1, 1, NONE, buf, 2), BV_DONE, 1, 0, 1, 0) && buf[0] == -1 && buf[1] == 1);
-    HOLD(answers(bv_polynomial(BV_KIND_I, 1, INT64_MAX, NONE, buf, 1), BV_DONE, 0, 0, 1, 1) && buf[0] == 1 && buf[1] == 1 &&
+    HOLD(fresh() && answers(bv_polynomial(BV_KIND_F, 1, 1, NONE, buf, 2), BV_DONE, 1, 0, 1, 0, 0) && buf[0] == -1 && buf[1] == 1);
+    HOLD(answers(bv_polynomial(BV_KIND_I, 1, INT64_MAX, NONE, buf, 1), BV_DONE, 0, 0, 1, 0, 1) && buf[0] == 1 && buf[1] == 1 &&
          untouched_from(2));
-    HOLD(fresh() && answers(bv_polynomial(BV_KIND_F, 65535, INT64_MAX, NONE, buf, 32768), BV_SHORT, 32768, 0, 0, 0) && untouched_from(0));
+    HOLD(fresh() && answers(bv_polynomial(BV_KIND_F, 65535, INT64_MAX, NONE, buf, 32768), BV_SHORT, 32768, 0, 0, 0, 0) && untouched_from(0));
     HOLD(bv_polynomial(BV_KIND_F, 65535, INT64_MAX, NONE, buf, 32769).code == BV_DONE && buf[32768] == 1 && untouched_from(32769));
-    HOLD(fresh() && answers(bv_polynomial(BV_KIND_F, 65521, 1, NONE, buf, 65536), BV_DONE, 65520, 32760, 1, 65521) &&
+    HOLD(fresh() && answers(bv_polynomial(BV_KIND_F, 65521, 1, NONE, buf, 65536), BV_DONE, 65520, 32760, 1, 0, 65521) &&
          untouched_from(65521));
 }
 
@@ -124,24 +125,24 @@ static int zero_to(uint64_t degree) {
 
 /* what a delivered request tells, and the least working limit that delivers it, from the second program */
 typedef struct polynomial_case {
-    uint64_t kind, n, degree, additions, height;
+    uint64_t kind, n, degree, additions, height, peak;
     int64_t gain, least;
 } polynomial_case;
 
 static const polynomial_case POLYNOMIALS[] = {
-    {1, 1, 1, 0, 1, 0, 1},
-    {2, 1, 0, 0, 1, 1, 1},
-    {1, 2, 1, 0, 1, 2, 1},
-    {2, 2, 1, 0, 1, 0, 1},
-    {1, 9, 6, 1, 1, 3, 1},
-    {2, 9, 3, 0, 1, 0, 1},
-    {1, 105, 48, 98, 2, 1, 2},
-    {2, 105, 57, 122, 1, 0, 1},
-    {1, 420, 96, 98, 2, 1, 2},
-    {2, 4004, 2564, 646, 2, 0, 2},
-    {1, 32768, 16384, 0, 1, 2, 1},
-    {1, 65535, 32768, 205314, 4, 1, 4},
-    {2, 65535, 32767, 205300, 2, 0, 2},
+    {1, 1, 1, 0, 1, 0, 0, 1},
+    {2, 1, 0, 0, 1, 0, 1, 1},
+    {1, 2, 1, 0, 1, 0, 2, 1},
+    {2, 2, 1, 0, 1, 0, 0, 1},
+    {1, 9, 6, 1, 1, 0, 3, 1},
+    {2, 9, 3, 0, 1, 0, 0, 1},
+    {1, 105, 48, 98, 2, 7, 1, 2},
+    {2, 105, 57, 122, 1, 0, 0, 1},
+    {1, 420, 96, 98, 2, 14, 1, 2},
+    {2, 4004, 2564, 646, 2, 92, 0, 2},
+    {1, 32768, 16384, 0, 1, 0, 2, 1},
+    {1, 65535, 32768, 205314, 4, 13384, 1, 4},
+    {2, 65535, 32767, 205300, 2, 53, 0, 2},
 };
 
 typedef struct partial_case {
@@ -178,15 +179,15 @@ static void polynomial_limits(polynomial_case p) {
                 fresh();
                 bv_answer a = bv_polynomial(p.kind, p.n, h, w, len == 0 ? NULL : buf, len);
                 if (h < 1 || w < 1)
-                    HOLD(answers(a, BV_LIMIT, 0, 0, 0, 0) && untouched_from(0));
+                    HOLD(answers(a, BV_LIMIT, 0, 0, 0, 0, 0) && untouched_from(0));
                 else if (len <= p.degree)
-                    HOLD(answers(a, BV_SHORT, p.degree, 0, 0, 0) && untouched_from(0));
+                    HOLD(answers(a, BV_SHORT, p.degree, 0, 0, 0, 0) && untouched_from(0));
                 else if (w < p.least)
-                    HOLD(answers(a, BV_OVER, p.degree, 0, 0, 0) && zero_to(p.degree) && untouched_from(p.degree + 1));
+                    HOLD(answers(a, BV_OVER, p.degree, 0, 0, 0, 0) && zero_to(p.degree) && untouched_from(p.degree + 1));
                 else if ((uint64_t)h < p.height)
-                    HOLD(answers(a, BV_TALL, p.degree, 0, 0, 0) && zero_to(p.degree) && untouched_from(p.degree + 1));
+                    HOLD(answers(a, BV_TALL, p.degree, 0, 0, 0, 0) && zero_to(p.degree) && untouched_from(p.degree + 1));
                 else
-                    HOLD(answers(a, BV_DONE, p.degree, p.additions, p.height, p.gain) && buf[p.degree] == 1 &&
+                    HOLD(answers(a, BV_DONE, p.degree, p.additions, p.height, p.peak, p.gain) && buf[p.degree] == 1 &&
                          untouched_from(p.degree + 1));
             }
 }
@@ -213,12 +214,12 @@ static void partial_limits(partial_case p) {
 static void before_limits(int64_t w) {
     fresh();
     for (size_t i = 0; i < COUNT(NO_KIND); i++) {
-        HOLD(answers(bv_polynomial(NO_KIND[i], 0, INT64_MIN, w, NULL, 0), BV_KIND, 0, 0, 0, 0));
-        HOLD(answers(bv_polynomial(NO_KIND[i], 105, INT64_MAX, w, buf, 60), BV_KIND, 0, 0, 0, 0) && untouched_from(0));
+        HOLD(answers(bv_polynomial(NO_KIND[i], 0, INT64_MIN, w, NULL, 0), BV_KIND, 0, 0, 0, 0, 0));
+        HOLD(answers(bv_polynomial(NO_KIND[i], 105, INT64_MAX, w, buf, 60), BV_KIND, 0, 0, 0, 0, 0) && untouched_from(0));
         HOLD(stops(bv_partial(NO_KIND[i], 0, UINT64_MAX, w, NULL, 0), BV_KIND, 0, 0, 0));
         HOLD(stops(bv_partial(NO_KIND[i], 105, 7, w, buf, 60), BV_KIND, 0, 0, 0) && untouched_from(0));
-        HOLD(answers(bv_polynomial(1, NO_INDEX[i], INT64_MIN, w, NULL, 0), BV_INDEX, 0, 0, 0, 0));
-        HOLD(answers(bv_polynomial(2, NO_INDEX[i], INT64_MAX, w, buf, 60), BV_INDEX, 0, 0, 0, 0) && untouched_from(0));
+        HOLD(answers(bv_polynomial(1, NO_INDEX[i], INT64_MIN, w, NULL, 0), BV_INDEX, 0, 0, 0, 0, 0));
+        HOLD(answers(bv_polynomial(2, NO_INDEX[i], INT64_MAX, w, buf, 60), BV_INDEX, 0, 0, 0, 0, 0) && untouched_from(0));
         HOLD(stops(bv_partial(1, NO_INDEX[i], UINT64_MAX, w, NULL, 0), BV_INDEX, 0, 0, 0));
         HOLD(stops(bv_partial(2, NO_INDEX[i], 0, w, buf, 60), BV_INDEX, 0, 0, 0) && untouched_from(0));
     }

@@ -18,7 +18,7 @@ def struct(name, fields):
     return type(name, (ctypes.Structure,), {"_fields_": types})
 
 
-Answer = struct("Answer", "code degree additions height gain")
+Answer = struct("Answer", "code degree additions height peak gain")
 Stop = struct("Stop", "code degree additions due")
 Step = struct("Step", "code count")
 Written = struct("Written", "code degree used")

@@ -46,7 +46,7 @@ def fits(ask, *arguments, bits):
 
 bv = Bonvedrick(sys.argv[1])
 f, a = bv.polynomial(F, N)
-print(f"notch for {MAINS} Hz at {RATE} samples a second: F({N}), {a.additions} additions, height {a.height}, gain {a.gain}")
+print(f"notch for {MAINS} Hz at {RATE} samples a second: F({N}), {a.additions} additions, gain {a.gain}")
 print(*f)
 for hz in 0, 50, 100, 150, 200:
     print(f"{hz:4} Hz: {response(f, hz):.3f}")
@@ -54,6 +54,8 @@ i, _ = bv.polynomial(I, N)
 print(f"F({N}) I({N}) = z^{N} - 1:", product(f, i) == [-1] + [0] * (N - 1) + [1])
 nine, b = bv.polynomial(F, 9)
 print(f"F(9): {' '.join(map(str, nine))}, gain {b.gain}")
+tall, c = bv.polynomial(F, 105)
+print(f"F(105): height {c.height}, first at degree {c.peak}, where {tall[c.peak]} stands")
 half, stop = bv.partial(F, N, 1)
 print(f"lower half after 1 divisor, {stop.due} due:", *half)
 print("comb of size 2:      ", *bv.comb(2, [1, 2, 3, 4, 5]))

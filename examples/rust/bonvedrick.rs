@@ -9,6 +9,7 @@ mod c {
         pub degree: u64,
         pub additions: u64,
         pub height: u64,
+        pub peak: u64,
         pub gain: i64,
     }
 
@@ -114,6 +115,8 @@ pub struct Polynomial<'a> {
     pub coeffs: &'a mut [i64],
     pub additions: u64,
     pub height: u64,
+    /// The lowest degree at which the height's magnitude occurs: the place of that coefficient in `coeffs`.
+    pub peak: usize,
     pub gain: i64,
 }
 
@@ -139,7 +142,8 @@ pub struct Record<'a> {
 pub fn polynomial(kind: Kind, n: u64, h: i64, w: i64, buf: &mut [i64]) -> Result<Polynomial<'_>, Refusal> {
     let a = unsafe { c::bv_polynomial(kind as u64, n, h, w, buf.as_mut_ptr(), buf.len()) };
     outcome(a.code, a.degree, ())?;
-    Ok(Polynomial { coeffs: &mut buf[..=a.degree as usize], additions: a.additions, height: a.height, gain: a.gain })
+    let coeffs = &mut buf[..=a.degree as usize];
+    Ok(Polynomial { coeffs, additions: a.additions, height: a.height, peak: a.peak as usize, gain: a.gain })
 }
 
 pub fn partial(kind: Kind, n: u64, j: u64, w: i64, buf: &mut [i64]) -> Result<Partial<'_>, Refusal> {

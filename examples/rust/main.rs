@@ -24,7 +24,8 @@ fn main() -> Result<(), Refusal> {
     println!("in 8 entries: {:?}", polynomial(Kind::F, N, 1, NO_LIMIT, &mut [0; 8]).map(|p| p.gain));
     let mut room = vec![0; entries(Kind::F, N)?];
     let f = polynomial(Kind::F, N, 1, NO_LIMIT, &mut room)?;
-    println!("in {} entries: {:?}, {} additions, height {}, gain {}", f.coeffs.len(), f.coeffs, f.additions, f.height, f.gain);
+    println!("in {} entries: {:?}, {} additions", f.coeffs.len(), f.coeffs, f.additions);
+    println!("height {} at degree {}, gain {}", f.height, f.peak, f.gain);
 
     for j in 0.. {
         let mut half = [0; 8];
@@ -54,7 +55,7 @@ fn main() -> Result<(), Refusal> {
     let mut room = vec![0; entries(Kind::I, LARGE)?];
     for bits in 20.. {
         let made = polynomial(Kind::I, LARGE, NO_LIMIT, registers(bits), &mut room);
-        println!("I({LARGE}) in registers of {bits} bits: {:?}", made.as_ref().map(|p| p.height));
+        println!("I({LARGE}) in registers of {bits} bits, height and peak: {:?}", made.as_ref().map(|p| (p.height, p.peak)));
         if !matches!(made, Err(Refusal::Over { .. })) {
             break;
         }

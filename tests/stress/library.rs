@@ -9,6 +9,7 @@ pub struct Answer {
     pub degree: u64,
     pub additions: u64,
     pub height: u64,
+    pub peak: u64,
     pub gain: i64,
 }
 

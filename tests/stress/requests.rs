@@ -45,8 +45,9 @@ fn expected(of: &mut Reference, kind: u64, n: u64, h: i64, w: i64, before: &[i64
     }
     let r = odd_part(index);
     let count = if r == 1 { 0 } else { additions(of.degree(kind, r) / 2, &divisors(r)) };
+    let peak = buf.iter().position(|c| c.unsigned_abs() == height).unwrap() as u64;
     let gain = buf[..top + 1].iter().sum();
-    let answer = Answer { code: 0, degree: top as u64, additions: count, height, gain };
+    let answer = Answer { code: 0, degree: top as u64, additions: count, height, peak, gain };
     (answer, buf)
 }
 

@@ -32,16 +32,15 @@ fn put_three(out: &mut [u8], at: usize, x: u64, y: u64, z: u64) -> usize
     put_item(out, q, z)
 }
 
-// The letter, the six numbers and the colon.
+// The letter, the seven numbers and the colon.
 pub fn put_head(out: &mut [u8], at: usize, kind: u64, n: u64, a: Answer) -> usize
-    requires { ⌜ at + 130 ≤ length (now out) ⌝ }
+    requires { ⌜ at + 151 ≤ length (now out) ⌝ }
     ensures { λ r. ⌜ Puts (headOf kind n a) at (now (out .entry)) (now (out .exit)) r ⌝ }
-    ensures { λ r. ⌜ r ≤ at + 130 ⌝ }
+    ensures { λ r. ⌜ r ≤ at + 151 ⌝ }
 {
     let p = put(out, at, letter_of(kind));
     let p = put_three(out, p, n, a.code, a.degree);
-    let p = put_item(out, p, a.additions);
-    let p = put_item(out, p, a.height);
+    let p = put_three(out, p, a.additions, a.height, a.peak);
     let p = put_signed(out, p, a.gain);
     let p = put(out, p, b' ');
     put(out, p, b':')

@@ -13,7 +13,7 @@ use Rattle.definitions.specs.Numbers.{rOf}
 use Rattle.definitions.specs.Polynomials.{degree}
 use Rattle.definitions.specs.Steps.{belowOne}
 use Rattle.definitions.specs.Requests.{knownKind, goodIndex, divisorsDue, overAmong, written, zeros}
-use Rattle.definitions.specs.Answer.{coefficients, height, gain, additionsFor}
+use Rattle.definitions.specs.Answer.{coefficients, height, peak, gain, additionsFor}
 use Rattle.answers.specs.declared.Answer.{Answer}
 
 -- the refusals in their order, 1 to 6; of the limits h is tested first, then w
@@ -34,6 +34,7 @@ answered kind n code =
       degree = cond (eqb code DONE || leb SHORT code) (degree kind n) 0;
       additions = cond (eqb code DONE) (additionsFor kind n) 0;
       height = cond (eqb code DONE) (height kind n) 0;
+      peak = cond (eqb code DONE) (peak kind n) 0;
       gain = cond (eqb code DONE) (gain kind n) 0ℤ;
     }
 

@@ -36,6 +36,7 @@ pub struct Answer {
     pub degree: u64,
     pub additions: u64,
     pub height: u64,
+    pub peak: u64,
     pub gain: i64,
 }
 
@@ -51,13 +52,14 @@ pub struct Stop {
 impl Answer {
     // A refusal: its code and the degree that it tells; the rest is 0.
     pub fn refused(code: u64, degree: u64) -> Answer
-        ensures { λ r. ⌜ r ≡ record { code = code; degree = degree; additions = 0; height = 0; gain = pos 0 } ⌝ }
+        ensures { λ r. ⌜ r ≡ record { code = code; degree = degree; additions = 0; height = 0; peak = 0; gain = pos 0 } ⌝ }
     {
         Answer {
             code,
             degree,
             additions: 0,
             height: 0,
+            peak: 0,
             gain: 0,
         }
     }

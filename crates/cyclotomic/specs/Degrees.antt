@@ -1,8 +1,8 @@
 -- F(n) is monic of degree phi(n) (`monic-F`), and I(n) of degree n - phi(n) (`monic-I`): from one prime to the next,
 -- degrees multiply by p where z^p is put for z, and phi does the same.
-use Prim.Native.Nat.{ℕ, _*_, _-_, _<_, _∣_}
+use Prim.Native.Nat.{ℕ, _*_, _-_, _/_, _<_, _∣_}
 use mathlib.Core.Path.{_≡_, sym, _∙_, ap}
-use mathlib.Core.Bool.{cond, true, false}
+use mathlib.Core.Bool.{Bool, cond, true, false}
 use native.Mathlib.Omega.{arith}
 use native.Mathlib.Nat as NatL
 use native.Mathlib.Decide.{decDvd}
@@ -10,10 +10,11 @@ use lib.Dec.{eqb}
 use Rattle.definitions.specs.Series.{_·_, spread}
 use Rattle.definitions.specs.Numbers.{phi, mOf, tOf}
 use Rattle.definitions.specs.Polynomials.{F, I, polynomial, degree}
+use Rattle.definitions.specs.KeptHalf.{halfDegree}
 use Rattle.series.specs.Laws.{·-comm}
 use Rattle.series.specs.Degree.{Monic, monic-spread, monic-div, monic-z^-1}
 use Rattle.numbers.specs.Primes.{Prime, prime-pos, by-primes}
-use Rattle.numbers.specs.Phi.{phi-old, phi-new, phi-one, phi-le}
+use Rattle.numbers.specs.Phi.{phi-old, phi-new, phi-one, phi-le, phi-lt, phi-pos}
 use Rattle.numbers.specs.Apart.{m-times-t}
 use Rattle.numbers.specs.PhiApart.{phi-m, phi-apart}
 use Rattle.cyclotomic.specs.Family.{F-one, pair-law}
@@ -47,7 +48,7 @@ pub monic : (kind n : ℕ) → 0 < n → Monic (degree kind n) (polynomial kind 
 unfolding degree polynomial
 monic kind n l = go (eqb kind 1)
   where
-    go : (b : mathlib.Core.Bool.Bool) → Monic (cond b (phi n) (n - phi n)) (cond b (F n) (I n))
+    go : (b : Bool) → Monic (cond b (phi n) (n - phi n)) (cond b (F n) (I n))
     go true = monic-F n l
     go false = monic-I n l
 
@@ -59,6 +60,15 @@ degree-apart kind n l = go (eqb kind 1)
     phis : phi n ≡ phi (mOf n) * tOf n
     phis = phi-apart n l ∙ ap (λ k. k * tOf n) (sym (phi-m n))
 
-    go : (b : mathlib.Core.Bool.Bool) → cond b (phi n) (n - phi n) ≡ cond b (phi (mOf n)) (mOf n - phi (mOf n)) * tOf n
+    go : (b : Bool) → cond b (phi n) (n - phi n) ≡ cond b (phi (mOf n)) (mOf n - phi (mOf n)) * tOf n
     go true = phis
     go false = omega (arith, m-times-t n, phis, NatL.mul-sub (tOf n) (mOf n) (phi (mOf n)))
+
+-- D lies below r
+pub half-below : (kind r : ℕ) → 1 < r → halfDegree kind r < r
+unfolding halfDegree degree
+half-below kind r l = go (eqb kind 1)
+  where
+    go : (b : Bool) → cond b (phi r) (r - phi r) / 2 < r
+    go true = omega (arith, phi-lt r l)
+    go false = omega (arith, phi-pos r (omega arith))

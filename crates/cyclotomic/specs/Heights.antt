@@ -1,8 +1,10 @@
--- The height for n is that of the kept half for its r (`height-half`), and 1 where r is 1 (`height-one`). Taking n
--- apart moves, negates and repeats coefficients, so each magnitude for n is met for m, each for m is met for r, each
--- for r in the lower half, and the other way round.
-use Prim.Native.Nat.{ℕ, zero, suc, _+_, _*_, _-_, _/_, _%_, _≤_, _<_, _∣_}
-use mathlib.Core.Path.{_≡_, refl, sym, _∙_, ap}
+-- The height and the peak for n are those of the kept half for its r, the peak t times as far up (`told-half`), and 1 and 0
+-- where r is 1 (`told-one`). Taking n apart moves, negates and repeats coefficients: z^t for z moves them to t times their
+-- place (`told-m`); for 2 r they keep magnitude and place, or stand there twice, the first copy in its place
+-- (`told-twice`); and those of r are mirrored, so that the first of the tallest stands in the lower half (`told-lower`).
+use Prim.Native.Nat.{ℕ, zero, suc, _+_, _*_, _-_, _/_, _%_, _≤_, _<_, _∣_, max}
+use mathlib.Core.Path.{_≡_, refl, sym, _∙_, ap, subst}
+use mathlib.Core.List.{List}
 use mathlib.Core.Bool.{Bool, true, false, cond}
 use mathlib.Core.Logic.{_≢_, _⊎_, inl, inr}
 use native.Mathlib.Omega.{arith}
@@ -10,16 +12,17 @@ use native.Mathlib.Nat as NatL
 use native.Mathlib.Decide.{decLt, decDvd, ℕ-discrete}
 use lib.IntN.{ℤ, natAbs}
 use lib.Dec.{eqb}
+use borrow.Author.Tests.{eq-eqb, ne-eqb}
 use Rattle.definitions.specs.Integers.{_⊕_, _⊗_, ⊖, 0ℤ}
 use Rattle.definitions.specs.Series.{Series, tail, constant, _+ˢ_, -ˢ, _·_, _÷_, z^, spread, alternate, firsts}
 use Rattle.definitions.specs.Numbers.{someTo, countTo, divides, shareFactor, phi, rOf, mOf, tOf}
 use Rattle.definitions.specs.Polynomials.{productTo, atDivisors, z^-1, familyTo, F, I, polynomial, degree}
 use Rattle.definitions.specs.KeptHalf.{halfDegree}
-use Rattle.definitions.specs.Answer.{coefficients, heightOf, height}
+use Rattle.definitions.specs.Answer.{coefficients, heightOf, height, placeOf, peakOf, peak}
 use Rattle.series.specs.Maps.{parity, spread-on, spread-off, alternate-even, alternate-odd}
 use Rattle.numbers.specs.Apart.{OddSquarefree, r-pos, r-odd-squarefree, m-even, m-odd, m-pos, t-pos}
 use Rattle.step_laws.specs.Signed.{abs-⊖}
-use Rattle.cyclotomic.specs.Degrees.{monic}
+use Rattle.cyclotomic.specs.Degrees.{monic, half-below}
 use Rattle.cyclotomic.specs.Mirrors.{turned, mirrored}
 use Rattle.cyclotomic.specs.Apart.{F-twice, first-copy, second-copy, taken-apart}
 
@@ -36,44 +39,157 @@ height-least zero f h le = omega arith
 height-least (suc n) f h le =
     omega (arith, le 0 (omega arith), height-least n (tail f) h (λ i l. le (suc i) (omega arith)))
 
+-- and it is met
+height-met : (n : ℕ) (f : Series) → 0 < n → (i : ℕ) × (i < n) × (natAbs (f i) ≡ heightOf (firsts n f))
+unfolding heightOf firsts
+height-met zero f l = absurd (omega arith)
+height-met (suc zero) f l = (0, omega arith, omega arith)
+height-met (suc (suc n)) f l = go (decLt (natAbs (f 0)) rest) (height-met (suc n) (tail f) (omega arith))
+  where
+    rest : ℕ
+    rest = heightOf (firsts (suc n) (tail f))
+
+    go : Dec (natAbs (f 0) < rest) → (i : ℕ) × (i < suc n) × (natAbs (f (suc i)) ≡ rest)
+        → (i : ℕ) × (i < suc (suc n)) × (natAbs (f i) ≡ max (natAbs (f 0)) rest)
+    go (yes b) (i, u, e) = (suc i, omega arith, e ∙ omega arith)
+    go (no b) m = (0, omega arith, omega (arith, NatL.lt-of-not-le b))
+
+-- ---- the place of a magnitude that is met is the first
+record FirstPlace (h n : ℕ) (f : Series) (p : ℕ) : Type 0 where
+  pub inside : p < n
+  pub here : natAbs (f p) ≡ h
+  pub before : (i : ℕ) → i < p → natAbs (f i) ≢ h
+
+place-first : (h n : ℕ) (f : Series) (i : ℕ) → i < n → natAbs (f i) ≡ h → FirstPlace h n f (placeOf h (firsts n f))
+unfolding placeOf firsts
+place-first h zero f i l e = absurd (omega arith)
+place-first h (suc n) f i l e = go (ℕ-discrete (natAbs (f 0)) h) i l e (place-first h n (tail f))
+  where
+    Place : ℕ → Type 0
+    Place = FirstPlace h (suc n) f
+
+    q : ℕ
+    q = placeOf h (firsts n (tail f))
+
+    here : natAbs (f 0) ≡ h → Place 0
+    here a = record { inside = omega arith; here = a; before = λ j b. absurd (NatL.not-suc-le-zero b) }
+
+    later : natAbs (f 0) ≢ h → FirstPlace h n (tail f) q → Place (suc q)
+    later a r = record { inside = omega (arith, r .inside); here = r .here; before = before }
+      where
+        before : (j : ℕ) → j < suc q → natAbs (f j) ≢ h
+        before zero l = a
+        before (suc j) l = r .before j (omega arith)
+
+    go : Dec (natAbs (f 0) ≡ h) → (i : ℕ) → i < suc n → natAbs (f i) ≡ h
+        → ((i : ℕ) → i < n → natAbs (f (suc i)) ≡ h → FirstPlace h n (tail f) q)
+        → Place (cond (eqb (natAbs (f 0)) h) 0 (suc q))
+    go (yes a) i l e next = rw (eq-eqb (natAbs (f 0)) h a) (here a)
+    go (no a) zero l e next = absurd (a e)
+    go (no a) (suc i) l e next = rw (ne-eqb (natAbs (f 0)) h a) (later a (next i (omega arith) e))
+
+-- ---- the tallest of all coefficients, h in magnitude, and the first of them, at p
+pub record Tallest (f : Series) (p h : ℕ) : Type 0 where
+  pub some : 0 < h
+  pub here : natAbs (f p) ≡ h
+  pub most : (i : ℕ) → natAbs (f i) ≤ h
+  pub first : (i : ℕ) → i < p → natAbs (f i) < h
+
+-- it is the first of the tallest among the first n already, where they reach as far
+module _ (n : ℕ) (f : Series) where
+  peak-first : 0 < n → FirstPlace (heightOf (firsts n f)) n f (peakOf (firsts n f))
+  unfolding peakOf
+  peak-first l = let (i, u, e) = height-met n f l in place-first (heightOf (firsts n f)) n f i u e
+
+  pub first-of : {p h : ℕ} → Tallest f p h → p < n → (heightOf (firsts n f) ≡ h) × (peakOf (firsts n f) ≡ p)
+  first-of {p} {h} T l = (high, go (peak-first (omega arith)) (decLt (peakOf (firsts n f)) p))
+    where
+      high : heightOf (firsts n f) ≡ h
+      high =
+          NatL.le-antisymm (height-least n f h (λ i u. T .most i))
+          (subst (λ x. x ≤ heightOf (firsts n f)) (T .here) (entry-height n f p l))
+
+      go : {q : ℕ} → FirstPlace (heightOf (firsts n f)) n f q → Dec (q < p) → q ≡ p
+      go {q} F (yes u) = absurd (omega (arith, T .first q u, F .here, high))
+      go {q} F (no u) = omega (arith, NatL.lt-of-not-le u, NatL.lt-of-not-le (λ v. F .before p v (T .here ∙ sym high)))
+
+  pub tallest-of : 0 < n → 0 < heightOf (firsts n f) → ((i : ℕ) → natAbs (f i) ≤ heightOf (firsts n f))
+      → Tallest f (peakOf (firsts n f)) (heightOf (firsts n f))
+  tallest-of l some most =
+      let F = peak-first l in
+      record { some = some; here = F .here; most = most; first = λ i u. less (most i) (F .before i u) }
+    where
+      less : {a b : ℕ} → a ≤ b → a ≢ b → a < b
+      less v w = omega arith
+
 none-le : {a : ℤ} {h : ℕ} → a ≡ 0ℤ → natAbs a ≤ h
 none-le e = rw e (omega arith)
 
--- ---- the same for a polynomial: no degree has to be named, since there is nothing above it
-module _ (kind n : ℕ) where
-  pub all-at-most : (h : ℕ) → ((i : ℕ) → natAbs (polynomial kind n i) ≤ h) → height kind n ≤ h
-  unfolding height coefficients
-  all-at-most h le = height-least (suc (degree kind n)) (polynomial kind n) h (λ i l. le i)
-
-  pub at-most-height : 0 < n → (i : ℕ) → natAbs (polynomial kind n i) ≤ height kind n
-  unfolding height coefficients
-  at-most-height p i = go (decLt i (suc (degree kind n)))
+-- ---- for a polynomial no degree has to be named: there is nothing above it, and a 1 at it
+module _ (kind n : ℕ) (p : 0 < n) where
+  everywhere : {h : ℕ} → ((i : ℕ) → i < suc (degree kind n) → natAbs (polynomial kind n i) ≤ h)
+      → (i : ℕ) → natAbs (polynomial kind n i) ≤ h
+  everywhere {h} le i = go (decLt i (suc (degree kind n)))
     where
-      go : Dec (i < suc (degree kind n)) → natAbs (polynomial kind n i)
-          ≤ heightOf (firsts (suc (degree kind n)) (polynomial kind n))
-      go (yes l) = entry-height (suc (degree kind n)) (polynomial kind n) i l
-      go (no l) = none-le (monic kind n p .above i (omega (arith, NatL.lt-of-not-le l)))
+      go : Dec (i < suc (degree kind n)) → natAbs (polynomial kind n i) ≤ h
+      go (yes l) = le i l
+      go (no l) = rw (monic kind n p .above i (omega (arith, NatL.lt-of-not-le l))) (omega arith)
+
+  tallest-in : (m : ℕ) → 0 < m
+      → ((i : ℕ) → i < suc (degree kind n) → natAbs (polynomial kind n i) ≤ heightOf (firsts m (polynomial kind n)))
+      → Tallest (polynomial kind n) (peakOf (firsts m (polynomial kind n))) (heightOf (firsts m (polynomial kind n)))
+  tallest-in m l le =
+      tallest-of m (polynomial kind n) l
+      (rw (monic kind n p .top) at (everywhere le (degree kind n)))
+      (everywhere le)
+
+  pub tallest : Tallest (polynomial kind n) (peak kind n) (height kind n)
+  unfolding height peak coefficients
+  tallest =
+      tallest-in (suc (degree kind n)) (omega arith) (entry-height (suc (degree kind n)) (polynomial kind n))
+
+  pub told : {q h : ℕ} → Tallest (polynomial kind n) q h → (height kind n ≡ h) × (peak kind n ≡ q)
+  unfolding height peak coefficients
+  told {q} T = first-of (suc (degree kind n)) (polynomial kind n) T (go (decLt q (suc (degree kind n))))
+    where
+      go : Dec (q < suc (degree kind n)) → q < suc (degree kind n)
+      go (yes l) = l
+      go (no l) =
+          let e = monic kind n p .above q (omega (arith, NatL.lt-of-not-le l)) in
+          absurd (omega (arith, T .some, T .here, ap natAbs e))
+
+  pub peak-inside : peak kind n ≤ degree kind n
+  unfolding peak coefficients
+  peak-inside = NatL.le-of-suc-le-suc (peak-first (suc (degree kind n)) (polynomial kind n) (omega arith) .inside)
+
+  pub at-most-height : (i : ℕ) → natAbs (polynomial kind n i) ≤ height kind n
+  at-most-height = tallest .most
 
 -- ---- n and m: coefficients move to degree times t, zeros between
+module _ (t : ℕ) (p : 0 < t) (f : Series) {q h : ℕ} (T : Tallest f q h) where
+  spreads : Tallest (spread t f) (q * t) h
+  spreads =
+      record {
+        some = T .some;
+        here = ap natAbs (spread-on t (q * t) f (NatL.mul-mod-left q t) ∙ ap f (NatL.mul-div-cancel q p)) ∙ T .here;
+        most = λ i. most i (ℕ-discrete (i % t) 0);
+        first = λ i l. first i l (ℕ-discrete (i % t) 0);
+      }
+    where
+      most : (i : ℕ) → Dec (i % t ≡ 0) → natAbs (spread t f i) ≤ h
+      most i (yes e) = rw (spread-on t i f e) (T .most (i / t))
+      most i (no e) = none-le (spread-off t i f e)
+
+      first : (i : ℕ) → i < q * t → Dec (i % t ≡ 0) → natAbs (spread t f i) < h
+      first i l (yes e) = rw (spread-on t i f e) (T .first (i / t) (NatL.div-lt-iff-lt-mul {k = t} {x = i} {y = q} p .1 l))
+      first i l (no e) = rw (spread-off t i f e) (T .some)
+
 module _ (kind n : ℕ) (p : 0 < n) where
-  spread-at-most : (i : ℕ) → Dec (i % tOf n ≡ 0) → natAbs (spread (tOf n) (polynomial kind (mOf n)) i)
-      ≤ height kind (mOf n)
-  spread-at-most i (yes e) =
-      rw (spread-on (tOf n) i (polynomial kind (mOf n)) e) (at-most-height kind (mOf n) (m-pos n p) (i / tOf n))
-  spread-at-most i (no e) = none-le (spread-off (tOf n) i (polynomial kind (mOf n)) e)
+  tallest-m : {q h : ℕ} → Tallest (polynomial kind (mOf n)) q h → Tallest (polynomial kind n) (q * tOf n) h
+  tallest-m T = rw (taken-apart kind n p) (spreads (tOf n) (t-pos n p) (polynomial kind (mOf n)) T)
 
-  moved : (i : ℕ) → polynomial kind n (i * tOf n) ≡ polynomial kind (mOf n) i
-  moved i =
-      ap (λ f. f (i * tOf n)) (taken-apart kind n p)
-      ∙ spread-on (tOf n) (i * tOf n) (polynomial kind (mOf n)) (NatL.mul-mod-left i (tOf n))
-      ∙ ap (polynomial kind (mOf n)) (NatL.mul-div-cancel i (t-pos n p))
-
-  height-m : height kind n ≡ height kind (mOf n)
-  height-m =
-      NatL.le-antisymm
-      (all-at-most kind n (height kind (mOf n))
-      (λ i. rw (taken-apart kind n p) (spread-at-most i (ℕ-discrete (i % tOf n) 0))))
-      (all-at-most kind (mOf n) (height kind n) (λ i. rw moved at (at-most-height kind n p (i * tOf n))))
+  pub told-m : (height kind n ≡ height kind (mOf n)) × (peak kind n ≡ peak kind (mOf n) * tOf n)
+  told-m = told kind n p (tallest-m (tallest kind (mOf n) (m-pos n p)))
 
 -- ---- 2 r and r: signs change, and I(r) stands there twice
 abs-alternate : (f : Series) (i : ℕ) → natAbs (alternate f i) ≡ natAbs (f i)
@@ -84,31 +200,41 @@ abs-alternate f i = go (parity i)
     go (inr e) = ap natAbs (alternate-odd i f e) ∙ abs-⊖ (f i)
 
 module _ (r : ℕ) (O : OddSquarefree r) (h : r ≢ 1) where
-  -- each magnitude for 2 r is one for r
-  down : (b : Bool) (i : ℕ) → Dec (i < r)
-      → (j : ℕ) × (natAbs (cond b (F (2 * r)) (I (2 * r)) i) ≡ natAbs (cond b (F r) (I r) j))
-  down true i d = (i, ap (λ f. natAbs (f i)) (F-twice r O h) ∙ abs-alternate (F r) i)
-  down false i (yes l) = (i, ap natAbs (first-copy r O h i l) ∙ abs-alternate (I r) i)
-  down false i (no l) =
-      let e : i ≡ r + (i - r) = omega (arith, NatL.lt-of-not-le l) in (
-        i - r,
-        ap (λ k. natAbs (I (2 * r) k)) e ∙ ap natAbs (second-copy r O h (i - r)) ∙ abs-⊖ (alternate (I r) (i - r))
-            ∙ abs-alternate (I r) (i - r),
-      )
+  F-abs : (i : ℕ) → natAbs (F (2 * r) i) ≡ natAbs (F r i)
+  F-abs i = ap (λ f. natAbs (f i)) (F-twice r O h) ∙ abs-alternate (F r) i
 
-  -- and the other way round: for I in the second copy
-  up : (b : Bool) (i : ℕ) → (j : ℕ) × (natAbs (cond b (F r) (I r) i) ≡ natAbs (cond b (F (2 * r)) (I (2 * r)) j))
-  up true i = (i, sym (ap (λ f. natAbs (f i)) (F-twice r O h) ∙ abs-alternate (F r) i))
-  up false i = (r + i, sym (ap natAbs (second-copy r O h i) ∙ abs-⊖ (alternate (I r) i) ∙ abs-alternate (I r) i))
+  I-abs : (i : ℕ) → i < r → natAbs (I (2 * r) i) ≡ natAbs (I r i)
+  I-abs i l = ap natAbs (first-copy r O h i l) ∙ abs-alternate (I r) i
 
-  height-twice : (kind : ℕ) → height kind (2 * r) ≡ height kind r
+  I-abs-again : (i : ℕ) → natAbs (I (2 * r) (r + i)) ≡ natAbs (I r i)
+  I-abs-again i = ap natAbs (second-copy r O h i) ∙ abs-⊖ (alternate (I r) i) ∙ abs-alternate (I r) i
+
+  twice : (b : Bool) {q k : ℕ} → q < r → Tallest (cond b (F r) (I r)) q k
+      → Tallest (cond b (F (2 * r)) (I (2 * r))) q k
+  twice true {q} l T =
+      record {
+        some = T .some;
+        here = F-abs q ∙ T .here;
+        most = λ i. rw (F-abs i) (T .most i);
+        first = λ i u. rw (F-abs i) (T .first i u);
+      }
+  twice false {q} {k} l T =
+      record {
+        some = T .some;
+        here = I-abs q l ∙ T .here;
+        most = λ i. most i (decLt i r);
+        first = λ i u. rw (I-abs i (omega arith)) (T .first i u);
+      }
+    where
+      most : (i : ℕ) → Dec (i < r) → natAbs (I (2 * r) i) ≤ k
+      most i (yes u) = rw (I-abs i u) (T .most i)
+      most i (no u) =
+          let e : i ≡ r + (i - r) = omega (arith, NatL.lt-of-not-le u) in
+          rw (e, I-abs-again (i - r)) (T .most (i - r))
+
+  tallest-twice : (kind : ℕ) {q k : ℕ} → q < r → Tallest (polynomial kind r) q k → Tallest (polynomial kind (2 * r)) q k
   unfolding polynomial
-  height-twice kind =
-      NatL.le-antisymm
-      (all-at-most kind (2 * r) (height kind r) (λ i. let (j, e) = down (eqb kind 1) i (decLt i r) in
-      rw e (at-most-height kind r (O .pos) j)))
-      (all-at-most kind r (height kind (2 * r)) (λ i. let (j, e) = up (eqb kind 1) i in
-      rw e (at-most-height kind (2 * r) (omega (arith, O .pos)) j)))
+  tallest-twice kind = twice (eqb kind 1)
 
 -- ---- r and its lower half: entry N - i is entry i or its negative
 abs-turned : (kind : ℕ) (a : ℤ) → natAbs (turned kind a) ≡ natAbs a
@@ -120,10 +246,11 @@ abs-turned kind a = go (eqb kind 1)
     go false = abs-⊖ a
 
 module _ (kind r : ℕ) (l : 1 < r) where
-  abbrev lower : ℕ
-  lower = heightOf (firsts (halfDegree kind r + 1) (polynomial kind r))
+  abbrev lower : List ℤ
+  lower = firsts (halfDegree kind r + 1) (polynomial kind r)
 
-  in-lower : (i : ℕ) → i ≤ degree kind r → Dec (i < halfDegree kind r + 1) → natAbs (polynomial kind r i) ≤ lower
+  in-lower : (i : ℕ) → i < suc (degree kind r) → Dec (i < halfDegree kind r + 1)
+      → natAbs (polynomial kind r i) ≤ heightOf lower
   unfolding halfDegree
   in-lower i u (yes v) = entry-height (halfDegree kind r + 1) (polynomial kind r) i v
   in-lower i u (no v) =
@@ -133,40 +260,64 @@ module _ (kind r : ℕ) (l : 1 < r) where
       rw (← e, mirrored kind r l j (omega arith), abs-turned)
       (entry-height (halfDegree kind r + 1) (polynomial kind r) j low)
 
-  pub height-lower : height kind r ≡ lower
-  unfolding height coefficients
-  height-lower =
-      NatL.le-antisymm
-      (height-least (suc (degree kind r)) (polynomial kind r) lower
-      (λ i u. in-lower i (omega arith) (decLt i (halfDegree kind r + 1))))
-      (height-least (halfDegree kind r + 1) (polynomial kind r) (height kind r)
-      (λ i u. at-most-height kind r (omega arith) i))
+  pub tallest-lower : Tallest (polynomial kind r) (peakOf lower) (heightOf lower)
+  tallest-lower =
+      tallest-in kind r (omega arith) (halfDegree kind r + 1) (omega arith)
+      (λ i u. in-lower i u (decLt i (halfDegree kind r + 1)))
 
--- ---- what the height for n is
-pub height-half : (kind n : ℕ) → 0 < n → rOf n ≢ 1
-    → height kind n ≡ heightOf (firsts (halfDegree kind (rOf n) + 1) (polynomial kind (rOf n)))
-height-half kind n p h = height-m kind n p ∙ go (decDvd 2 n) ∙ height-lower kind (rOf n) (omega (arith, r-pos n))
+  pub told-lower : (height kind r ≡ heightOf lower) × (peak kind r ≡ peakOf lower)
+  told-lower = told kind r (omega arith) tallest-lower
+
+  peak-below : peakOf lower < r
+  peak-below =
+      omega (
+        arith,
+        peak-first (halfDegree kind r + 1) (polynomial kind r) (omega arith) .inside,
+        half-below kind r l,
+      )
+
+pub told-twice : (kind r : ℕ) → OddSquarefree r → r ≢ 1
+    → (height kind (2 * r) ≡ height kind r) × (peak kind (2 * r) ≡ peak kind r)
+told-twice kind r O h =
+    let l : 1 < r = omega (arith, O .pos) in
+    let low = told-lower kind r l in
+    told kind (2 * r) (omega arith)
+    (tallest-twice r O h kind (rw (low .1) (peak-below kind r l)) (tallest kind r (omega arith)))
+
+-- ---- what the height and the peak for n are
+pub told-half : (kind n : ℕ) → 0 < n → rOf n ≢ 1
+    → (height kind n ≡ heightOf (firsts (halfDegree kind (rOf n) + 1) (polynomial kind (rOf n))))
+    × (peak kind n ≡ peakOf (firsts (halfDegree kind (rOf n) + 1) (polynomial kind (rOf n))) * tOf n)
+told-half kind n p h =
+    let m = told-m kind n p in
+    let low = told-lower kind (rOf n) (omega (arith, r-pos n)) in
+    let r = go (decDvd 2 n) in
+    (m .0 ∙ r .0 ∙ low .0, m .1 ∙ ap (λ k. k * tOf n) (r .1 ∙ low .1))
   where
-    go : Dec (2 ∣ n) → height kind (mOf n) ≡ height kind (rOf n)
-    go (yes d) = ap (height kind) (m-even n d) ∙ height-twice (rOf n) (r-odd-squarefree n) h kind
-    go (no d) = ap (height kind) (m-odd n d)
+    go : Dec (2 ∣ n) → (height kind (mOf n) ≡ height kind (rOf n)) × (peak kind (mOf n) ≡ peak kind (rOf n))
+    go (yes d) = rw (m-even n d) (told-twice kind (rOf n) (r-odd-squarefree n) h)
+    go (no d) = rw (m-odd n d) (refl, refl)
 
--- F(1), F(2), I(1), I(2) have height 1
-height-first : (b : Bool) (n : ℕ) → n < 2
-    → heightOf (firsts (suc (cond b (phi (suc n)) (suc n - phi (suc n)))) (cond b (F (suc n)) (I (suc n)))) ≡ 1
-unfolding heightOf _⊕_ _⊗_ ⊖ constant _+ˢ_ -ˢ _·_ _÷_ z^ firsts someTo countTo divides shareFactor phi productTo
-    atDivisors z^-1 familyTo F I
-height-first true zero l = refl
-height-first true (suc zero) l = refl
-height-first false zero l = refl
-height-first false (suc zero) l = refl
-height-first true (suc (suc n)) l = absurd (omega arith)
-height-first false (suc (suc n)) l = absurd (omega arith)
+-- F(1), F(2), I(1), I(2) have height 1 and peak 0
+first-four : (b : Bool) (n : ℕ) → n < 2
+    → (heightOf (firsts (suc (cond b (phi (suc n)) (suc n - phi (suc n)))) (cond b (F (suc n)) (I (suc n)))) ≡ 1)
+    × (peakOf (firsts (suc (cond b (phi (suc n)) (suc n - phi (suc n)))) (cond b (F (suc n)) (I (suc n)))) ≡ 0)
+unfolding heightOf peakOf placeOf _⊕_ _⊗_ ⊖ constant _+ˢ_ -ˢ _·_ _÷_ z^ firsts someTo countTo divides shareFactor phi
+    productTo atDivisors z^-1 familyTo F I
+first-four true zero l = (refl, refl)
+first-four true (suc zero) l = (refl, refl)
+first-four false zero l = (refl, refl)
+first-four false (suc zero) l = (refl, refl)
+first-four true (suc (suc n)) l = absurd (omega arith)
+first-four false (suc (suc n)) l = absurd (omega arith)
 
-pub height-one : (kind n : ℕ) → 0 < n → rOf n ≡ 1 → height kind n ≡ 1
-unfolding height coefficients degree polynomial
-height-one kind n p e = height-m kind n p ∙ go (decDvd 2 n)
+pub told-one : (kind n : ℕ) → 0 < n → rOf n ≡ 1 → (height kind n ≡ 1) × (peak kind n ≡ 0)
+unfolding height peak coefficients degree polynomial
+told-one kind n p e =
+    let m = told-m kind n p in
+    let f = go (decDvd 2 n) in
+    (m .0 ∙ f .0, m .1 ∙ ap (λ k. k * tOf n) (f .1) ∙ NatL.zero-mul (tOf n))
   where
-    go : Dec (2 ∣ n) → height kind (mOf n) ≡ 1
-    go (yes d) = ap (height kind) (m-even n d ∙ ap (λ k. 2 * k) e) ∙ height-first (eqb kind 1) 1 (omega arith)
-    go (no d) = ap (height kind) (m-odd n d ∙ e) ∙ height-first (eqb kind 1) 0 (omega arith)
+    go : Dec (2 ∣ n) → (height kind (mOf n) ≡ 1) × (peak kind (mOf n) ≡ 0)
+    go (yes d) = rw (m-even n d, e) (first-four (eqb kind 1) 1 (omega arith))
+    go (no d) = rw (m-odd n d, e) (first-four (eqb kind 1) 0 (omega arith))

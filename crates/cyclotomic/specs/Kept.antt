@@ -24,12 +24,12 @@ use Rattle.definitions.specs.KeptHalf.{halfDegree, sortOf, termOf, term, start,
 use Rattle.integers.specs.Solver.{:1, _:+_, _:*_, :-, x, y, z}
 use Rattle.series.specs.Laws.{agree-mul, ·-assoc, ·-comm, ·-one, one-·, ringˢ}
 use Rattle.numbers.specs.Apart.{OddSquarefree}
-use Rattle.numbers.specs.Phi.{phi-pos, phi-lt}
 use Rattle.step_laws.specs.Firsts.{length-firsts, getD-firsts, firsts-same}
 use Rattle.step_laws.specs.Signed.{add-sub}
 use Rattle.step_laws.specs.Step.{combed-from, stepped-below}
 use Rattle.step_laws.specs.Accumulated.{accumulated-from, accumulated-below}
 use Rattle.cyclotomic.specs.Family.{last-divisor, only-inverse}
+use Rattle.cyclotomic.specs.Degrees.{half-below}
 use Rattle.cyclotomic.specs.OnePrime.{divisors-both}
 use Rattle.cyclotomic.specs.Terms.{other, comb-below, comb-from, inverse-terms, terms, all-terms}
 use Rattle.cyclotomic.specs.Terms.{last-comb, over-same, over-ones}
@@ -123,15 +123,6 @@ module _ (k : ℕ) (O : OddSquarefree (suc k)) (h : suc k ≢ 1) where
       go false e =
           ap (λ c. (cond c 𝟙 (-ˢ 𝟙) · below kind k) i) e ∙ ap (λ q. q i) (kept-I kind e)
           ∙ sym (ap (λ c. cond c (F (suc k)) (I (suc k)) i) e)
-
--- D lies below r
-pub half-below : (kind r : ℕ) → 1 < r → halfDegree kind r < r
-unfolding halfDegree degree
-half-below kind r l = go (eqb kind 1)
-  where
-    go : (b : Bool) → cond b (phi r) (r - phi r) / 2 < r
-    go true = omega (arith, phi-lt r l)
-    go false = omega (arith, phi-pos r (omega arith))
 
 -- after all divisors below r the kept half is the lower half of the polynomial of r
 pub kept-all :

@@ -1,6 +1,8 @@
--- Height and gain (docs/RULES.md, 'The polynomial request').
+-- Height, peak and gain (docs/RULES.md, 'The polynomial request').
 use Prim.Native.Nat.{ℕ, suc, max}
+use mathlib.Core.Bool.{cond}
 use mathlib.Core.List.{List, [], _∷_}
+use lib.Dec.{eqb}
 use lib.IntN.{ℤ, natAbs}
 use Rattle.definitions.specs.Integers.{_⊕_, 0ℤ}
 use Rattle.definitions.specs.Series.{firsts}
@@ -19,6 +21,18 @@ heightOf (c ∷ cs) = max (natAbs c) (heightOf cs)
 
 unfoldable pub height : ℕ → ℕ → ℕ
 height kind n = heightOf (coefficients kind n)
+
+-- the lowest degree at which a magnitude occurs, among coefficients where it does
+unfoldable pub placeOf : ℕ → List ℤ → ℕ
+placeOf h [] = 0
+placeOf h (c ∷ cs) = cond (eqb (natAbs c) h) 0 (suc (placeOf h cs))
+
+-- the lowest degree at which the height's magnitude occurs
+unfoldable pub peakOf : List ℤ → ℕ
+peakOf cs = placeOf (heightOf cs) cs
+
+unfoldable pub peak : ℕ → ℕ → ℕ
+peak kind n = peakOf (coefficients kind n)
 
 -- the sum of the coefficients
 unfoldable pub gainOf : List ℤ → ℤ

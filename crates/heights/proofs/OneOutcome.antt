@@ -11,9 +11,9 @@ use Rattle.heights.proofs.magnitude.Reads as magnitude-reads
 use Rattle.heights.proofs.larger as larger
 use Rattle.heights.proofs.larger.Kinds as larger-kinds
 use Rattle.heights.proofs.larger.Reads as larger-reads
-use Rattle.heights.proofs.height as height
-use Rattle.heights.proofs.height.Kinds as height-kinds
-use Rattle.heights.proofs.height.Reads as height-reads
+use Rattle.heights.proofs.peak as peak
+use Rattle.heights.proofs.peak.Kinds as peak-kinds
+use Rattle.heights.proofs.peak.Reads as peak-reads
 
 pub magnitude-one :
     (κs : Lfts 0) (a : ArgsD magnitude.signature κs) (z z′ : ResD magnitude.signature κs)
@@ -27,8 +27,8 @@ pub larger-one :
     larger-reads.Post κs a z e → larger-reads.Post κs a z′ e′ → z ≡ z′
 larger-one κs a z z′ e e′ p p′ = p ∙ sym p′
 
-pub height-one :
-    (κs : Lfts 1) (a : ArgsD height.signature κs) (z z′ : ResD height.signature κs)
-    (e e′ : AtExit (endedOf 1 height-kinds.ps height-kinds.r) κs) →
-    height-reads.Post κs a z e → height-reads.Post κs a z′ e′ → z ≡ z′
-height-one κs a z z′ e e′ p p′ = p ∙ sym p′
+pub peak-one :
+    (κs : Lfts 1) (a : ArgsD peak.signature κs) (z z′ : ResD peak.signature κs)
+    (e e′ : AtExit (endedOf 1 peak-kinds.ps peak-kinds.r) κs) →
+    peak-reads.Post κs a z e → peak-reads.Post κs a z′ e′ → z ≡ z′
+peak-one κs a z z′ e e′ p p′ = p ∙ sym p′

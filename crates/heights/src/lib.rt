@@ -1,11 +1,19 @@
-// The magnitude of a number and the height of a slice: the largest magnitude among its entries, 0 for an empty one.
-// Nothing is asked beforehand: -2^63, whose magnitude is no i64, is measured too.
+// The magnitude of a number, and of a slice the height, which is the largest magnitude among its entries, with the
+// lowest place where it stands; both are 0 for an empty one. Nothing is asked beforehand: -2^63, whose magnitude is no
+// i64, is measured too.
 ghost use mathlib.Core.Path.{_≡_};
-ghost use Prim.Native.Nat.{_≤_, _<_, max};
+ghost use Prim.Native.Nat.{ℕ, _≤_, _<_, max};
 ghost use lib.ListN.{length, getD, drop};
 ghost use lib.IntN.{natAbs};
 ghost use Rattle.definitions.specs.Integers.{0ℤ};
-ghost use Rattle.definitions.specs.Answer.{heightOf};
+ghost use Rattle.definitions.specs.Answer.{heightOf, peakOf};
+ghost use Rattle.heights.specs.Looks.{look};
+
+// A height and the lowest place where it stands.
+pub struct Top {
+    pub height: u64,
+    pub place: u64,
+}
 
 // Below 0, -(m + 1) with all bits turned round is m.
 pub fn magnitude(x: i64) -> u64
@@ -26,12 +34,13 @@ fn above(coeffs: &[i64], from: usize, h: u64) -> usize
     requires { ⌜ from ≤ length (now coeffs) ⌝ }
     ensures { λ r. ⌜ (from ≤ r) × (r ≤ length (now (coeffs .entry))) ⌝ }
     ensures { λ r.
-        ⌜ max h (heightOf (drop r (now (coeffs .entry)))) ≡ max h (heightOf (drop from (now (coeffs .entry)))) ⌝ }
+        ⌜ ((p : ℕ) → look h p r (drop r (now (coeffs .entry))) ≡ look h p from (drop from (now (coeffs .entry)))) ⌝ }
     ensures { λ r. ⌜ (r < length (now (coeffs .entry)) → h < natAbs (getD (now (coeffs .entry)) r 0ℤ)) ⌝ }
 {
     let mut i = from;
     while i < coeffs.len() {
-        if h < magnitude(coeffs[i]) {
+        let x = coeffs[i];
+        if h < magnitude(x) {
             return i;
         }
         i += 1;
@@ -39,15 +48,20 @@ fn above(coeffs: &[i64], from: usize, h: u64) -> usize
     i
 }
 
-// From one larger magnitude to the next.
-pub fn height(coeffs: &[i64]) -> u64
-    ensures { λ r. ⌜ r ≡ heightOf (now (coeffs .entry)) ⌝ }
+// From one larger magnitude to the next; the last one found is the lowest that large.
+pub fn peak(coeffs: &[i64]) -> Top
+    ensures { λ r. ⌜ r ≡ record { height = heightOf (now (coeffs .entry)); place = peakOf (now (coeffs .entry)) } ⌝ }
 {
     let mut h: u64 = 0;
+    let mut p: usize = 0;
     let mut i = above(coeffs, 0, h);
     while i < coeffs.len() {
         h = magnitude(coeffs[i]);
+        p = i;
         i = above(coeffs, i + 1, h);
     }
-    h
+    Top {
+        height: h,
+        place: p as u64,
+    }
 }

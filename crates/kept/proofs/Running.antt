@@ -21,7 +21,8 @@ use Rattle.numbers.specs.Apart.{OddSquarefree}
 use Rattle.numbers.specs.AtMostFive.{k-at-most-5}
 use Rattle.numbers.specs.Below.{divisors-below}
 use Rattle.numbers.specs.Lists.{sum-append, sum-at-most}
-use Rattle.cyclotomic.specs.Kept.{half-below, kept-start}
+use Rattle.cyclotomic.specs.Degrees.{half-below}
+use Rattle.cyclotomic.specs.Kept.{kept-start}
 use Rattle.step_laws.specs.Bound.{Bounded}
 use Rattle.step_laws.specs.WorkingLimit.{Workable}
 use Rattle.step_laws.specs.Tests.{by-order}

@@ -56,7 +56,7 @@ module _ (kind n : ℕ) (a : Parts) (l : List ℤ) (R : Ready kind n a l) where
   m-is : a .m ≡ mOf n
   m-is = parts-m n a (R .parts)
 
-  t-is : a .t ≡ tOf n
+  pub t-is : a .t ≡ tOf n
   t-is = parts-t n a (R .parts)
 
   pub free-is : a .free ≡ phi (rOf n)

@@ -15,7 +15,7 @@ use Rattle.definitions.specs.Steps.{belowOne}
 use Rattle.definitions.specs.Steps.{stepOver}
 use Rattle.definitions.specs.KeptHalf.{halfDegree, sortOf, termOf, term, start, productOf, keptSeries, keptHalf, sumOf}
 use Rattle.definitions.specs.KeptHalf.{additions}
-use Rattle.definitions.specs.Answer.{coefficients, heightOf, height, gainOf, gain, additionsFor}
+use Rattle.definitions.specs.Answer.{coefficients, heightOf, height, placeOf, peakOf, peak, gainOf, gain, additionsFor}
 use Rattle.definitions.specs.Requests.{knownKind, goodIndex, nextDivisor, divisorsDue, overAt, overAmong}
 use Rattle.answers.specs.Polynomial.{code, answered, answer}
 use Rattle.text.specs.Text.{decimalIn, decimal, sign, signed, spaced}
@@ -33,20 +33,20 @@ input =
     70 ∷ 32 ∷ 54 ∷ 32 ∷ 49 ∷ 10 ∷ 73 ∷ 32 ∷ 48 ∷ 48 ∷ 54 ∷ 32 ∷ 49 ∷ 10 ∷ 10 ∷ 70 ∷ 32 ∷ 54 ∷ 32 ∷ 45 ∷ 49 ∷ 10 ∷ 70
     ∷ 32 ∷ 48 ∷ 32 ∷ 48 ∷ []
 
--- `polynomials`, `F 6 0 2 1 1 1 : 1 -1 1`, `I 6 0 4 0 1 0 : -1 -1 0 1 1`, `? 3`, `? 4`, `F 0 2 0 0 0 0 :`
+-- `polynomials`, `F 6 0 2 1 1 0 1 : 1 -1 1`, `I 6 0 4 0 1 0 0 : -1 -1 0 1 1`, `? 3`, `? 4`, `F 0 2 0 0 0 0 0 :`
 output : List ℕ
 output =
-    112 ∷ 111 ∷ 108 ∷ 121 ∷ 110 ∷ 111 ∷ 109 ∷ 105 ∷ 97 ∷ 108 ∷ 115 ∷ 10 ∷ 70 ∷ 32 ∷ 54 ∷ 32 ∷ 48 ∷ 32 ∷ 50 ∷ 32 ∷ 49
-    ∷ 32 ∷ 49 ∷ 32 ∷ 49 ∷ 32 ∷ 58 ∷ 32 ∷ 49 ∷ 32 ∷ 45 ∷ 49 ∷ 32 ∷ 49 ∷ 10 ∷ 73 ∷ 32 ∷ 54 ∷ 32 ∷ 48 ∷ 32 ∷ 52 ∷ 32
-    ∷ 48 ∷ 32 ∷ 49 ∷ 32 ∷ 48 ∷ 32 ∷ 58 ∷ 32 ∷ 45 ∷ 49 ∷ 32 ∷ 45 ∷ 49 ∷ 32 ∷ 48 ∷ 32 ∷ 49 ∷ 32 ∷ 49 ∷ 10 ∷ 63 ∷ 32
-    ∷ 51 ∷ 10 ∷ 63 ∷ 32 ∷ 52 ∷ 10 ∷ 70 ∷ 32 ∷ 48 ∷ 32 ∷ 50 ∷ 32 ∷ 48 ∷ 32 ∷ 48 ∷ 32 ∷ 48 ∷ 32 ∷ 48 ∷ 32 ∷ 58 ∷ 10
-    ∷ []
+    112 ∷ 111 ∷ 108 ∷ 121 ∷ 110 ∷ 111 ∷ 109 ∷ 105 ∷ 97 ∷ 108 ∷ 115 ∷ 10 ∷ 70 ∷ 32 ∷ 54 ∷ 32 ∷ 48 ∷ 32 ∷ 50 ∷ 32 ∷ 49 ∷
+    32 ∷ 49 ∷ 32 ∷ 48 ∷ 32 ∷ 49 ∷ 32 ∷ 58 ∷ 32 ∷ 49 ∷ 32 ∷ 45 ∷ 49 ∷ 32 ∷ 49 ∷ 10 ∷ 73 ∷ 32 ∷ 54 ∷ 32 ∷ 48 ∷ 32 ∷ 52 ∷
+    32 ∷ 48 ∷ 32 ∷ 49 ∷ 32 ∷ 48 ∷ 32 ∷ 48 ∷ 32 ∷ 58 ∷ 32 ∷ 45 ∷ 49 ∷ 32 ∷ 45 ∷ 49 ∷ 32 ∷ 48 ∷ 32 ∷ 49 ∷ 32 ∷ 49 ∷ 10 ∷
+    63 ∷ 32 ∷ 51 ∷ 10 ∷ 63 ∷ 32 ∷ 52 ∷ 10 ∷ 70 ∷ 32 ∷ 48 ∷ 32 ∷ 50 ∷ 32 ∷ 48 ∷ 32 ∷ 48 ∷ 32 ∷ 48 ∷ 32 ∷ 48 ∷ 32 ∷ 48 ∷
+    32 ∷ 58 ∷ 10 ∷ []
 
 example : listing input ≡ output
 unfolding input output listing heading replies linesFrom lastLine reply replyTo readLine isGood isGoodWith placeOfLimit
     numberAt digitsAt valueOf valueFrom digits between kindOf wrong goodLine headOf tailOf letterOf wrongLine spaced
     signed sign decimal decimalIn answer answered code knownKind goodIndex divisorsDue overAmong overAt nextDivisor
-    coefficients height heightOf gain gainOf additionsFor additions sumOf keptHalf keptSeries productOf start term
+    coefficients height heightOf peak peakOf placeOf gain gainOf additionsFor additions sumOf keptHalf keptSeries productOf start term
     termOf sortOf halfDegree stepOver someOutside stepped accumulated accumulatedIn combed inRange entries belowOne
     degree polynomial
     F I familyTo z^-1 atDivisors productTo muIsPlus primesOf divisorsBelow rOf oddPrimeOf isPrime phi shareFactor
@@ -54,8 +54,8 @@ unfolding input output listing heading replies linesFrom lastLine reply replyTo 
     productOfTo listTo countTo someTo firsts z^ _÷_ _·_ -ˢ _+ˢ_ constant ⊖ _⊗_ _⊕_
 example = refl
 
--- `F 105 6 48 0 0 0 :`
-refused : goodLine 1 105 (record { code = 6; degree = 48; additions = 0; height = 0; gain = pos 0 }) []
-    ≡ 70 ∷ 32 ∷ 49 ∷ 48 ∷ 53 ∷ 32 ∷ 54 ∷ 32 ∷ 52 ∷ 56 ∷ 32 ∷ 48 ∷ 32 ∷ 48 ∷ 32 ∷ 48 ∷ 32 ∷ 58 ∷ 10 ∷ []
+-- `F 105 6 48 0 0 0 0 :`
+refused : goodLine 1 105 (record { code = 6; degree = 48; additions = 0; height = 0; peak = 0; gain = pos 0 }) []
+    ≡ 70 ∷ 32 ∷ 49 ∷ 48 ∷ 53 ∷ 32 ∷ 54 ∷ 32 ∷ 52 ∷ 56 ∷ 32 ∷ 48 ∷ 32 ∷ 48 ∷ 32 ∷ 48 ∷ 32 ∷ 48 ∷ 32 ∷ 58 ∷ 10 ∷ []
 unfolding goodLine headOf tailOf letterOf spaced signed sign decimal decimalIn
 refused = refl

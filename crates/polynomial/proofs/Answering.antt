@@ -16,7 +16,7 @@ use Rattle.definitions.specs.Numbers.{rOf}
 use Rattle.definitions.specs.Polynomials.{degree, polynomial}
 use Rattle.definitions.specs.Steps.{belowOne}
 use Rattle.definitions.specs.Requests.{knownKind, goodIndex, divisorsDue, overAmong, written, zeros}
-use Rattle.definitions.specs.Answer.{coefficients, height, gain, additionsFor}
+use Rattle.definitions.specs.Answer.{coefficients, height, peak, gain, additionsFor}
 use Rattle.step_laws.specs.Firsts.{length-firsts}
 use Rattle.answers.specs.Polynomial.{code, answered, answer, left, leaves}
 use Rattle.answers.specs.declared.Answer.{Answer}
@@ -57,7 +57,7 @@ Answers kind n h w a m l = (a ≡ answer kind n h w (length l)) × (m ≡ leaves
 
 -- nothing is told but a code and a degree
 abbrev pub told-only : ℕ → ℕ → Answer
-told-only c d = record { code = c; degree = d; additions = 0; height = 0; gain = 0ℤ }
+told-only c d = record { code = c; degree = d; additions = 0; height = 0; peak = 0; gain = 0ℤ }
 
 module _ (kind n : ℕ) (h w : ℤ) (l : List ℤ) where
   by-code : (c : ℕ) (a : Answer) (m : List ℤ) → a ≡ answered kind n c → m ≡ left kind n c l → code kind n h w (length l)
@@ -99,8 +99,8 @@ module _ (kind n : ℕ) (h w : ℤ) (l : List ℤ) where
         degree = degree kind n;
         additions = additionsFor kind n;
         height = height kind n;
-        gain =
-            gain kind n;
+        peak = peak kind n;
+        gain = gain kind n;
       }) (written (coefficients kind n) l) l
   unfolding answered left
   at-done = by-code DONE _ (written (coefficients kind n) l) refl refl
@@ -151,18 +151,19 @@ module _
 
     pub delivers : r .code ≡ DONE → (x : ℤ) → x ≡ gain kind n
         → Answers kind n (pos h) (pos w)
-        (record { code = DONE; degree = d; additions = r .additions; height = r .height; gain = x })
+        (record { code = DONE; degree = d; additions = r .additions; height = r .height; peak = r .peak; gain = x })
         (m ++ drop (d + 1) l) l
     unfolding coefficients
     delivers q x is =
         let y = at-done kind n (pos h) (pos w) l (last-code ∙ q) in (
-          same ed (laid .additions q) (laid .height q) is ∙ y .0,
+          same ed (laid .additions q) (laid .height q) (laid .peak q) is ∙ y .0,
           in-front (coefficients kind n) (length-firsts (suc (degree kind n)) (polynomial kind n))
               (laid .leaves ∙ ap (λ b. cond b (coefficients kind n) (zeros (suc (degree kind n))))
               (eq-eqb (r .code) DONE q)) ∙ y .1,
         )
       where
-        same : {x y z x′ y′ z′ : ℕ} {u u′ : ℤ} → x ≡ x′ → y ≡ y′ → z ≡ z′ → u ≡ u′
-            → _≡_ {A = Answer} (record { code = DONE; degree = x; additions = y; height = z; gain = u })
-            (record { code = DONE; degree = x′; additions = y′; height = z′; gain = u′ })
-        same p q r s i = record { code = DONE; degree = p i; additions = q i; height = r i; gain = s i }
+        same : {x y z v x′ y′ z′ v′ : ℕ} {u u′ : ℤ} → x ≡ x′ → y ≡ y′ → z ≡ z′ → v ≡ v′ → u ≡ u′
+            → _≡_ {A = Answer} (record { code = DONE; degree = x; additions = y; height = z; peak = v; gain = u })
+            (record { code = DONE; degree = x′; additions = y′; height = z′; peak = v′; gain = u′ })
+        same p q r t s i =
+            record { code = DONE; degree = p i; additions = q i; height = r i; peak = t i; gain = s i }

@@ -1,7 +1,7 @@
 -- The theorems between the requests: after all divisors the partial request shows the lower half of what the full
 -- request for r delivers (`same-lower-half`); the additions reported are demand 3's sum and within 2^k (D + 1)
--- (`additions-within`); the height and the gain told are those of the entries that are left (`told-of-entries`); and no
--- coefficient delivered is larger in magnitude than the working limit (`within-limit`), so none is -2^63
+-- (`additions-within`); the height, the peak and the gain told are those of the entries that are left
+-- (`told-of-entries`); and no coefficient delivered is larger in magnitude than the working limit (`within-limit`), so none is -2^63
 -- (`can-be-negated`).
 use Prim.Native.Nat.{ℕ, zero, suc, _+_, _*_, _^_, _<_, _≤_}
 use mathlib.Core.Path.{_≡_, refl, sym, _∙_, ap, subst}
@@ -22,7 +22,7 @@ use Rattle.definitions.specs.Polynomials.{polynomial, degree}
 use Rattle.definitions.specs.Steps.{entries, largest, belowOne}
 use Rattle.definitions.specs.KeptHalf.{halfDegree, sortOf, keptHalf, additions}
 use Rattle.definitions.specs.Requests.{divisorsDue, nextDivisor, overAt, overAmong, written}
-use Rattle.definitions.specs.Answer.{coefficients, heightOf, height, gainOf, gain, additionsFor}
+use Rattle.definitions.specs.Answer.{coefficients, heightOf, height, peakOf, peak, gainOf, gain, additionsFor}
 use Rattle.numbers.specs.Apart.{r-odd-squarefree}
 use Rattle.numbers.specs.HowMany.{k-of-r}
 use Rattle.numbers.specs.Below.{additions-at-most}
@@ -31,7 +31,7 @@ use Rattle.step_laws.specs.Firsts.{length-firsts}
 use Rattle.step_laws.specs.Tests.{neither}
 use Rattle.step_laws.specs.WorkingLimit.{good-limit}
 use Rattle.cyclotomic.specs.Kept.{kept-all, kept-start, step-kept}
-use Rattle.cyclotomic.specs.Heights.{height-half, height-one, at-most-height, height-least}
+use Rattle.cyclotomic.specs.Heights.{told-half, told-one, at-most-height, height-least}
 use Rattle.answers.specs.Partial as Partial
 use Rattle.answers.specs.Polynomial as Polynomial
 use Rattle.answers.proofs.WorkingLimit.{polynomial-done}
@@ -86,14 +86,14 @@ additions-within kind n h w room l e =
     told : cond (eqb (Polynomial.code kind n h w room) DONE) (additions kind (rOf n)) 0 ≡ additions kind (rOf n)
     told = ap (λ c. cond (eqb c DONE) (additions kind (rOf n)) 0) e
 
--- ---- the height and the gain are those of entries 0 to degree, as they stand in the buffer
+-- ---- the height, the peak and the gain are those of entries 0 to degree, as they stand in the buffer
 pub told-of-entries :
     (kind n : ℕ) (h w : ℤ) (l : List ℤ) → Polynomial.code kind n h w (length l) ≡ DONE
     → let a = Polynomial.answer kind n h w (length l) in
     let delivered = take (suc (a .degree)) (Polynomial.leaves kind n h w l) in
-    (a .height ≡ heightOf delivered) × (a .gain ≡ gainOf delivered)
-unfolding Polynomial.answer Polynomial.answered Polynomial.leaves Polynomial.left coefficients height gain
-told-of-entries kind n h w l e = rw e (ap heightOf (sym front), ap gainOf (sym front))
+    (a .height ≡ heightOf delivered) × (a .peak ≡ peakOf delivered) × (a .gain ≡ gainOf delivered)
+unfolding Polynomial.answer Polynomial.answered Polynomial.leaves Polynomial.left coefficients height peak gain
+told-of-entries kind n h w l e = rw e (ap heightOf (sym front), ap peakOf (sym front), ap gainOf (sym front))
   where
     N : ℕ
     N = suc (degree kind n)
@@ -134,9 +134,9 @@ within-limit kind n h w room l e i = NatL.le-trans (at-most-height kind n l i) (
     one = good-limit w (asked .1) .1
 
     go : Dec (rOf n ≡ 1) → height kind n ≤ natAbs w
-    go (yes o) = rw (height-one kind n l o) one
+    go (yes o) = rw (told-one kind n l o .0) one
     go (no o) =
-        rw (height-half kind n l o)
+        rw (told-half kind n l o .0)
         (height-least (halfDegree kind (rOf n) + 1) (polynomial kind (rOf n)) (natAbs w)
         (λ k b. subst (λ v. natAbs v ≤ natAbs w)
         (front-entry (halfDegree kind (rOf n) + 1) (polynomial kind (rOf n))

@@ -1,6 +1,6 @@
--- r > 1: after all divisors the kept half is the lower half of the polynomial of r; its height is the polynomial's; and
--- what each outcome tells and leaves (`Halfway`). r = 1: no step is taken (`laid-one`).
-use Prim.Native.Nat.{ℕ, zero, _+_, _-_, _<_, _≤_}
+-- r > 1: after all divisors the kept half is the lower half of the polynomial of r; its height is the polynomial's, and
+-- its peak t times as far up; and what each outcome tells and leaves (`Halfway`). r = 1: no step is taken (`laid-one`).
+use Prim.Native.Nat.{ℕ, zero, _+_, _*_, _-_, _<_, _≤_}
 use mathlib.Core.Path.{_≡_, sym, _∙_, ap, ap₂}
 use mathlib.Core.Bool.{true, false, cond}
 use mathlib.Core.Logic.{_≢_}
@@ -21,38 +21,47 @@ use Rattle.definitions.specs.Polynomials.{polynomial, degree}
 use Rattle.definitions.specs.Steps.{entries, largest}
 use Rattle.definitions.specs.KeptHalf.{halfDegree, additions, sumOf}
 use Rattle.definitions.specs.Requests.{divisorsDue, overAmong, zeros}
-use Rattle.definitions.specs.Answer.{coefficients, heightOf, height, additionsFor}
+use Rattle.definitions.specs.Answer.{coefficients, heightOf, height, peakOf, peak, additionsFor}
 use Rattle.numbers.specs.Apart.{r-odd-squarefree}
 use Rattle.numbers.specs.Below.{additions-all}
 use Rattle.cyclotomic.specs.Kept.{kept-all}
-use Rattle.cyclotomic.specs.Heights.{height-half, height-one}
+use Rattle.cyclotomic.specs.Heights.{told-half, told-one, peak-inside}
 use Rattle.kept.specs.Halves.{StepsDue, KeptHalfIs}
 use Rattle.growth.specs.Growth.{Lower}
 use Rattle.laying.specs.Ready.{Ready}
 use Rattle.polynomial.specs.Making.{MakingOutcomeIs, makingCode}
 use Rattle.index.specs.declared.Parts.{Parts}
 use Rattle.kept.specs.declared.RunOutcome.{RunOutcome}
+use Rattle.heights.specs.declared.Top.{Top}
 use Rattle.growth.proofs.Growing.{half-within, front-entry}
-use Rattle.laying.proofs.Laying.{above-zero, r-fits}
+use Rattle.laying.proofs.Laying.{above-zero, t-is, r-fits}
 
 pub steps-due : {kind n : ℕ} {a : Parts} {l : List ℤ} → Ready kind n a l → rOf n ≢ 1 → StepsDue kind n a
 steps-due R above = record { parts = R .parts; known = R .known; good = R .good; above = above }
+
+pub peak-room : {kind n : ℕ} {a : Parts} {l : List ℤ} → Ready kind n a l → peak kind n < length l
+peak-room {kind} {n} {a} {l} R = omega (arith, peak-inside kind n (above-zero kind n a l R), R .room)
+
+-- what `heights::peak` tells
+abbrev pub topOf : List ℤ → Top
+topOf cs = record { height = heightOf cs; place = peakOf cs }
 
 -- what the making goes by once all steps are taken on the first d + 1 entries of l and have left m there
 pub record Halfway (w kind n : ℕ) (a : Parts) (l : List ℤ) (d : ℕ) (m : List ℤ) (h : RunOutcome) : Type 0 where
   pub rest-length : length (m ++ drop (d + 1) l) ≡ length l
   pub ready : Ready kind n a (m ++ drop (d + 1) l)
   pub over : (lim : ℕ) (x : List ℤ) → h .over ≡ true → x ≡ zeros (length (m ++ drop (d + 1) l))
-      → MakingOutcomeIs kind n lim w x (record { code = OVER; additions = 0; height = 0 })
+      → MakingOutcomeIs kind n lim w x (record { code = OVER; additions = 0; height = 0; peak = 0 })
   pub lower : h .over ≡ false → Lower kind (rOf n) (m ++ drop (d + 1) l)
-  pub height-is : h .over ≡ false → (x : ℕ) → x ≡ heightOf (take (d + 1) (m ++ drop (d + 1) l)) → x ≡ height kind n
+  pub top-is : h .over ≡ false → (x : Top) → x ≡ topOf (take (d + 1) (m ++ drop (d + 1) l))
+      → (x .height ≡ height kind n) × (x .place * a .t ≡ peak kind n)
   pub tall : h .over ≡ false → (lim : ℕ) (x : List ℤ) → ltb lim (height kind n) ≡ true
       → x ≡ zeros (length (m ++ drop (d + 1) l))
-      → MakingOutcomeIs kind n lim w x (record { code = TALL; additions = 0; height = 0 })
-  pub done : h .over ≡ false → (lim : ℕ) (x : List ℤ) (y : ℕ) → ltb lim (height kind n) ≡ false
+      → MakingOutcomeIs kind n lim w x (record { code = TALL; additions = 0; height = 0; peak = 0 })
+  pub done : h .over ≡ false → (lim : ℕ) (x : List ℤ) (y z : ℕ) → ltb lim (height kind n) ≡ false
       → x ≡ coefficients kind n
-      → y ≡ height kind n
-      → MakingOutcomeIs kind n lim w x (record { code = DONE; additions = h .additions; height = y })
+      → y ≡ height kind n → z ≡ peak kind n
+      → MakingOutcomeIs kind n lim w x (record { code = DONE; additions = h .additions; height = y; peak = z })
 
 module _ (kind n : ℕ) (a : Parts) (l : List ℤ) (R : Ready kind n a l) (above : rOf n ≢ 1) (d : ℕ)
     (ed : d ≡ halfDegree kind (rOf n)) where
@@ -72,7 +81,7 @@ module _ (kind n : ℕ) (a : Parts) (l : List ℤ) (R : Ready kind n a l) (above
 
     -- a value would be out of range
     laid-over : (lim : ℕ) (x : List ℤ) → h .over ≡ true → x ≡ zeros (length (m ++ drop (d + 1) l))
-        → MakingOutcomeIs kind n lim w x (record { code = OVER; additions = 0; height = 0 })
+        → MakingOutcomeIs kind n lim w x (record { code = OVER; additions = 0; height = 0; peak = 0 })
     unfolding makingCode
     laid-over lim x o e =
         record {
@@ -81,6 +90,7 @@ module _ (kind n : ℕ) (a : Parts) (l : List ℤ) (R : Ready kind n a l) (above
           leaves = e ∙ ap zeros (rest-length ∙ R .room ∙ add-one (degree kind n));
           additions = λ q. absurd (never q);
           height = λ q. absurd (never q);
+          peak = λ q. absurd (never q);
         }
       where
         never : OVER ≡ DONE → ⊥
@@ -103,14 +113,18 @@ module _ (kind n : ℕ) (a : Parts) (l : List ℤ) (R : Ready kind n a l) (above
                 (NatL.le-trans (made .ran .inside o i) range);
           }
 
-      height-is : (x : ℕ) → x ≡ heightOf (take (d + 1) (m ++ drop (d + 1) l)) → x ≡ height kind n
-      height-is x e =
-          e ∙ ap heightOf (take-at m (drop (d + 1) l) (d + 1) m-length ∙ m-is)
-          ∙ sym (height-half kind n (above-zero kind n a l R) above)
+      top-is : (x : Top) → x ≡ topOf (take (d + 1) (m ++ drop (d + 1) l))
+          → (x .height ≡ height kind n) × (x .place * a .t ≡ peak kind n)
+      top-is x e =
+          let is = e ∙ ap topOf (take-at m (drop (d + 1) l) (d + 1) m-length ∙ m-is) in
+          let half = told-half kind n (above-zero kind n a l R) above in (
+            ap (λ y. y .height) is ∙ sym (half .0),
+            ap₂ (λ y t. y .place * t) is (t-is kind n a l R) ∙ sym (half .1),
+          )
 
       laid-tall : (lim : ℕ) (x : List ℤ) → ltb lim (height kind n) ≡ true
           → x ≡ zeros (length (m ++ drop (d + 1) l))
-          → MakingOutcomeIs kind n lim w x (record { code = TALL; additions = 0; height = 0 })
+          → MakingOutcomeIs kind n lim w x (record { code = TALL; additions = 0; height = 0; peak = 0 })
       unfolding makingCode
       laid-tall lim x t e =
           record {
@@ -118,22 +132,24 @@ module _ (kind n : ℕ) (a : Parts) (l : List ℤ) (R : Ready kind n a l) (above
             leaves = e ∙ ap zeros (rest-length ∙ R .room ∙ add-one (degree kind n));
             additions = λ q. absurd (never q);
             height = λ q. absurd (never q);
+            peak = λ q. absurd (never q);
           }
         where
           never : TALL ≡ DONE → ⊥
           never q = omega arith
 
       laid-done :
-          (lim : ℕ) (x : List ℤ) (y : ℕ) → ltb lim (height kind n) ≡ false → x ≡ coefficients kind n
-          → y ≡ height kind n
-          → MakingOutcomeIs kind n lim w x (record { code = DONE; additions = h .additions; height = y })
+          (lim : ℕ) (x : List ℤ) (y z : ℕ) → ltb lim (height kind n) ≡ false → x ≡ coefficients kind n
+          → y ≡ height kind n → z ≡ peak kind n
+          → MakingOutcomeIs kind n lim w x (record { code = DONE; additions = h .additions; height = y; peak = z })
       unfolding makingCode additionsFor divisorsDue
-      laid-done lim x y t e q =
+      laid-done lim x y z t e q p =
           record {
             code = sym (ap₂ (λ b c. cond b OVER (cond c TALL DONE)) (sym (made .ran .over) ∙ o) t);
             leaves = e;
-            additions = λ z. made .ran .additions o ∙ additions-all kind (rOf n);
-            height = λ z. q;
+            additions = λ _. made .ran .additions o ∙ additions-all kind (rOf n);
+            height = λ _. q;
+            peak = λ _. p;
           }
 
     pub halfway : Halfway w kind n a l d m h
@@ -143,21 +159,23 @@ module _ (kind n : ℕ) (a : Parts) (l : List ℤ) (R : Ready kind n a l) (above
           ready = still-ready;
           over = laid-over;
           lower = lower;
-          height-is = height-is;
+          top-is = top-is;
           tall = laid-tall;
           done = laid-done;
         }
 
--- ---- r = 1: no step is taken, and the height is 1
+-- ---- r = 1: no step is taken, the height is 1 and the peak 0
 pub laid-one :
     (kind n h w : ℕ) (x : List ℤ) → 0 < n → rOf n ≡ 1 → 1 ≤ h → x ≡ coefficients kind n
-    → MakingOutcomeIs kind n h w x (record { code = DONE; additions = 0; height = 1 })
+    → MakingOutcomeIs kind n h w x (record { code = DONE; additions = 0; height = 1; peak = 0 })
 unfolding makingCode additionsFor divisorsDue divisorsBelow listTo overAmong additions sumOf
 laid-one kind n h w x l o t e =
+    let top = told-one kind n l o in
     record {
       code = sym (ap₂ (λ r y. cond (overAmong w kind r (divisorsDue r)) OVER (cond (ltb h y) TALL DONE)) o
-          (height-one kind n l o) ∙ ap (λ b. cond b TALL DONE) (le-ltb h 1 t));
+          (top .0) ∙ ap (λ b. cond b TALL DONE) (le-ltb h 1 t));
       leaves = e;
       additions = λ z. sym (ap (additions kind) o);
-      height = λ z. sym (height-one kind n l o);
+      height = λ z. sym (top .0);
+      peak = λ z. sym (top .1);
     }

@@ -9,7 +9,7 @@ use Rattle.definitions.specs.Codes.{DONE, OVER, TALL}
 use Rattle.definitions.specs.Numbers.{rOf}
 use Rattle.definitions.specs.Polynomials.{degree}
 use Rattle.definitions.specs.Requests.{divisorsDue, overAmong, zeros}
-use Rattle.definitions.specs.Answer.{coefficients, height, additionsFor}
+use Rattle.definitions.specs.Answer.{coefficients, height, peak, additionsFor}
 use Rattle.polynomial.specs.declared.making.MakingOutcome.{MakingOutcome}
 
 -- OVER, then TALL
@@ -22,3 +22,4 @@ pub record MakingOutcomeIs (kind n h w : ℕ) (m : List ℤ) (r : MakingOutcome)
   pub leaves : m ≡ cond (eqb (r .code) DONE) (coefficients kind n) (zeros (suc (degree kind n)))
   pub additions : r .code ≡ DONE → r .additions ≡ additionsFor kind n
   pub height : r .code ≡ DONE → r .height ≡ Rattle.definitions.specs.Answer.height kind n
+  pub peak : r .code ≡ DONE → r .peak ≡ Rattle.definitions.specs.Answer.peak kind n

@@ -15,27 +15,29 @@ ghost use Rattle.step_laws.specs.WorkingLimit.{Workable};
 ghost use Rattle.laying.specs.Ready.{Ready};
 ghost use Rattle.polynomial.specs.Making.{MakingOutcomeIs};
 
-// The outcome of the making: a code, and on 0 the additions and the height.
+// The outcome of the making: a code, and on 0 the additions, the height and the peak.
 pub(crate) struct MakingOutcome {
     pub code: u64,
     pub additions: u64,
     pub height: u64,
+    pub peak: u64,
 }
 
 impl MakingOutcome {
     fn refused(code: u64) -> MakingOutcome
-        ensures { λ r. ⌜ r ≡ record { code = code; additions = 0; height = 0 } ⌝ }
+        ensures { λ r. ⌜ r ≡ record { code = code; additions = 0; height = 0; peak = 0 } ⌝ }
     {
         MakingOutcome {
             code,
             additions: 0,
             height: 0,
+            peak: 0,
         }
     }
 }
 
 // r > 1: the kept half after all divisors, and the polynomial laid out from it. The height is that of the kept half, so
-// a polynomial too tall is never laid out.
+// a polynomial too tall is never laid out; the first peak is that of the kept half, t times as far up.
 fn make_by_steps(b: &mut [i64], kind: u64, n: u64, parts: Parts, h: u64, w: u64) -> MakingOutcome
     requires { ⌜ Ready kind n parts (now b) × (rOf n ≢ 1) × Workable w ⌝ }
     ensures { λ r. ⌜ MakingOutcomeIs kind n h w (now (b .exit)) r ⌝ }
@@ -46,16 +48,19 @@ fn make_by_steps(b: &mut [i64], kind: u64, n: u64, parts: Parts, h: u64, w: u64)
         shapes::clear(b);
         return MakingOutcome::refused(answers::OVER);
     }
-    let height = heights::height(&b[..half]);
+    let top = heights::peak(&b[..half]);
+    let height = top.height;
     if h < height {
         shapes::clear(b);
         return MakingOutcome::refused(answers::TALL);
     }
     laying::from_lower_half(b, kind, n, parts);
+    let peak = top.place * parts.t;
     MakingOutcome {
         code: answers::DONE,
         additions: run.additions,
         height,
+        peak,
     }
 }
 
@@ -70,6 +75,7 @@ fn make(b: &mut [i64], kind: u64, n: u64, parts: Parts, h: u64, w: u64) -> Makin
             code: answers::DONE,
             additions: 0,
             height: 1,
+            peak: 0,
         };
     }
     make_by_steps(b, kind, n, parts, h, w)
@@ -96,6 +102,7 @@ pub(crate) fn answer_in(kind: u64, n: u64, parts: Parts, h: u64, w: u64, buf: &m
         degree,
         additions: made.additions,
         height: made.height,
+        peak: made.peak,
         gain,
     }
 }

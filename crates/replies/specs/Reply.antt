@@ -24,7 +24,7 @@ replyTo number q =
 unfoldable pub reply : ℕ → List ℕ → List ℕ
 reply number line = replyTo number (readLine line)
 
--- a line's bytes are never more: letter, five numbers of at most 21 bytes with their spaces, the gain and coefficients
+-- a line's bytes are never more: letter, six numbers of at most 21 bytes with their spaces, the gain and coefficients
 -- of at most 22, colon, newline
 abbrev pub MOST : ℕ
-MOST = 90243
+MOST = 90264

@@ -7,4 +7,4 @@ pub use reply::answer_line;
 pub use reply::put_reply;
 
 // Room for any line that is printed.
-pub const MOST: usize = 90243;
+pub const MOST: usize = 90264;

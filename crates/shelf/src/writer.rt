@@ -47,7 +47,8 @@ pub(crate) fn write_with(
     if count as u64 != degree + 1 {
         return Written::refused(answers::FIELD, 0);
     }
-    let w = least_width(heights::height(coeffs));
+    let top = heights::peak(coeffs);
+    let w = least_width(top.height);
     if w == 0 {
         return Written::refused(answers::OVER, degree);
     }

@@ -15,7 +15,7 @@ pub fn polynomial(kind: u64, n: u64, h: i64, w: i64, asked: usize, buf: &mut [i6
     printing::signed_item(w);
     numbers(
         b"",
-        &[room as u64, a.code, a.degree, a.additions, a.height],
+        &[room as u64, a.code, a.degree, a.additions, a.height, a.peak],
         b" ",
     );
     printing::signed_item(a.gain);

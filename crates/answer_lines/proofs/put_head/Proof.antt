@@ -1,4 +1,4 @@
--- `answer_lines::put_head` meets its contract: its seven parts, one after the other.
+-- `answer_lines::put_head` meets its contract: its six parts, one after the other.
 use native.Mathlib.Omega.{arith}
 use mir.Syntax.{w64}
 use mir.Facts.{toZ-ofZ}
@@ -16,11 +16,8 @@ put-requires c κs = search needs
 put-three-requires : tie.Need-put-three-requires
 put-three-requires c κs = search needs
 
-put-item-requires : tie.Need-put-item-requires
-put-item-requires c κs = search needs
-
-put-item-requires-2 : tie.Need-put-item-requires-2
-put-item-requires-2 c κs = search needs
+put-three-requires-2 : tie.Need-put-three-requires-2
+put-three-requires-2 c κs = search needs
 
 put-signed-requires : tie.Need-put-signed-requires
 put-signed-requires c κs = search needs
@@ -40,23 +37,21 @@ returns c =
     let space-put = colon-put .before .before .before .before in
     let gain-put = space-put .before .before .before .before in
     let height-put = gain-put .before .before .before .before .before in
-    let additions-put = height-put .before .before .before .before in
-    let code-put = additions-put .before .before .before .before in
+    let code-put = height-put .before .before .before .before in
     let letter-put = code-put .before .before .before .before in
     let s = letter-put .before .before .before .before in
     let first = rw (letter-put .before .letter-of .ensures) at (letter-put .put .ensures) in
     let told = gain-put .before .struct-told .given in
-    let gain = rw (toZ-ofZ {w = w64} {z = s .args .a .gain} (record { sfits = told .1 .1 .1 .1 .0 .1 })) at
+    let gain = rw (toZ-ofZ {w = w64} {z = s .args .a .gain} (record { sfits = told .1 .1 .1 .1 .1 .0 .1 })) at
     (gain-put .put-signed .ensures .0) in (
       put-headed (s .args .kind) (s .args .n) (s .args .a) first (code-put .put-three .ensures .0)
-          (additions-put .put-item .ensures .0) (height-put .put-item2 .ensures .0) gain
+          (height-put .put-three2 .ensures .0) gain
           (space-put .put2 .ensures) (colon-put .put3 .ensures),
       omega (
         arith,
         first .place,
         code-put .put-three .ensures .1,
-        additions-put .put-item .ensures .1,
-        height-put .put-item2 .ensures .1,
+        height-put .put-three2 .ensures .1,
         gain-put .put-signed .ensures .1,
         space-put .put2 .ensures .place,
         colon-put .put3 .ensures .place,
@@ -70,8 +65,7 @@ put-head-spec =
     letter-of-requires
     put-requires
     put-three-requires
-    put-item-requires
-    put-item-requires-2
+    put-three-requires-2
     put-signed-requires
     put-requires-2
     put-requires-3

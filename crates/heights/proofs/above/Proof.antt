@@ -1,31 +1,31 @@
--- `above`: what is passed over adds nothing to the largest so far and what is left (Looks).
-use Prim.Native.Nat.{ℕ, _≤_, _-_, _<_, max}
+-- `above`: a look over the rest comes to the same with what is passed over and without it (Looks).
+use Prim.Native.Nat.{ℕ, _≤_, _-_, _<_}
 use mathlib.Core.Path.{_≡_, refl, _∙_, ap, subst}
 use native.Mathlib.Omega.{arith}
 use borrow.Author.Needs.{needs}
 use lib.ListN.{length, getD, drop}
 use lib.IntN.{pos, natAbs}
-use Rattle.definitions.specs.Answer.{heightOf}
-use Rattle.heights.proofs.Looks.{height-passed}
+use Rattle.heights.specs.Looks.{look}
+use Rattle.heights.proofs.Looks.{look-passed}
 use Rattle.heights.proofs.Signs.{passed}
 use Rattle.heights.proofs.above.Statement.{statement}
 use Rattle.heights.proofs.above.Tie as tie
 
 abbrev Inv-loop : tie.InvT-loop
 Inv-loop coeffs from h i₀ i =
-    (from ≤ i) × (i ≤ length coeffs) × (max h (heightOf (drop i coeffs)) ≡ max h (heightOf (drop from coeffs)))
+    (from ≤ i) × (i ≤ length coeffs) × ((p : ℕ) → look h p i (drop i coeffs) ≡ look h p from (drop from coeffs))
 
 abbrev μ-loop : tie.MeasureT-loop
 μ-loop coeffs from h i₀ i = length coeffs - i
 
 loop-holds : tie.Need-loop-holds Inv-loop μ-loop
-loop-holds c = (omega arith, omega arith, refl)
+loop-holds c = (omega arith, omega arith, λ p. refl)
 
-mul-magnitude : tie.Need-mul-magnitude Inv-loop μ-loop
-mul-magnitude c = omega arith
+mul-x : tie.Need-mul-x Inv-loop μ-loop
+mul-x c = omega arith
 
-shared-slice-copy-out-magnitude : tie.Need-shared-slice-copy-out-magnitude Inv-loop μ-loop
-shared-slice-copy-out-magnitude c = omega arith
+shared-slice-copy-out-x : tie.Need-shared-slice-copy-out-x Inv-loop μ-loop
+shared-slice-copy-out-x c = omega arith
 
 magnitude-requires : tie.Need-magnitude-requires Inv-loop μ-loop
 magnitude-requires c κs = search needs
@@ -35,7 +35,7 @@ seen : (c : tie.After-magnitude Inv-loop μ-loop) → c .magnitude .result
     ≡ natAbs (getD (c .before .before .before .before .args .coeffs .now) (c .before .before .before .loop .i) (pos 0))
 seen c =
     let x = getD (c .before .before .before .before .args .coeffs .now) (c .before .before .before .loop .i) (pos 0) in
-    c .magnitude .ensures ∙ ap natAbs (passed x (c .before .magnitude-arg .given))
+    c .magnitude .ensures ∙ ap natAbs (passed x (c .before .x .given))
 
 returns : tie.Need-returns Inv-loop μ-loop
 returns c =
@@ -60,8 +60,8 @@ loop-again c =
     let small = subst (λ m. m ≤ at .before .args .h) (seen (c .before)) (c .if1 .left) in (
       omega arith,
       omega arith,
-      height-passed _ _ _ (c .before .before .before .loop-test .taken) small
-          ∙ at .loop .inv .2,
+      λ p. look-passed _ _ _ p (c .before .before .before .loop-test .taken) small
+          ∙ at .loop .inv .2 p,
     )
 
 returns-2 : tie.Need-returns-2 Inv-loop μ-loop
@@ -79,8 +79,8 @@ above-spec =
     Inv-loop
     μ-loop
     loop-holds
-    mul-magnitude
-    shared-slice-copy-out-magnitude
+    mul-x
+    shared-slice-copy-out-x
     magnitude-requires
     returns
     add-i

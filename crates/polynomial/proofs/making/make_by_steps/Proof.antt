@@ -1,6 +1,6 @@
--- `make_by_steps` meets its contract: the kept half after all divisors, its height, and the outcome (`Halfway`). What
--- is known after `half_degree`, after the steps and after the height is named once each.
-use Prim.Native.Nat.{ℕ, _+_, _≤_}
+-- `make_by_steps` meets its contract: the kept half after all divisors, its height and peak, and the outcome (`Halfway`).
+-- What is known after `half_degree`, after the steps and after the peak is named once each.
+use Prim.Native.Nat.{ℕ, _+_, _*_, _≤_}
 use mathlib.Core.Path.{_≡_, sym, _∙_, ap}
 use mathlib.Core.Bool.{false}
 use mathlib.Core.List.{List, _++_}
@@ -12,9 +12,9 @@ use lib.ListN.{length, take, drop}
 use lib.Seq.{length-take-le}
 use Rattle.definitions.specs.Numbers.{rOf}
 use Rattle.definitions.specs.KeptHalf.{halfDegree}
-use Rattle.definitions.specs.Answer.{height}
+use Rattle.definitions.specs.Answer.{height, peak}
 use Rattle.kept.proofs.Stopping.{half-is}
-use Rattle.polynomial.proofs.Stepping.{steps-due, half-room, Halfway, halfway}
+use Rattle.polynomial.proofs.Stepping.{steps-due, half-room, peak-room, Halfway, halfway}
 use borrow.Author.Needs.{needs}
 use Rattle.polynomial.proofs.making.make_by_steps.Statement.{statement}
 use Rattle.polynomial.proofs.making.make_by_steps.Tie as tie
@@ -55,7 +55,7 @@ module _ (c : tie.After-all-steps) where
   part-room = omega (arith, mid .rest-length, room at-start)
 
 -- after the height
-module _ (t : tie.After-height) where
+module _ (t : tie.After-peak) where
   abbrev steps : tie.After-all-steps
   steps = t .before .before .before .before
 
@@ -65,11 +65,13 @@ module _ (t : tie.After-height) where
   inside : steps .all-steps .result .over ≡ false
   inside = t .before .before .if1 .left
 
-  high : t .height .result ≡ height (begin .args .kind) (begin .args .n)
-  high = mid steps .height-is inside _ (t .height .ensures)
+  high : (t .peak .result .height ≡ height (begin .args .kind) (begin .args .n))
+      × (t .peak .result .place * begin .args .parts .t ≡ peak (begin .args .kind) (begin .args .n))
+  high = mid steps .top-is inside _ (t .peak .ensures)
 
-  told : ltb (begin .args .h) (t .height .result) ≡ ltb (begin .args .h) (height (begin .args .kind) (begin .args .n))
-  told = ap (ltb (begin .args .h)) high
+  told : ltb (begin .args .h) (t .peak .result .height)
+      ≡ ltb (begin .args .h) (height (begin .args .kind) (begin .args .n))
+  told = ap (ltb (begin .args .h)) (high .0)
 
 half-degree-requires : tie.Need-half-degree-requires
 half-degree-requires c κs = search needs
@@ -103,14 +105,14 @@ returns c =
     (mid (c .before .before .before .before .before .before) .over _ _ (c .before .before .before .before .if1 .taken)
     (c .before .before .clear .ensures))
 
-slice-reshare-prefix-height : tie.Need-slice-reshare-prefix-height
-slice-reshare-prefix-height c = part-room (c .before .before)
+slice-reshare-prefix-peak : tie.Need-slice-reshare-prefix-peak
+slice-reshare-prefix-peak c = part-room (c .before .before)
 
-slice-aggregate-height : tie.Need-slice-aggregate-height
-slice-aggregate-height c = sym (length-take-le _ _ (part-room (c .before .before .before)))
+slice-aggregate-peak : tie.Need-slice-aggregate-peak
+slice-aggregate-peak c = sym (length-take-le _ _ (part-room (c .before .before .before)))
 
-height-requires : tie.Need-height-requires
-height-requires c κs = search needs
+peak-requires : tie.Need-peak-requires
+peak-requires c κs = search needs
 
 clear-requires-2 : tie.Need-clear-requires-2
 clear-requires-2 c κs = search needs
@@ -132,14 +134,19 @@ from-lower-half-requires : tie.Need-from-lower-half-requires
 from-lower-half-requires c κs =
     let t = c .before .before in (mid (steps t) .ready, mid (steps t) .lower (inside t))
 
+mul-peak : tie.Need-mul-peak
+mul-peak c =
+    let t = c .before .before .before .before .before .before in
+    omega (arith, high t .1, peak-room (begin t .pre .0))
+
 same-length-3 : tie.Need-same-length-3
 same-length-3 c = search needs
 
 returns-3 : tie.Need-returns-3
 returns-3 c =
-    let t = c .before .before .before .before in
-    mid (steps t) .done (inside t) _ _ _ (sym (told t) ∙ le-ltb _ _ (c .before .before .before .if2 .left))
-    (c .before .from-lower-half .ensures) (high t)
+    let t = c .before .before .before .before .before .before in
+    mid (steps t) .done (inside t) _ _ _ _ (sym (told t) ∙ le-ltb _ _ (c .before .before .before .before .before .if2 .left))
+    (c .before .before .before .from-lower-half .ensures) (high t .0) (high t .1)
 
 pub make-by-steps-spec : {M : Type 1} → statement M
 make-by-steps-spec =
@@ -154,13 +161,14 @@ make-by-steps-spec =
     refused-requires
     same-length
     returns
-    slice-reshare-prefix-height
-    slice-aggregate-height
-    height-requires
+    slice-reshare-prefix-peak
+    slice-aggregate-peak
+    peak-requires
     clear-requires-2
     refused-requires-2
     same-length-2
     returns-2
     from-lower-half-requires
+    mul-peak
     same-length-3
     returns-3)

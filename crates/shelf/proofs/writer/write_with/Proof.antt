@@ -1,6 +1,6 @@
 -- `write_with`: each return by the tests that led there (Writing).
 use Prim.Native.Nat.{_+_, _*_, _≤_}
-use mathlib.Core.Path.{_≡_, sym, _∙_}
+use mathlib.Core.Path.{_≡_, sym, _∙_, ap}
 use mathlib.Core.Bool.{true, false, _||_}
 use lib.ListN.{length}
 use lib.Dec.{eqb, ltb}
@@ -40,7 +40,7 @@ index-ok : (c : tie.Else3) → (eqb (from3 c .args .n) 0 || ltb 65535 (from3 c .
 index-ok c = index-right _ (c .before .if2 .left) (c .if3 .left)
 
 made : (c : tie.Else5) → c .before .least-width .result ≡ width (from5 c .args .coeffs .now)
-made c = width-made _ _ _ (c .before .before .height .ensures) (c .before .least-width .ensures)
+made c = width-made _ _ _ (ap (λ top. top .height) (c .before .before .peak .ensures)) (c .before .least-width .ensures)
 
 fit : (c : tie.Else5) → Fitting (from5 c .args .coeffs .now) (c .before .least-width .result)
 fit c = width-fits _ _ (made c) (nonzero _ (c .if5 .left))
@@ -94,8 +94,8 @@ returns-4 c =
     told (c .refused4 .ensures) (count-wrong _ _ _ _ _ (kind-ok (e .before .before)) (index-ok e)
     (c .before .if4 .taken))
 
-height-requires : tie.Need-height-requires
-height-requires c κs = search needs
+peak-requires : tie.Need-peak-requires
+peak-requires c κs = search needs
 
 least-width-requires : tie.Need-least-width-requires
 least-width-requires c κs = search needs
@@ -109,7 +109,7 @@ returns-5 c =
     let looked = c .before .before in
     let counted = looked .before .before in
     let e = counted .before in
-    let w = width-made _ _ _ (looked .before .height .ensures) (looked .least-width .ensures) in
+    let w = width-made _ _ _ (ap (λ top. top .height) (looked .before .peak .ensures)) (looked .least-width .ensures) in
     told (c .refused5 .ensures) (too-low _ _ _ _ _ (kind-ok (e .before .before)) (index-ok e) (counted .if4 .left)
     (width-none _ (sym w ∙ c .before .if5 .taken)))
 
@@ -167,7 +167,7 @@ write-with-spec =
     add-if4
     refused-requires-4
     returns-4
-    height-requires
+    peak-requires
     least-width-requires
     refused-requires-5
     returns-5

@@ -1,29 +1,30 @@
--- `height`: the largest so far and what is left give the height of all, and what comes next is larger (Looks).
-use Prim.Native.Nat.{_+_, _≤_, _<_, _-_, max}
-use mathlib.Core.Path.{_≡_, ap, _∙_}
+-- `peak`: from what was found last, a look over the rest comes to what a look over all does (Looks); what comes next is
+-- larger.
+use Prim.Native.Nat.{_+_, _≤_, _<_, _-_}
+use mathlib.Core.Path.{_≡_, sym, ap, _∙_}
 use native.Mathlib.Omega.{arith}
 use borrow.Author.Needs.{needs}
 use lib.ListN.{length, getD, drop, drop-of-length-le}
 use lib.IntN.{pos, natAbs}
-use Rattle.definitions.specs.Answer.{heightOf}
-use Rattle.heights.proofs.Looks.{height-found}
+use Rattle.heights.specs.Looks.{look}
+use Rattle.heights.proofs.Looks.{look-found, look-all}
 use Rattle.heights.proofs.Signs.{passed}
-use Rattle.heights.proofs.height.Statement.{statement}
-use Rattle.heights.proofs.height.Tie as tie
+use Rattle.heights.proofs.peak.Statement.{statement}
+use Rattle.heights.proofs.peak.Tie as tie
 
 abbrev Inv-loop : tie.InvT-loop
-Inv-loop coeffs h₀ i₀ h i =
-    (max h (heightOf (drop i coeffs)) ≡ heightOf coeffs) × (i ≤ length coeffs)
+Inv-loop coeffs h₀ p₀ i₀ h p i =
+    (look h p i (drop i coeffs) ≡ look 0 0 0 coeffs) × (i ≤ length coeffs)
     × (i < length coeffs → h < natAbs (getD coeffs i (pos 0)))
 
 abbrev μ-loop : tie.MeasureT-loop
-μ-loop coeffs h₀ i₀ h i = length coeffs - i
+μ-loop coeffs h₀ p₀ i₀ h p i = length coeffs - i
 
 above-requires : tie.Need-above-requires Inv-loop μ-loop
 above-requires c κs = omega arith
 
 loop-holds : tie.Need-loop-holds Inv-loop μ-loop
-loop-holds c = let f = c .above .ensures in (f .1 .0 ∙ omega arith, f .0 .1, f .1 .1)
+loop-holds c = let f = c .above .ensures in (f .1 .0 0, f .0 .1, f .1 .1)
 
 mul-magnitude : tie.Need-mul-magnitude Inv-loop μ-loop
 mul-magnitude c = omega arith
@@ -52,20 +53,20 @@ loop-again c =
     let seen : c .before .magnitude .result ≡ natAbs (getD cs i (pos 0)) =
     c .before .magnitude .ensures ∙ ap natAbs (passed (getD cs i (pos 0)) (c .before .before .magnitude-arg .given)) in
     let f = c .above2 .ensures in (
-      f .1 .0 ∙ ap (λ m. max m (heightOf (drop (i + 1) cs))) seen
-          ∙ height-found cs i (at .loop .h) more (at .loop .inv .2 more) ∙ at .loop .inv .0,
+      f .1 .0 i ∙ ap (λ m. look m i (i + 1) (drop (i + 1) cs)) seen
+          ∙ look-found cs i (at .loop .h) (at .loop .p) more (at .loop .inv .2 more) ∙ at .loop .inv .0,
       f .0 .1,
       f .1 .1,
     )
 
 returns : tie.Need-returns Inv-loop μ-loop
-unfolding heightOf
+unfolding look
 returns c =
     let cs = c .before .before .before .args .coeffs .now in
-    omega (arith, c .before .loop .inv .0, ap heightOf (drop-of-length-le cs (c .loop-test .left)))
+    sym (ap (look _ _ _) (drop-of-length-le cs (c .loop-test .left))) ∙ c .before .loop .inv .0 ∙ look-all cs
 
-pub height-spec : {M : Type 1} → statement M
-height-spec =
+pub peak-spec : {M : Type 1} → statement M
+peak-spec =
     tie.close
     (tie.spec
     Inv-loop
