@@ -1,6 +1,6 @@
 -- What is printed for an answer (docs/RULES.md, 'The listing'): the letter, n, code, degree, additions, height, peak,
--- gain, a colon, and on code 0 the coefficients, with one space between items; for any line that is not good, `?`, a space and
--- its number.
+-- gain, a colon, and on code 0 the coefficients, with one space between items; for any line that is not good, `?`, a
+-- space and its number.
 use Prim.Native.Nat.{ℕ}
 use mathlib.Core.Bool.{cond}
 use mathlib.Core.List.{List, [], _∷_, _++_}
@@ -16,7 +16,8 @@ letterOf kind = cond (eqb kind 1) 70 73
 unfoldable pub headOf : ℕ → ℕ → Answer → List ℕ
 headOf kind n a =
     letterOf kind
-    ∷ spaced (pos n ∷ pos (a .code) ∷ pos (a .degree) ∷ pos (a .additions) ∷ pos (a .height) ∷ pos (a .peak) ∷ a .gain ∷ [])
+    ∷ spaced
+    (pos n ∷ pos (a .code) ∷ pos (a .degree) ∷ pos (a .additions) ∷ pos (a .height) ∷ pos (a .peak) ∷ a .gain ∷ [])
     ++ (SPACE ∷ COLON ∷ [])
 
 -- after the colon: `cs` are the coefficients, printed on code 0 alone

@@ -52,7 +52,8 @@ pub struct Stop {
 impl Answer {
     // A refusal: its code and the degree that it tells; the rest is 0.
     pub fn refused(code: u64, degree: u64) -> Answer
-        ensures { λ r. ⌜ r ≡ record { code = code; degree = degree; additions = 0; height = 0; peak = 0; gain = pos 0 } ⌝ }
+        ensures { λ r.
+            ⌜ r ≡ record { code = code; degree = degree; additions = 0; height = 0; peak = 0; gain = pos 0 } ⌝ }
     {
         Answer {
             code,

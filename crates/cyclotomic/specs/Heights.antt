@@ -1,7 +1,8 @@
--- The height and the peak for n are those of the kept half for its r, the peak t times as far up (`told-half`), and 1 and 0
--- where r is 1 (`told-one`). Taking n apart moves, negates and repeats coefficients: z^t for z moves them to t times their
--- place (`told-m`); for 2 r they keep magnitude and place, or stand there twice, the first copy in its place
--- (`told-twice`); and those of r are mirrored, so that the first of the tallest stands in the lower half (`told-lower`).
+-- The height and the peak for n are those of the kept half for its r, the peak t times as far up (`told-half`), and 1
+-- and 0 where r is 1 (`told-one`). Taking n apart moves, negates and repeats coefficients: z^t for z moves them to t
+-- times their place (`told-m`); those of F(2r) are those of F(r) up to signs, and I(r) stands in I(2r) twice, the first
+-- time in its place (`told-twice`); and those of r are mirrored, so that the first of the tallest is in the lower half
+-- (`told-lower`).
 use Prim.Native.Nat.{ℕ, zero, suc, _+_, _*_, _-_, _/_, _%_, _≤_, _<_, _∣_, max}
 use mathlib.Core.Path.{_≡_, refl, sym, _∙_, ap, subst}
 use mathlib.Core.List.{List}
@@ -95,7 +96,7 @@ pub record Tallest (f : Series) (p h : ℕ) : Type 0 where
   pub most : (i : ℕ) → natAbs (f i) ≤ h
   pub first : (i : ℕ) → i < p → natAbs (f i) < h
 
--- it is the first of the tallest among the first n already, where they reach as far
+-- from a list of first coefficients, and back where the list reaches as far
 module _ (n : ℕ) (f : Series) where
   peak-first : 0 < n → FirstPlace (heightOf (firsts n f)) n f (peakOf (firsts n f))
   unfolding peakOf
@@ -181,7 +182,8 @@ module _ (t : ℕ) (p : 0 < t) (f : Series) {q h : ℕ} (T : Tallest f q h) wher
       most i (no e) = none-le (spread-off t i f e)
 
       first : (i : ℕ) → i < q * t → Dec (i % t ≡ 0) → natAbs (spread t f i) < h
-      first i l (yes e) = rw (spread-on t i f e) (T .first (i / t) (NatL.div-lt-iff-lt-mul {k = t} {x = i} {y = q} p .1 l))
+      first i l (yes e) =
+          rw (spread-on t i f e) (T .first (i / t) (NatL.div-lt-iff-lt-mul {k = t} {x = i} {y = q} p .1 l))
       first i l (no e) = rw (spread-off t i f e) (T .some)
 
 module _ (kind n : ℕ) (p : 0 < n) where

@@ -16,8 +16,8 @@ use lib.ListN.{length, take, getD}
 use lib.Seq.{take-length, take-suc}
 use Rattle.definitions.specs.Integers.{_⊝_, 0ℤ}
 use Rattle.definitions.specs.Series.{Series, 𝟙, _+ˢ_, -ˢ, _·_, z^, firsts}
-use Rattle.definitions.specs.Numbers.{divides, listTo, divisorsBelow, muIsPlus, phi}
-use Rattle.definitions.specs.Polynomials.{productTo, atDivisors, z^-1, F, I, polynomial, degree}
+use Rattle.definitions.specs.Numbers.{divides, listTo, divisorsBelow, muIsPlus}
+use Rattle.definitions.specs.Polynomials.{productTo, atDivisors, z^-1, F, I, polynomial}
 use Rattle.definitions.specs.Steps.{Sort, comb, accumulate, stepped, accumulated, entries, stepList}
 use Rattle.definitions.specs.Requests.{nextDivisor}
 use Rattle.definitions.specs.KeptHalf.{halfDegree, sortOf, termOf, term, start, productOf, keptSeries, keptHalf}

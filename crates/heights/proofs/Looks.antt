@@ -1,7 +1,7 @@
 -- One turn of the look over the entries of a slice, and what a look from the start comes to: the height and the peak
 -- (`look-all`).
-use Prim.Native.Nat.{ℕ, zero, suc, _+_, _<_, _≤_, max}
-use mathlib.Core.Path.{_≡_, refl, sym, _∙_, ap, ap₂}
+use Prim.Native.Nat.{ℕ, suc, _+_, _<_, _≤_, max}
+use mathlib.Core.Path.{_≡_, refl, sym, _∙_, ap}
 use mathlib.Core.Bool.{true, cond}
 use mathlib.Core.List.{List, [], _∷_}
 use native.Mathlib.Omega.{arith}

@@ -44,14 +44,13 @@ output =
 
 example : listing input ≡ output
 unfolding input output listing heading replies linesFrom lastLine reply replyTo readLine isGood isGoodWith placeOfLimit
-    numberAt digitsAt valueOf valueFrom digits between kindOf wrong goodLine headOf tailOf letterOf wrongLine spaced
-    signed sign decimal decimalIn answer answered code knownKind goodIndex divisorsDue overAmong overAt nextDivisor
-    coefficients height heightOf peak peakOf placeOf gain gainOf additionsFor additions sumOf keptHalf keptSeries productOf start term
-    termOf sortOf halfDegree stepOver someOutside stepped accumulated accumulatedIn combed inRange entries belowOne
-    degree polynomial
-    F I familyTo z^-1 atDivisors productTo muIsPlus primesOf divisorsBelow rOf oddPrimeOf isPrime phi shareFactor
-    divides
-    productOfTo listTo countTo someTo firsts z^ _÷_ _·_ -ˢ _+ˢ_ constant ⊖ _⊗_ _⊕_
+    numberAt digitsAt valueOf valueFrom digits between kindOf wrong goodLine headOf tailOf letterOf wrongLine
+    spaced signed sign decimal decimalIn answer answered code knownKind goodIndex divisorsDue overAmong overAt
+    nextDivisor coefficients height heightOf peak peakOf placeOf gain gainOf additionsFor additions sumOf keptHalf
+    keptSeries productOf start term termOf sortOf halfDegree stepOver someOutside stepped accumulated
+    accumulatedIn combed inRange entries belowOne degree polynomial F I familyTo z^-1 atDivisors productTo
+    muIsPlus primesOf divisorsBelow rOf oddPrimeOf isPrime phi shareFactor divides productOfTo listTo countTo
+    someTo firsts z^ _÷_ _·_ -ˢ _+ˢ_ constant ⊖ _⊗_ _⊕_
 example = refl
 
 -- `F 105 6 48 0 0 0 0 :`

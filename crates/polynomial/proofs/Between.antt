@@ -1,8 +1,8 @@
 -- The theorems between the requests: after all divisors the partial request shows the lower half of what the full
 -- request for r delivers (`same-lower-half`); the additions reported are demand 3's sum and within 2^k (D + 1)
 -- (`additions-within`); the height, the peak and the gain told are those of the entries that are left
--- (`told-of-entries`); and no coefficient delivered is larger in magnitude than the working limit (`within-limit`), so none is -2^63
--- (`can-be-negated`).
+-- (`told-of-entries`); and no coefficient delivered is larger in magnitude than the working limit (`within-limit`), so
+-- none is -2^63 (`can-be-negated`).
 use Prim.Native.Nat.{ℕ, zero, suc, _+_, _*_, _^_, _<_, _≤_}
 use mathlib.Core.Path.{_≡_, refl, sym, _∙_, ap, subst}
 use mathlib.Core.Bool.{false, cond}

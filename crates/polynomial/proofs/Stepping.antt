@@ -1,6 +1,6 @@
 -- r > 1: after all divisors the kept half is the lower half of the polynomial of r; its height is the polynomial's, and
 -- its peak t times as far up; and what each outcome tells and leaves (`Halfway`). r = 1: no step is taken (`laid-one`).
-use Prim.Native.Nat.{ℕ, zero, _+_, _*_, _-_, _<_, _≤_}
+use Prim.Native.Nat.{ℕ, _+_, _*_, _-_, _<_, _≤_}
 use mathlib.Core.Path.{_≡_, sym, _∙_, ap, ap₂}
 use mathlib.Core.Bool.{true, false, cond}
 use mathlib.Core.Logic.{_≢_}
@@ -9,7 +9,7 @@ use native.Mathlib.Omega.{arith}
 use native.Mathlib.Nat as NatL
 use native.Mathlib.Numerals.{add-one}
 use borrow.Author.Tests.{le-ltb}
-use lib.ListN.{length, getD, take, drop, length-append, length-drop, List·getD-append}
+use lib.ListN.{length, take, drop, length-append, length-drop, List·getD-append}
 use lib.Seq.{take-at}
 use lib.Dec.{ltb}
 use lib.IntN.{ℤ}

@@ -1,5 +1,5 @@
--- `make_by_steps` meets its contract: the kept half after all divisors, its height and peak, and the outcome (`Halfway`).
--- What is known after `half_degree`, after the steps and after the peak is named once each.
+-- `make_by_steps` meets its contract: the kept half after all divisors, its height and peak, and the outcome
+-- (`Halfway`). What is known after `half_degree`, after the steps and after the peak is named once each.
 use Prim.Native.Nat.{ℕ, _+_, _*_, _≤_}
 use mathlib.Core.Path.{_≡_, sym, _∙_, ap}
 use mathlib.Core.Bool.{false}
@@ -145,8 +145,9 @@ same-length-3 c = search needs
 returns-3 : tie.Need-returns-3
 returns-3 c =
     let t = c .before .before .before .before .before .before in
-    mid (steps t) .done (inside t) _ _ _ _ (sym (told t) ∙ le-ltb _ _ (c .before .before .before .before .before .if2 .left))
-    (c .before .before .before .from-lower-half .ensures) (high t .0) (high t .1)
+    let low = c .before .before .before in
+    mid (steps t) .done (inside t) _ _ _ _ (sym (told t) ∙ le-ltb _ _ (low .before .before .if2 .left))
+    (low .from-lower-half .ensures) (high t .0) (high t .1)
 
 pub make-by-steps-spec : {M : Type 1} → statement M
 make-by-steps-spec =
