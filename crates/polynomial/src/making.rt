@@ -55,7 +55,8 @@ fn make_by_steps(b: &mut [i64], kind: u64, n: u64, parts: Parts, h: u64, w: u64)
         return MakingOutcome::refused(answers::TALL);
     }
     laying::from_lower_half(b, kind, n, parts);
-    let peak = top.place * parts.t;
+    let t = parts.t;
+    let peak = top.place * t;
     MakingOutcome {
         code: answers::DONE,
         additions: run.additions,

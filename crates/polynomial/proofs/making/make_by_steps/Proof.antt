@@ -136,7 +136,7 @@ from-lower-half-requires c κs =
 
 mul-peak : tie.Need-mul-peak
 mul-peak c =
-    let t = c .before .before .before .before .before .before in
+    let t = c .before .before .before .before .before in
     omega (arith, high t .1, peak-room (begin t .pre .0))
 
 same-length-3 : tie.Need-same-length-3
@@ -144,8 +144,8 @@ same-length-3 c = search needs
 
 returns-3 : tie.Need-returns-3
 returns-3 c =
-    let t = c .before .before .before .before .before .before in
-    let low = c .before .before .before in
+    let t = c .before .before .before .before .before in
+    let low = c .before .before in
     mid (steps t) .done (inside t) _ _ _ _ (sym (told t) ∙ le-ltb _ _ (low .before .before .if2 .left))
     (low .from-lower-half .ensures) (high t .0) (high t .1)
 
