@@ -118,10 +118,18 @@ module _ (n : ℕ) (f : Series) where
       → Tallest f (peakOf (firsts n f)) (heightOf (firsts n f))
   tallest-of l some most =
       let F = peak-first l in
-      record { some = some; here = F .here; most = most; first = λ i u. less (most i) (F .before i u) }
-    where
-      less : {a b : ℕ} → a ≤ b → a ≢ b → a < b
-      less v w = omega arith
+      record { some = some; here = F .here; most = most; first = λ i u. omega (arith, most i, F .before i u) }
+
+-- as far as the peak the same magnitudes, and none larger after it
+stays : {f g : Series} {p h : ℕ} → ((i : ℕ) → i < suc p → natAbs (g i) ≡ natAbs (f i)) → ((i : ℕ) → natAbs (g i) ≤ h)
+    → Tallest f p h → Tallest g p h
+stays {p = p} same most T =
+    record {
+      some = T .some;
+      here = same p (omega arith) ∙ T .here;
+      most = most;
+      first = λ i u. rw (same i (omega arith)) (T .first i u);
+    }
 
 none-le : {a : ℤ} {h : ℕ} → a ≡ 0ℤ → natAbs a ≤ h
 none-le e = rw e (omega arith)
@@ -213,20 +221,8 @@ module _ (r : ℕ) (O : OddSquarefree r) (h : r ≢ 1) where
 
   twice : (b : Bool) {q k : ℕ} → q < r → Tallest (cond b (F r) (I r)) q k
       → Tallest (cond b (F (2 * r)) (I (2 * r))) q k
-  twice true {q} l T =
-      record {
-        some = T .some;
-        here = F-abs q ∙ T .here;
-        most = λ i. rw (F-abs i) (T .most i);
-        first = λ i u. rw (F-abs i) (T .first i u);
-      }
-  twice false {q} {k} l T =
-      record {
-        some = T .some;
-        here = I-abs q l ∙ T .here;
-        most = λ i. most i (decLt i r);
-        first = λ i u. rw (I-abs i (omega arith)) (T .first i u);
-      }
+  twice true l T = stays (λ i u. F-abs i) (λ i. rw (F-abs i) (T .most i)) T
+  twice false {q} {k} l T = stays (λ i u. I-abs i (omega arith)) (λ i. most i (decLt i r)) T
     where
       most : (i : ℕ) → Dec (i < r) → natAbs (I (2 * r) i) ≤ k
       most i (yes u) = rw (I-abs i u) (T .most i)

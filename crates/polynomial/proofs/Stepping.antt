@@ -1,14 +1,14 @@
 -- r > 1: after all divisors the kept half is the lower half of the polynomial of r; its height is the polynomial's, and
 -- its peak t times as far up; and what each outcome tells and leaves (`Halfway`). r = 1: no step is taken (`laid-one`).
-use Prim.Native.Nat.{ℕ, _+_, _*_, _-_, _<_, _≤_}
+use Prim.Native.Nat.{ℕ, suc, _+_, _*_, _-_, _<_, _≤_}
 use mathlib.Core.Path.{_≡_, sym, _∙_, ap, ap₂}
-use mathlib.Core.Bool.{true, false, cond}
+use mathlib.Core.Bool.{Bool, true, false, cond}
 use mathlib.Core.Logic.{_≢_}
 use mathlib.Core.List.{List, _++_}
 use native.Mathlib.Omega.{arith}
 use native.Mathlib.Nat as NatL
 use native.Mathlib.Numerals.{add-one}
-use borrow.Author.Tests.{le-ltb}
+use borrow.Author.Tests.{le-ltb, ne-eqb}
 use lib.ListN.{length, take, drop, length-append, length-drop, List·getD-append}
 use lib.Seq.{take-at}
 use lib.Dec.{ltb}
@@ -79,22 +79,26 @@ module _ (kind n : ℕ) (a : Parts) (l : List ℤ) (R : Ready kind n a l) (above
     still-ready : Ready kind n a (m ++ drop (d + 1) l)
     still-ready = record { parts = R .parts; known = R .known; good = R .good; room = rest-length ∙ R .room }
 
-    -- a value would be out of range
-    laid-over : (lim : ℕ) (x : List ℤ) → h .over ≡ true → x ≡ zeros (length (m ++ drop (d + 1) l))
-        → MakingOutcomeIs kind n lim w x (record { code = OVER; additions = 0; height = 0; peak = 0 })
-    unfolding makingCode
-    laid-over lim x o e =
+    laid-refused : (code lim : ℕ) (x : List ℤ) → code ≢ DONE → makingCode kind n lim w ≡ code
+        → x ≡ zeros (length (m ++ drop (d + 1) l))
+        → MakingOutcomeIs kind n lim w x (record { code = code; additions = 0; height = 0; peak = 0 })
+    laid-refused code lim x never c e =
         record {
-          code = sym (ap (λ b. cond b OVER (cond (ltb lim (height kind n)) TALL DONE))
-              (sym (made .ran .over) ∙ o));
-          leaves = e ∙ ap zeros (rest-length ∙ R .room ∙ add-one (degree kind n));
+          code = sym c;
+          leaves = e ∙ ap zeros (rest-length ∙ R .room ∙ add-one (degree kind n))
+              ∙ sym (ap (λ b. cond b (coefficients kind n) (zeros (suc (degree kind n)))) (ne-eqb code DONE never));
           additions = λ q. absurd (never q);
           height = λ q. absurd (never q);
           peak = λ q. absurd (never q);
         }
-      where
-        never : OVER ≡ DONE → ⊥
-        never q = omega arith
+
+    -- a value would be out of range
+    laid-over : (lim : ℕ) (x : List ℤ) → h .over ≡ true → x ≡ zeros (length (m ++ drop (d + 1) l))
+        → MakingOutcomeIs kind n lim w x (record { code = OVER; additions = 0; height = 0; peak = 0 })
+    unfolding makingCode
+    laid-over lim x o =
+        laid-refused OVER lim x (λ q. omega arith)
+        (ap (λ b. cond b OVER (cond (ltb lim (height kind n)) TALL DONE)) (sym (made .ran .over) ∙ o))
 
     module _ (o : h .over ≡ false) where
       m-is : m ≡ firsts (halfDegree kind (rOf n) + 1) (polynomial kind (rOf n))
@@ -122,30 +126,24 @@ module _ (kind n : ℕ) (a : Parts) (l : List ℤ) (R : Ready kind n a l) (above
             ap₂ (λ y t. y .place * t) is (t-is kind n a l R) ∙ sym (half .1),
           )
 
+      -- the code hangs on the height alone
+      by-height : (lim : ℕ) (b : Bool) → ltb lim (height kind n) ≡ b → makingCode kind n lim w ≡ cond b TALL DONE
+      unfolding makingCode
+      by-height lim b t = ap₂ (λ x y. cond x OVER (cond y TALL DONE)) (sym (made .ran .over) ∙ o) t
+
       laid-tall : (lim : ℕ) (x : List ℤ) → ltb lim (height kind n) ≡ true
           → x ≡ zeros (length (m ++ drop (d + 1) l))
           → MakingOutcomeIs kind n lim w x (record { code = TALL; additions = 0; height = 0; peak = 0 })
-      unfolding makingCode
-      laid-tall lim x t e =
-          record {
-            code = sym (ap₂ (λ b c. cond b OVER (cond c TALL DONE)) (sym (made .ran .over) ∙ o) t);
-            leaves = e ∙ ap zeros (rest-length ∙ R .room ∙ add-one (degree kind n));
-            additions = λ q. absurd (never q);
-            height = λ q. absurd (never q);
-            peak = λ q. absurd (never q);
-          }
-        where
-          never : TALL ≡ DONE → ⊥
-          never q = omega arith
+      laid-tall lim x t = laid-refused TALL lim x (λ q. omega arith) (by-height lim true t)
 
       laid-done :
           (lim : ℕ) (x : List ℤ) (y z : ℕ) → ltb lim (height kind n) ≡ false → x ≡ coefficients kind n
           → y ≡ height kind n → z ≡ peak kind n
           → MakingOutcomeIs kind n lim w x (record { code = DONE; additions = h .additions; height = y; peak = z })
-      unfolding makingCode additionsFor divisorsDue
+      unfolding additionsFor divisorsDue
       laid-done lim x y z t e q p =
           record {
-            code = sym (ap₂ (λ b c. cond b OVER (cond c TALL DONE)) (sym (made .ran .over) ∙ o) t);
+            code = sym (by-height lim false t);
             leaves = e;
             additions = λ _. made .ran .additions o ∙ additions-all kind (rOf n);
             height = λ _. q;

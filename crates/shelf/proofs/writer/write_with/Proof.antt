@@ -39,15 +39,15 @@ kind-ok c = sym (c .before .is-kind .ensures) ∙ not-false _ (c .if1 .left)
 index-ok : (c : tie.Else3) → (eqb (from3 c .args .n) 0 || ltb 65535 (from3 c .args .n)) ≡ false
 index-ok c = index-right _ (c .before .if2 .left) (c .if3 .left)
 
-made : (c : tie.Else5) → c .before .least-width .result ≡ width (from5 c .args .coeffs .now)
-made c = width-made _ _ _ (ap (λ top. top .height) (c .before .before .peak .ensures)) (c .before .least-width .ensures)
+made : (c : tie.After-least-width) → c .least-width .result ≡ width (from4 (c .before .before) .args .coeffs .now)
+made c = width-made _ _ _ (ap (λ top. top .height) (c .before .peak .ensures)) (c .least-width .ensures)
 
 fit : (c : tie.Else5) → Fitting (from5 c .args .coeffs .now) (c .before .least-width .result)
-fit c = width-fits _ _ (made c) (nonzero _ (c .if5 .left))
+fit c = width-fits _ _ (made (c .before)) (nonzero _ (c .if5 .left))
 
 whole : (c : tie.Else5) → 10 + length (from5 c .args .coeffs .now) * c .before .least-width .result
     ≡ size (from5 c .args .coeffs .now)
-whole c = size-made _ _ (made c)
+whole c = size-made _ _ (made (c .before))
 
 small : (c : tie.Else5) → length (from5 c .args .coeffs .now) * c .before .least-width .result ≤ 524288
 small c = few _ _ _ (c .before .before .before .if4 .left) (from5 c .pre) (fit c .high)
@@ -109,9 +109,8 @@ returns-5 c =
     let looked = c .before .before in
     let counted = looked .before .before in
     let e = counted .before in
-    let w = width-made _ _ _ (ap (λ top. top .height) (looked .before .peak .ensures)) (looked .least-width .ensures) in
     told (c .refused5 .ensures) (too-low _ _ _ _ _ (kind-ok (e .before .before)) (index-ok e) (counted .if4 .left)
-    (width-none _ (sym w ∙ c .before .if5 .taken)))
+    (width-none _ (sym (made looked) ∙ c .before .if5 .taken)))
 
 mul-size : tie.Need-mul-size
 mul-size c = omega (arith, small c)
@@ -135,8 +134,12 @@ returns-6 c =
 store-requires : tie.Need-store-requires
 store-requires c κs =
     let over = c .before .before in
-    let e = over .before .before .before .before in
-    (omega (arith, kind-small _ (kind-ok (e .before .before))), made over, fit over .low, omega (arith, whole over))
+    let e = over .before .before .before .before in (
+      omega (arith, kind-small _ (kind-ok (e .before .before))),
+      made (over .before),
+      fit over .low,
+      omega (arith, whole over),
+    )
 
 same-length : tie.Need-same-length
 same-length c = search needs
