@@ -57,18 +57,22 @@ extern "C" {
 /*
  * The codes. A delivered coefficient lies from -(2^63 - 1) to 2^63 - 1: each one can be negated.
  */
-#define BV_DONE UINT64_C(0)   /* done: all that was asked for is there */
-#define BV_KIND UINT64_C(1)   /* kind is not 1 or 2 */
-#define BV_INDEX UINT64_C(2)  /* n is 0 or above 65535; bv_partial: also where n has no odd prime factor */
-#define BV_LIMIT UINT64_C(3)  /* the height limit h or the working limit w is below 1 */
-#define BV_SHORT UINT64_C(4)  /* the slice to be filled is too short */
-#define BV_OVER UINT64_C(5)   /* a step would make a value larger in magnitude than w; bv_write: a coefficient is -2^63 */
-#define BV_TALL UINT64_C(6)   /* a coefficient is larger in magnitude than h */
-#define BV_STEP UINT64_C(7)   /* size is 0 or above 65535; bv_partial: there are fewer than j divisors */
-#define BV_CUT UINT64_C(8)    /* bv_read: the record ends early */
-#define BV_MARK UINT64_C(9)   /* bv_read: the first two bytes are not those of a record */
-#define BV_FIELD UINT64_C(10) /* bv_read: a number in the header is wrong; bv_write: count is not degree + 1 */
-#define BV_WIDTH UINT64_C(11) /* bv_read: the coefficients are not stored in the least width that holds them */
+#define BV_DONE UINT64_C(0)    /* done: all that was asked for is there */
+#define BV_KIND UINT64_C(1)    /* kind is not 1 or 2 */
+#define BV_INDEX UINT64_C(2)   /* n is 0 or above 65535; bv_partial: also where n has no odd prime factor */
+#define BV_LIMIT UINT64_C(3)   /* the height limit h or the working limit w is below 1 */
+#define BV_SHORT UINT64_C(4)   /* the slice to be filled is too short */
+#define BV_OVER UINT64_C(5)    /* a step would make a value larger in magnitude than w; bv_write: a coefficient is -2^63 */
+#define BV_TALL UINT64_C(6)    /* a coefficient is larger in magnitude than h */
+#define BV_STEP UINT64_C(7)    /* size is 0 or above 65535; bv_partial: there are fewer than j divisors */
+#define BV_CUT UINT64_C(8)     /* bv_read: the record ends early */
+#define BV_MARK UINT64_C(9)    /* bv_read: the first two bytes are not those of a record */
+#define BV_WIDTH UINT64_C(11)  /* bv_read: the coefficients are not stored in the least width that holds them */
+#define BV_RKIND UINT64_C(12)  /* bv_read: the header's kind, at byte 2, is not 1 or 2 */
+#define BV_RWIDTH UINT64_C(13) /* bv_read: the header's width, at byte 3, is not 1, 2, 4 or 8 */
+#define BV_RINDEX UINT64_C(14) /* bv_read: the header's n, at byte 4, is 0 */
+#define BV_RCOUNT UINT64_C(15) /* the number of coefficients, at byte 6 of the header, is not degree + 1; bv_write: count is not */
+/* 10 was given where any field of a header was wrong; it is given no more. */
 
 /* Every field of every answer is 64 bits, in this order; the gain alone has a sign, as coefficients have. */
 
@@ -97,6 +101,7 @@ typedef struct bv_written {
     uint64_t code;
     uint64_t degree; /* of the polynomial: count is degree + 1 */
     uint64_t used;   /* the bytes of the record */
+    uint64_t byte;   /* where a field is wrong, the byte of the record at which it starts: 6 with BV_RCOUNT, else 0 */
 } bv_written;
 
 typedef struct bv_record {
@@ -105,6 +110,7 @@ typedef struct bv_record {
     uint64_t used;   /* the bytes of the record: the next one, if any, starts there */
     uint64_t kind;   /* of the record: 1 or 2 */
     uint64_t n;      /* of the record: 1 to 65535 */
+    uint64_t byte;   /* where a field is wrong, the byte of the record at which it starts: 2, 3, 4 or 6; else 0 */
 } bv_record;
 
 /*
@@ -177,13 +183,13 @@ bv_step bv_accumulate(uint64_t size, int64_t w, int64_t *buf, size_t len);
  * magnitude than 2^(8w-1) - 1. So it has 10 + count * w bytes. The coefficients may be any numbers: the record tells what was stored
  * and doesn't vouch for them. F(6) is C9 50 01 01 06 00 03 00 00 00 01 FF 01.
  *
- *   code      given where                                degree told   bytes
- *   BV_DONE   nothing below applies                      yes           bytes 0 to used - 1: the record
- *   BV_KIND   kind is not 1 or 2                         0             untouched
- *   BV_INDEX  n is 0 or above 65535                      0             untouched
- *   BV_FIELD  count is not degree + 1                    0             untouched
- *   BV_OVER   a coefficient is -2^63                     yes           untouched
- *   BV_SHORT  len is below the size of the record        yes           untouched
+ *   code        given where                                degree told   byte   bytes
+ *   BV_DONE     nothing below applies                      yes           0      bytes 0 to used - 1: the record
+ *   BV_KIND     kind is not 1 or 2                         0             0      untouched
+ *   BV_INDEX    n is 0 or above 65535                      0             0      untouched
+ *   BV_RCOUNT   count is not degree + 1                    0             6      untouched
+ *   BV_OVER     a coefficient is -2^63                     yes           0      untouched
+ *   BV_SHORT    len is below the size of the record        yes           0      untouched
  *
  * The order is that of the table. On refusal used is 0. coeffs is only read.
  */
@@ -193,16 +199,18 @@ bv_written bv_write(uint64_t kind, uint64_t n, const int64_t *coeffs, size_t cou
  * Reads the record that the bytes start with; what follows it is not looked at. Here `count` is the number of entries lent. Any bytes get
  * their answer.
  *
- *   code      given where                                           degree told   coeffs
- *   BV_DONE   nothing below applies                                 yes           entries 0 to degree: the coefficients
- *   BV_CUT    len is below 10                                       0             untouched
- *   BV_MARK   the first two bytes are not C9 50                     0             untouched
- *   BV_FIELD  the kind is not 1 or 2, the width not 1, 2, 4 or 8,   0             untouched
- *             n is 0, or the number of coefficients is not the
- *             degree of that kind at that n, plus 1
- *   BV_CUT    len is below the size of the record                   0             untouched
- *   BV_SHORT  count is below the number of coefficients             yes           untouched
- *   BV_WIDTH  a lesser width would do; or a coefficient is -2^63    0             untouched
+ *   code        given where                                           degree told   byte   coeffs
+ *   BV_DONE     nothing below applies                                 yes           0      entries 0 to degree: the coefficients
+ *   BV_CUT      len is below 10                                       0             0      untouched
+ *   BV_MARK     the first two bytes are not C9 50                     0             0      untouched
+ *   BV_RKIND    the kind is not 1 or 2                                0             2      untouched
+ *   BV_RWIDTH   the width is not 1, 2, 4 or 8                         0             3      untouched
+ *   BV_RINDEX   n is 0                                                0             4      untouched
+ *   BV_RCOUNT   the number of coefficients is not the degree of       0             6      untouched
+ *               that kind at that n, plus 1
+ *   BV_CUT      len is below the size of the record                   0             0      untouched
+ *   BV_SHORT    count is below the number of coefficients             yes           0      untouched
+ *   BV_WIDTH    a lesser width would do; or a coefficient is -2^63    0             0      untouched
  *
  * The order is that of the table. On refusal used, kind and n are 0. bytes is only read.
  */

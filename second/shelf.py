@@ -23,54 +23,58 @@ def narrowest(coeffs):
 
 
 def write(kind, n, coeffs, room):
-    """code, degree, used, and what stands in the room bytes lent"""
+    """code, degree, used, byte, and what stands in the room bytes lent"""
     lent = b"\xaa" * room
     if kind not in (1, 2):
-        return 1, 0, 0, lent
+        return 1, 0, 0, 0, lent
     if not 1 <= n <= 65535:
-        return 2, 0, 0, lent
+        return 2, 0, 0, 0, lent
     d = degree(kind, n)
     if len(coeffs) != d + 1:
-        return 10, 0, 0, lent
+        return 15, 0, 0, 6, lent
     w = narrowest(coeffs)
     if w is None:
-        return 5, d, 0, lent
+        return 5, d, 0, 0, lent
     record = (b"\xc9\x50" + bytes([kind, w]) + n.to_bytes(2, "little") + len(coeffs).to_bytes(4, "little")
               + b"".join(c.to_bytes(w, "little", signed=True) for c in coeffs))
     if room < len(record):
-        return 4, d, 0, lent
-    return 0, d, len(record), record + lent[len(record):]
+        return 4, d, 0, 0, lent
+    return 0, d, len(record), 0, record + lent[len(record):]
 
 
 def read(data, entries):
-    """code, degree, used, kind, n, and what stands in the entries lent"""
+    """code, degree, used, kind, n, byte, and what stands in the entries lent"""
     lent = [77] * entries
     if len(data) < 10:
-        return 8, 0, 0, 0, 0, lent
+        return 8, 0, 0, 0, 0, 0, lent
     if data[:2] != b"\xc9\x50":
-        return 9, 0, 0, 0, 0, lent
+        return 9, 0, 0, 0, 0, 0, lent
     kind, w, n, count = data[2], data[3], int.from_bytes(data[4:6], "little"), int.from_bytes(data[6:10], "little")
-    if kind not in (1, 2) or w not in (1, 2, 4, 8) or n == 0 or count != degree(kind, n) + 1:
-        return 10, 0, 0, 0, 0, lent
+    wrong = [(12, 2)] * (kind not in (1, 2)) + [(13, 3)] * (w not in (1, 2, 4, 8)) + [(14, 4)] * (n == 0)
+    if not wrong and count != degree(kind, n) + 1:
+        wrong = [(15, 6)]
+    if wrong:
+        code, byte = min(wrong)
+        return code, 0, 0, 0, 0, byte, lent
     if len(data) < 10 + count * w:
-        return 8, 0, 0, 0, 0, lent
+        return 8, 0, 0, 0, 0, 0, lent
     if entries < count:
-        return 4, count - 1, 0, 0, 0, lent
+        return 4, count - 1, 0, 0, 0, 0, lent
     coeffs = [int.from_bytes(data[10 + i * w:10 + i * w + w], "little", signed=True) for i in range(count)]
     if narrowest(coeffs) != w:
-        return 11, 0, 0, 0, 0, lent
-    return 0, count - 1, 10 + count * w, kind, n, coeffs + lent[count:]
+        return 11, 0, 0, 0, 0, 0, lent
+    return 0, count - 1, 10 + count * w, kind, n, 0, coeffs + lent[count:]
 
 
 def write_one(kind, n, coeffs, room):
-    code, d, used, left = write(kind, n, coeffs, room)
-    print("w", kind, n, len(coeffs), room, code, d, used, ":", left.hex())
+    code, d, used, byte, left = write(kind, n, coeffs, room)
+    print("w", kind, n, len(coeffs), room, code, d, used, byte, ":", left.hex())
     return left
 
 
 def read_one(data, entries):
-    code, d, used, kind, n, left = read(data, entries)
-    print("r", code, d, used, kind, n, left.count(77))
+    code, d, used, kind, n, byte, left = read(data, entries)
+    print("r", code, d, used, kind, n, byte, left.count(77))
     return code, kind, n, left
 
 

@@ -16,8 +16,9 @@ enum { RATE = 5250, MAINS = 50, N = RATE / MAINS, ROOM = 64, BYTES = 128, LARGE 
 static const double PI = 3.14159265358979323846;
 
 static const char *name(uint64_t code) {
-    static const char *const names[] = {"DONE", "KIND", "INDEX", "LIMIT", "SHORT", "OVER", "TALL", "STEP", "CUT", "MARK", "FIELD", "WIDTH"};
-    return code <= BV_WIDTH ? names[code] : "?";
+    static const char *const names[] = {"DONE", "KIND", "INDEX", "LIMIT", "SHORT", "OVER", "TALL", "STEP", "CUT", "MARK", "?", "WIDTH",
+                                        "RKIND", "RWIDTH", "RINDEX", "RCOUNT"};
+    return code <= BV_RCOUNT ? names[code] : "?";
 }
 
 /* What comes out of the stage at sample t: a level of 1000 with a hum of 300 went in. */
@@ -65,6 +66,10 @@ int main(void) {
 
     bv_record cut = bv_read(bytes, w.used - 1, again, ROOM);
     printf("a byte short: %s\n", name(cut.code));
+    bytes[3] = 3;
+    bv_record wide = bv_read(bytes, w.used, again, ROOM);
+    printf("3 as width:   %s, byte %" PRIu64 "\n", name(wide.code), wide.byte);
+    bytes[3] = 1;
     bv_record r = bv_read(bytes, w.used, again, ROOM);
     printf("read:         %s, %s(%" PRIu64 "), degree %" PRIu64 ", %s\n", name(r.code), r.kind == BV_KIND_F ? "F" : "I", r.n, r.degree,
            memcmp(stage, again, sizeof stage) == 0 ? "the same coefficients" : "OTHER COEFFICIENTS");

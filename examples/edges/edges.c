@@ -35,12 +35,17 @@ static int steps(bv_step a, uint64_t code, uint64_t count) {
     return a.code == code && a.count == count;
 }
 
+/* the byte is told with a wrong field and 0 with every other code */
 static int wrote(bv_written a, uint64_t code, uint64_t degree, uint64_t used) {
-    return a.code == code && a.degree == degree && a.used == used;
+    return a.code == code && a.degree == degree && a.used == used && a.byte == (code == BV_RCOUNT ? 6 : 0);
 }
 
 static int reads(bv_record a, uint64_t code, uint64_t degree, uint64_t used, uint64_t kind, uint64_t n) {
-    return a.code == code && a.degree == degree && a.used == used && a.kind == kind && a.n == n;
+    return a.code == code && a.degree == degree && a.used == used && a.kind == kind && a.n == n && a.byte == 0;
+}
+
+static int wrong(bv_record a, uint64_t code, uint64_t byte) {
+    return a.code == code && a.degree == 0 && a.used == 0 && a.kind == 0 && a.n == 0 && a.byte == byte;
 }
 
 /* a slice that stands as it was: every entry 77 */
@@ -289,8 +294,8 @@ static void record(void) {
     HOLD(wrote(bv_write(UINT64_MAX, 6, c, 3, bytes, 40), BV_KIND, 0, 0));
     HOLD(wrote(bv_write(1, 0, NULL, 0, NULL, 0), BV_INDEX, 0, 0));
     HOLD(wrote(bv_write(2, UINT64_MAX, c, 3, bytes, 40), BV_INDEX, 0, 0));
-    HOLD(wrote(bv_write(1, 6, NULL, 0, NULL, 0), BV_FIELD, 0, 0));
-    HOLD(wrote(bv_write(1, 6, c, 2, bytes, 40), BV_FIELD, 0, 0));
+    HOLD(wrote(bv_write(1, 6, NULL, 0, NULL, 0), BV_RCOUNT, 0, 0));
+    HOLD(wrote(bv_write(1, 6, c, 2, bytes, 40), BV_RCOUNT, 0, 0));
     HOLD(wrote(bv_write(1, 6, least, 3, NULL, 0), BV_OVER, 2, 0));
     HOLD(wrote(bv_write(1, 6, c, 3, NULL, 0), BV_SHORT, 2, 0));
     HOLD(wrote(bv_write(1, 6, c, 3, bytes, 12), BV_SHORT, 2, 0) && bytes[0] == 7);
@@ -301,12 +306,26 @@ static void record(void) {
     HOLD(reads(bv_read(f6, 13, NULL, 0), BV_SHORT, 2, 0, 0, 0));
     HOLD(reads(bv_read(f6, 13, buf, 2), BV_SHORT, 2, 0, 0, 0) && untouched_from(0));
     HOLD(reads(bv_read(bytes, 40, buf, 9), BV_DONE, 2, 13, 1, 6) && memcmp(buf, c, sizeof c) == 0 && untouched_from(3));
+    /* each byte of the header changed alone, and with the byte of each later field */
+    static const uint64_t codes[] = {BV_MARK, BV_MARK, BV_RKIND, BV_RWIDTH, BV_RCOUNT, BV_RCOUNT, BV_RCOUNT, BV_RCOUNT, BV_RCOUNT, BV_RCOUNT};
+    static const uint64_t starts[] = {0, 0, 2, 3, 6, 6, 6, 6, 6, 6};
     for (int at = 0; at < 10; at++) {
-        uint8_t was = bytes[at];
-        bytes[at] = 0xAA;
-        HOLD(fresh() && reads(bv_read(bytes, 40, buf, 9), at < 2 ? BV_MARK : BV_FIELD, 0, 0, 0, 0) && untouched_from(0));
-        bytes[at] = was;
+        uint8_t all[40];
+        memcpy(all, bytes, sizeof all);
+        all[at] = 0xAA;
+        HOLD(fresh() && wrong(bv_read(all, 40, buf, 9), codes[at], starts[at]) && untouched_from(0));
+        for (int also = at + 1; also < 10; also++) {
+            all[also] = 0xAA;
+            HOLD(wrong(bv_read(all, 40, buf, 9), codes[at], starts[at]) && untouched_from(0));
+            all[also] = bytes[also];
+        }
     }
+    bytes[4] = 0;
+    HOLD(wrong(bv_read(bytes, 40, buf, 9), BV_RINDEX, 4) && untouched_from(0));
+    HOLD(wrong(bv_read(bytes, 10, buf, 9), BV_RINDEX, 4) && reads(bv_read(bytes, 9, buf, 9), BV_CUT, 0, 0, 0, 0));
+    bytes[6] = 1;
+    HOLD(wrong(bv_read(bytes, 40, buf, 9), BV_RINDEX, 4) && untouched_from(0));
+    bytes[4] = 6, bytes[6] = 3;
     bytes[3] = 2;
     HOLD(reads(bv_read(bytes, 15, buf, 9), BV_CUT, 0, 0, 0, 0) && untouched_from(0));
     memcpy(bytes + 10, "\1\0\377\377\1", 6);

@@ -1,6 +1,7 @@
 """The library for Python, by ctypes over a shared object made from the archive (examples/Makefile makes it).
 
-Lists go in and lists come out. A refusal is the exception Refused, with its code, its name and the degree told.
+Lists go in and lists come out. A refusal is the exception Refused, with its code, its name and the degree told; where a field of a record is
+wrong also with the field, the byte at which it starts and what would be right.
 What each function does and refuses is told in include/bonvedrick.h.
 """
 
@@ -9,7 +10,13 @@ from ctypes import POINTER, c_int64, c_size_t, c_uint8, c_uint64
 
 F, I = 1, 2
 LARGEST = 2**63 - 1  # as h or w: no limit
-NAMES = "DONE KIND INDEX LIMIT SHORT OVER TALL STEP CUT MARK FIELD WIDTH".split()
+NAMES = "DONE KIND INDEX LIMIT SHORT OVER TALL STEP CUT MARK ? WIDTH RKIND RWIDTH RINDEX RCOUNT".split()
+FIELDS = {  # of a record's header, by the code where they are wrong: the name, and what would be right
+    "RKIND": ("kind", "1 or 2"),
+    "RWIDTH": ("width", "1, 2, 4 or 8"),
+    "RINDEX": ("index", "from 1 to 65535"),
+    "RCOUNT": ("number of coefficients", "the degree of that kind at that index, plus 1"),
+}
 
 
 def struct(name, fields):
@@ -21,8 +28,8 @@ def struct(name, fields):
 Answer = struct("Answer", "code degree additions height peak gain")
 Stop = struct("Stop", "code degree additions due")
 Step = struct("Step", "code count")
-Written = struct("Written", "code degree used")
-Record = struct("Record", "code degree used kind n")
+Written = struct("Written", "code degree used byte")
+Record = struct("Record", "code degree used kind n byte")
 
 WORDS = (POINTER(c_int64), c_size_t)
 BYTES = (POINTER(c_uint8), c_size_t)
@@ -33,7 +40,12 @@ class Refused(Exception):
         self.code = answer.code
         self.degree = getattr(answer, "degree", 0)
         self.name = NAMES[self.code] if self.code < len(NAMES) else "?"
-        super().__init__(f"{self.name} ({self.code}), degree {self.degree}")
+        self.byte = getattr(answer, "byte", 0)
+        self.field, self.right = FIELDS.get(self.name, (None, None))
+        told = f"degree {self.degree}"
+        if self.field:
+            told = f"the record's {self.field}, at byte {self.byte}, is wrong: right is {self.right}"
+        super().__init__(f"{self.name} ({self.code}), {told}")
 
 
 class Bonvedrick:

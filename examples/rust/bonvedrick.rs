@@ -1,6 +1,8 @@
 //! A safe wrapper: slices for pointers and lengths, an enum of the refusals, and a `Result`. Nothing here allocates.
 //! Copy this file, and link with `-l static=bonvedrick`. What each function does and refuses is told in include/bonvedrick.h.
 
+use std::fmt;
+
 /// The C functions and their answers, as include/bonvedrick.h has them.
 mod c {
     #[repr(C)]
@@ -32,6 +34,7 @@ mod c {
         pub code: u64,
         pub degree: u64,
         pub used: u64,
+        pub byte: u64,
     }
 
     #[repr(C)]
@@ -41,6 +44,7 @@ mod c {
         pub used: u64,
         pub kind: u64,
         pub n: u64,
+        pub byte: u64,
     }
 
     extern "C" {
@@ -68,7 +72,38 @@ pub fn registers(bits: u32) -> i64 {
     i64::MAX >> (64 - bits)
 }
 
+/// A field of a record's header.
+#[derive(Clone, Copy, Debug, PartialEq, Eq)]
+pub enum Field {
+    Kind,
+    Width,
+    Index,
+    Count,
+}
+
+impl Field {
+    pub fn name(self) -> &'static str {
+        match self {
+            Field::Kind => "kind",
+            Field::Width => "width",
+            Field::Index => "index",
+            Field::Count => "number of coefficients",
+        }
+    }
+
+    /// What would be right in it.
+    pub fn right(self) -> &'static str {
+        match self {
+            Field::Kind => "1 or 2",
+            Field::Width => "1, 2, 4 or 8",
+            Field::Index => "from 1 to 65535",
+            Field::Count => "the degree of that kind at that index, plus 1",
+        }
+    }
+}
+
 /// Why nothing was delivered. The degree stands where the library tells it: of the polynomial, and for `partial` of its lower half.
+/// `Field` is of `write` and `read`: the field that is wrong, and the byte of the record at which it starts.
 #[derive(Clone, Copy, Debug, PartialEq, Eq)]
 pub enum Refusal {
     Kind,
@@ -80,14 +115,38 @@ pub enum Refusal {
     Step,
     Cut,
     Mark,
-    Field,
     Width,
+    Field { field: Field, byte: usize },
     /// A code that this wrapper doesn't know: a later library.
     Unknown(u64),
 }
 
-fn refused(code: u64, degree: u64) -> Refusal {
+impl fmt::Display for Refusal {
+    fn fmt(&self, f: &mut fmt::Formatter<'_>) -> fmt::Result {
+        match self {
+            Refusal::Kind => f.write_str("the kind is not 1 or 2"),
+            Refusal::Index => f.write_str("there is no such index"),
+            Refusal::Limit => f.write_str("a limit is below 1"),
+            Refusal::Short { degree } => write!(f, "too little room for degree {degree}"),
+            Refusal::Over { degree } => write!(f, "a value is too large to work with, degree {degree}"),
+            Refusal::Tall { degree } => write!(f, "a coefficient is larger than allowed, degree {degree}"),
+            Refusal::Step => f.write_str("there is no such step"),
+            Refusal::Cut => f.write_str("the record ends early"),
+            Refusal::Mark => f.write_str("the bytes are not those of a record"),
+            Refusal::Width => f.write_str("the record's coefficients are not in the least width that holds them"),
+            Refusal::Field { field, byte } => {
+                write!(f, "the record's {}, at byte {byte}, is wrong: right is {}", field.name(), field.right())
+            }
+            Refusal::Unknown(code) => write!(f, "code {code}"),
+        }
+    }
+}
+
+impl std::error::Error for Refusal {}
+
+fn refused(code: u64, degree: u64, byte: u64) -> Refusal {
     let degree = degree as usize;
+    let wrong = |field| Refusal::Field { field, byte: byte as usize };
     match code {
         1 => Refusal::Kind,
         2 => Refusal::Index,
@@ -98,15 +157,18 @@ fn refused(code: u64, degree: u64) -> Refusal {
         7 => Refusal::Step,
         8 => Refusal::Cut,
         9 => Refusal::Mark,
-        10 => Refusal::Field,
         11 => Refusal::Width,
+        12 => wrong(Field::Kind),
+        13 => wrong(Field::Width),
+        14 => wrong(Field::Index),
+        15 => wrong(Field::Count),
         other => Refusal::Unknown(other),
     }
 }
 
 /// `value` on code 0, else the refusal.
-fn outcome<T>(code: u64, degree: u64, value: T) -> Result<T, Refusal> {
-    if code == 0 { Ok(value) } else { Err(refused(code, degree)) }
+fn outcome<T>(code: u64, degree: u64, byte: u64, value: T) -> Result<T, Refusal> {
+    if code == 0 { Ok(value) } else { Err(refused(code, degree, byte)) }
 }
 
 /// A delivered polynomial: its coefficients, a part of the buffer that was lent, and what the library tells of it.
@@ -141,39 +203,39 @@ pub struct Record<'a> {
 
 pub fn polynomial(kind: Kind, n: u64, h: i64, w: i64, buf: &mut [i64]) -> Result<Polynomial<'_>, Refusal> {
     let a = unsafe { c::bv_polynomial(kind as u64, n, h, w, buf.as_mut_ptr(), buf.len()) };
-    outcome(a.code, a.degree, ())?;
+    outcome(a.code, a.degree, 0, ())?;
     let coeffs = &mut buf[..=a.degree as usize];
     Ok(Polynomial { coeffs, additions: a.additions, height: a.height, peak: a.peak as usize, gain: a.gain })
 }
 
 pub fn partial(kind: Kind, n: u64, j: u64, w: i64, buf: &mut [i64]) -> Result<Partial<'_>, Refusal> {
     let a = unsafe { c::bv_partial(kind as u64, n, j, w, buf.as_mut_ptr(), buf.len()) };
-    outcome(a.code, a.degree, ())?;
+    outcome(a.code, a.degree, 0, ())?;
     Ok(Partial { half: &mut buf[..=a.degree as usize], additions: a.additions, due: a.due as usize })
 }
 
 /// Multiplies by 1 - z^size, and answers how many subtractions that took.
 pub fn comb(size: u64, w: i64, buf: &mut [i64]) -> Result<u64, Refusal> {
     let a = unsafe { c::bv_comb(size, w, buf.as_mut_ptr(), buf.len()) };
-    outcome(a.code, 0, a.count)
+    outcome(a.code, 0, 0, a.count)
 }
 
 /// Divides by 1 - z^size, and answers how many additions that took.
 pub fn accumulate(size: u64, w: i64, buf: &mut [i64]) -> Result<u64, Refusal> {
     let a = unsafe { c::bv_accumulate(size, w, buf.as_mut_ptr(), buf.len()) };
-    outcome(a.code, 0, a.count)
+    outcome(a.code, 0, 0, a.count)
 }
 
 /// Writes a record, and answers its bytes.
 pub fn write<'a>(kind: Kind, n: u64, coeffs: &[i64], bytes: &'a mut [u8]) -> Result<&'a mut [u8], Refusal> {
     let a = unsafe { c::bv_write(kind as u64, n, coeffs.as_ptr(), coeffs.len(), bytes.as_mut_ptr(), bytes.len()) };
-    outcome(a.code, a.degree, ())?;
+    outcome(a.code, a.degree, a.byte, ())?;
     Ok(&mut bytes[..a.used as usize])
 }
 
 pub fn read<'a>(bytes: &[u8], coeffs: &'a mut [i64]) -> Result<Record<'a>, Refusal> {
     let a = unsafe { c::bv_read(bytes.as_ptr(), bytes.len(), coeffs.as_mut_ptr(), coeffs.len()) };
-    outcome(a.code, a.degree, ())?;
+    outcome(a.code, a.degree, a.byte, ())?;
     let kind = if a.kind == 1 { Kind::F } else { Kind::I };
     Ok(Record { kind, n: a.n, coeffs: &mut coeffs[..=a.degree as usize], used: a.used as usize })
 }

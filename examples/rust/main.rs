@@ -48,8 +48,15 @@ fn main() -> Result<(), Refusal> {
     let mut again = [0; 16];
     let r = read(record, &mut again)?;
     println!("read: {:?}({}), {} bytes, the same coefficients: {}", r.kind, r.n, r.used, r.coeffs == f.coeffs);
-    record[0] = 0;
-    println!("damaged: {:?}", read(record, &mut again).map(|r| r.n));
+    // F(15)'s record as a script might write it: no mark, no kind, 3 bytes a coefficient, no index, 8 for 9 coefficients
+    for (at, byte) in [(0, 0), (2, 0), (3, 3), (4, 0), (6, 8)] {
+        let was = std::mem::replace(&mut record[at], byte);
+        if let Err(e) = read(record, &mut again) {
+            println!("{byte} for {was} at byte {at}: {e}");
+        }
+        record[at] = was;
+    }
+    println!("one coefficient too few: {:?}", write(Kind::F, N, &f.coeffs[1..], &mut bytes));
     println!("F(65536): {:?}", entries(Kind::F, 65536));
 
     let mut room = vec![0; entries(Kind::I, LARGE)?];

@@ -35,6 +35,7 @@ pub struct Written {
     pub code: u64,
     pub degree: u64,
     pub used: u64,
+    pub byte: u64,
 }
 
 #[repr(C)]
@@ -45,6 +46,7 @@ pub struct Record {
     pub used: u64,
     pub kind: u64,
     pub n: u64,
+    pub byte: u64,
 }
 
 extern "C" {

@@ -16,30 +16,30 @@ fn width(coeffs: &[i64]) -> Option<usize> {
 
 fn written(of: &Reference, kind: u64, n: u64, coeffs: &[i64], before: &[u8]) -> (Written, Vec<u8>) {
     let mut bytes = before.to_vec();
-    let refused = |code, degree| Written { code, degree, used: 0 };
+    let refused = |code, degree, byte| Written { code, degree, used: 0, byte };
     if !known(kind) {
-        return (refused(1, 0), bytes);
+        return (refused(1, 0, 0), bytes);
     }
     if n == 0 || n > LARGEST as u64 {
-        return (refused(2, 0), bytes);
+        return (refused(2, 0, 0), bytes);
     }
     let degree = of.degree(kind, n as usize);
     if coeffs.len() != degree + 1 {
-        return (refused(10, 0), bytes);
+        return (refused(15, 0, 6), bytes);
     }
     let Some(w) = width(coeffs) else {
-        return (refused(5, degree as u64), bytes);
+        return (refused(5, degree as u64, 0), bytes);
     };
     let used = 10 + w * coeffs.len();
     if bytes.len() < used {
-        return (refused(4, degree as u64), bytes);
+        return (refused(4, degree as u64, 0), bytes);
     }
     let mut record = vec![0xC9, 0x50, kind as u8, w as u8];
     record.extend((n as u16).to_le_bytes());
     record.extend((coeffs.len() as u32).to_le_bytes());
     coeffs.iter().for_each(|c| record.extend(&c.to_le_bytes()[..w]));
     bytes[..used].copy_from_slice(&record);
-    (Written { code: 0, degree: degree as u64, used: used as u64 }, bytes)
+    (Written { code: 0, degree: degree as u64, used: used as u64, byte: 0 }, bytes)
 }
 
 fn read(of: &Reference, bytes: &[u8], before: &[i64]) -> (Record, Vec<i64>) {
@@ -54,8 +54,18 @@ fn read(of: &Reference, bytes: &[u8], before: &[i64]) -> (Record, Vec<i64>) {
     let (kind, w) = (bytes[2] as u64, bytes[3] as usize);
     let n = u16::from_le_bytes([bytes[4], bytes[5]]) as usize;
     let count = u32::from_le_bytes([bytes[6], bytes[7], bytes[8], bytes[9]]) as usize;
-    if !known(kind) || ![1, 2, 4, 8].contains(&w) || n == 0 || count != of.degree(kind, n) + 1 {
-        return (refused(10, 0), coeffs);
+    let fault = |code, byte| Record { code, byte, ..Record::default() };
+    if !known(kind) {
+        return (fault(12, 2), coeffs);
+    }
+    if ![1, 2, 4, 8].contains(&w) {
+        return (fault(13, 3), coeffs);
+    }
+    if n == 0 {
+        return (fault(14, 4), coeffs);
+    }
+    if count != of.degree(kind, n) + 1 {
+        return (fault(15, 6), coeffs);
     }
     if bytes.len() < 10 + w * count {
         return (refused(8, 0), coeffs);
@@ -74,7 +84,7 @@ fn read(of: &Reference, bytes: &[u8], before: &[i64]) -> (Record, Vec<i64>) {
         return (refused(11, 0), coeffs);
     }
     coeffs[..count].copy_from_slice(&stored);
-    (Record { code: 0, degree, used: (10 + w * count) as u64, kind, n: n as u64 }, coeffs)
+    (Record { code: 0, degree, used: (10 + w * count) as u64, kind, n: n as u64, byte: 0 }, coeffs)
 }
 
 fn reading(of: &Reference, bytes: &[u8], before: &[i64]) -> u64 {

@@ -25,9 +25,15 @@ pub const CUT: u64 = 8;
 
 pub const MARK: u64 = 9;
 
-pub const FIELD: u64 = 10;
-
 pub const WIDTH: u64 = 11;
+
+pub const RKIND: u64 = 12;
+
+pub const RWIDTH: u64 = 13;
+
+pub const RINDEX: u64 = 14;
+
+pub const RCOUNT: u64 = 15;
 
 // A polynomial request's answer.
 #[repr(C)]

@@ -9,11 +9,10 @@ use steps::Step;
 use steps::Stepped;
 ghost use mathlib.Core.Path.{_≡_};
 ghost use lib.ListN.{length};
-ghost use Rattle.definitions.specs.Polynomials.{degree};
 ghost use Rattle.definitions.specs.Steps.{comb, accumulate, stepCode, stepCount, stepLeaves};
 ghost use Rattle.answers.specs.Polynomial as Polynomial;
 ghost use Rattle.answers.specs.Partial as Partial;
-ghost use Rattle.shelf.specs.Format.{degreeIn, writeAnswer, writeLeaves, readAnswer, readLeaves};
+ghost use Rattle.shelf.specs.Format.{writeAnswer, writeLeaves, readAnswer, readLeaves};
 
 // The polynomial of a kind and an index, no taller than h and made of steps within w.
 #[no_mangle]
@@ -64,10 +63,8 @@ pub extern "C" fn bv_accumulate(size: u64, w: i64, buf: &mut [i64]) -> Stepped
 // The record of some coefficients, in the bytes lent.
 #[no_mangle]
 pub extern "C" fn bv_write(kind: u64, n: u64, coeffs: &[i64], bytes: &mut [u8]) -> Written
-    ensures answer { λ r.
-        ⌜ r ≡ writeAnswer (degree kind n) kind n (now (coeffs .entry)) (length (now (bytes .entry))) ⌝ }
-    ensures leaves { λ _.
-        ⌜ now (bytes .exit) ≡ writeLeaves (degree kind n) kind n (now (coeffs .entry)) (now (bytes .entry)) ⌝ }
+    ensures answer { λ r. ⌜ r ≡ writeAnswer kind n (now (coeffs .entry)) (length (now (bytes .entry))) ⌝ }
+    ensures leaves { λ _. ⌜ now (bytes .exit) ≡ writeLeaves kind n (now (coeffs .entry)) (now (bytes .entry)) ⌝ }
 {
     shelf::write(kind, n, coeffs, bytes)
 }
@@ -75,10 +72,8 @@ pub extern "C" fn bv_write(kind: u64, n: u64, coeffs: &[i64], bytes: &mut [u8]) 
 // The coefficients of the record that some bytes start with, in the entries lent.
 #[no_mangle]
 pub extern "C" fn bv_read(bytes: &[u8], coeffs: &mut [i64]) -> Record
-    ensures answer { λ r.
-        ⌜ r ≡ readAnswer (degreeIn (now (bytes .entry))) (now (bytes .entry)) (length (now (coeffs .entry))) ⌝ }
-    ensures leaves { λ _.
-        ⌜ now (coeffs .exit) ≡ readLeaves (degreeIn (now (bytes .entry))) (now (bytes .entry)) (now (coeffs .entry)) ⌝ }
+    ensures answer { λ r. ⌜ r ≡ readAnswer (now (bytes .entry)) (length (now (coeffs .entry))) ⌝ }
+    ensures leaves { λ _. ⌜ now (coeffs .exit) ≡ readLeaves (now (bytes .entry)) (now (coeffs .entry)) ⌝ }
 {
     shelf::read(bytes, coeffs)
 }

@@ -1,4 +1,5 @@
--- The codes (docs/RULES.md, 'The codes'); 0 is no refusal.
+-- The codes (docs/RULES.md, 'The codes'); 0 is no refusal. 10 stood for any wrong field of a record and is not used
+-- again.
 use Prim.Native.Nat.{ℕ}
 
 abbrev pub DONE : ℕ
@@ -31,8 +32,17 @@ CUT = 8
 abbrev pub MARK : ℕ
 MARK = 9
 
-abbrev pub FIELD : ℕ
-FIELD = 10
-
 abbrev pub WIDTH : ℕ
 WIDTH = 11
+
+abbrev pub RKIND : ℕ
+RKIND = 12
+
+abbrev pub RWIDTH : ℕ
+RWIDTH = 13
+
+abbrev pub RINDEX : ℕ
+RINDEX = 14
+
+abbrev pub RCOUNT : ℕ
+RCOUNT = 15

@@ -24,14 +24,17 @@ pub index-good : (n : ℕ) → goodIndex n ≡ true → (0 < n) × (n ≤ 65535)
 unfolding goodIndex
 index-good n e = test-and (test-lt 0 n) (test-le n 65535) .shows e
 
-zero-or-above : (n : ℕ) → goodIndex n ≡ false → cond (ltb 65535 n) 0 n ≡ 0
+pub good-index : (n : ℕ) → 0 < n → n ≤ 65535 → goodIndex n ≡ true
 unfolding goodIndex
+good-index n low high = test-and (test-lt 0 n) (test-le n 65535) .says (low, high)
+
+zero-or-above : (n : ℕ) → goodIndex n ≡ false → cond (ltb 65535 n) 0 n ≡ 0
 zero-or-above n e =
     by-order 65535 n (λ h. rw (lt-ltb 65535 n h)) (λ h. rw (le-ltb 65535 n h) (inside h (ℕ-discrete n 0)))
   where
     inside : n ≤ 65535 → Dec (n ≡ 0) → n ≡ 0
     inside h (yes z) = z
-    inside h (no z) = absurd (not-both (test-and (test-lt 0 n) (test-le n 65535) .says (NatL.pos-of-ne-zero z, h)) e)
+    inside h (no z) = absurd (not-both (good-index n (NatL.pos-of-ne-zero z) h) e)
 
 pub taken-none : (n : ℕ) → goodIndex n ≡ false → takenApart n ≡ partsOf 0
 unfolding takenApart
@@ -99,3 +102,20 @@ no-degree kind n e =
 
 pub its-degree : (kind n d : ℕ) → n ≤ 65535 → d ≡ degree kind n → d ≡ cond (ltb 65535 n) 0 (degree kind n)
 its-degree kind n d h e = e ∙ sym (ap (λ b. cond b 0 (degree kind n)) (le-ltb 65535 n h))
+
+pub degree-le : (kind n : ℕ) → degree kind n ≤ n
+unfolding degree
+degree-le kind n = go (eqb kind 1) (phi n) (phi-le n)
+  where
+    go : (b : Bool) (p : ℕ) → p ≤ n → cond b p (n - p) ≤ n
+    go true p h = h
+    go false p h = omega arith
+
+-- as `degree_of` tells it, it is the true one within reach, and small everywhere
+module _ (kind n d : ℕ) (told : d ≡ cond (ltb 65535 n) 0 (degree kind n)) where
+  pub told-right : n ≤ 65535 → d ≡ degree kind n
+  told-right h = told ∙ simp (le-ltb 65535 n h)
+
+  pub told-small : d ≤ 65535
+  told-small = by-order 65535 n (λ h. rw (told, lt-ltb 65535 n h) (omega arith))
+      (λ h. rw (told-right h) (omega (arith, degree-le kind n)))

@@ -1,6 +1,6 @@
 -- The header there and back: what stands in a header is what it was made of, and a right header is the header of what
 -- stands in it, byte for byte.
-use Prim.Native.Nat.{_+_, _≤_, ℕ}
+use Prim.Native.Nat.{_+_, _<_, _≤_, ℕ}
 use borrow.Author.Tests.{eqb-true}
 use lib.Dec.{eqb}
 use lib.ListN.{length, getD, drop, take, length-drop}
@@ -9,7 +9,8 @@ use mathlib.Core.Bool.{_&&_, Bool, true, true≢false, false}
 use mathlib.Core.List.{_++_, [], _∷_, List}
 use mathlib.Core.Path.{_≡_, refl, ap₂, ap, _∙_, sym}
 use native.Mathlib.Omega.{arith}
-use Rattle.record.specs.Header.{kindIn, headerOf, widthIn, indexIn, countIn, marked}
+use native.Mathlib.Nat.{add-zero}
+use Rattle.record.specs.Header.{headerOf, marked, inField, kindIn, widthIn, indexIn, countIn}
 use Rattle.widths.specs.Numbers.{bytesOf, number}
 use Rattle.widths.proofs.Digits.{Bytes, bytes-take, bytes-drop, number-bytes, number-less, bytes-number}
 use Rattle.record.proofs.Headers.{Right}
@@ -21,19 +22,19 @@ module _ (kind w n count : ℕ) (rest : List ℕ) where
   marked-back = refl
 
   pub kind-back : kindIn (headerOf kind w n count ++ rest) ≡ kind
-  unfolding kindIn headerOf
-  kind-back = refl
+  unfolding inField headerOf number
+  kind-back = add-zero kind
 
   pub width-back : widthIn (headerOf kind w n count ++ rest) ≡ w
-  unfolding widthIn headerOf
-  width-back = refl
+  unfolding inField headerOf number
+  width-back = add-zero w
 
   pub index-back : n ≤ 65535 → indexIn (headerOf kind w n count ++ rest) ≡ n
-  unfolding indexIn headerOf bytesOf number
+  unfolding inField headerOf bytesOf number
   index-back h = number-bytes 2 n (omega arith)
 
   pub count-back : count ≤ 65536 → countIn (headerOf kind w n count ++ rest) ≡ count
-  unfolding countIn headerOf bytesOf number
+  unfolding inField headerOf bytesOf number
   count-back h = number-bytes 4 count (omega arith)
 
 -- and the other way: the header's bytes are those of its fields
@@ -56,9 +57,14 @@ part-same w at bs h p =
     bytes-number w (take w (drop at bs)) (length-take-le w (drop at bs) (rw length-drop (omega arith)))
     (bytes-take w (drop at bs) (bytes-drop at bs p))
 
+-- a field of one byte holds that byte
+byte-in : (bs : List ℕ) (at : ℕ) → at < length bs → number (take 1 (drop at bs)) ≡ getD bs at 0
+unfolding number
+byte-in bs at h = rw (drop-cons bs at 0 h) (add-zero (getD bs at 0))
+
 pub header-same : (bs : List ℕ) → Bytes bs → Right bs → headerOf (kindIn bs) (widthIn bs) (indexIn bs) (countIn bs)
     ≡ take 10 bs
-unfolding headerOf kindIn widthIn indexIn countIn marked
+unfolding headerOf inField marked
 header-same bs p r =
     let h = r .long in
     let m = and-both (eqb (getD bs 0 0) 0xC9) (eqb (getD bs 1 0) 0x50) (r .mark) in
@@ -66,7 +72,9 @@ header-same bs p r =
     let w = getD bs 3 0 in
     let six : take 6 (drop 4 bs) ≡ take 2 (drop 4 bs) ++ take 4 (drop 6 bs) = take-add 2 4 (drop 4 bs)
     ∙ ap (λ (l : List ℕ). take 2 (drop 4 bs) ++ take 4 l) (drop-drop 2 4 bs) in
-    ap₂ (λ (x y : List ℕ). 0xC9 ∷ 0x50 ∷ k ∷ w ∷ x ++ y) (part-same 2 4 bs (omega arith) p)
+    ap₂ (λ (x y : ℕ). 0xC9 ∷ 0x50 ∷ x ∷ y ∷ bytesOf 2 (indexIn bs) ++ bytesOf 4 (countIn bs))
+    (byte-in bs 2 (omega arith)) (byte-in bs 3 (omega arith))
+    ∙ ap₂ (λ (x y : List ℕ). 0xC9 ∷ 0x50 ∷ k ∷ w ∷ x ++ y) (part-same 2 4 bs (omega arith) p)
     (part-same 4 6 bs (omega arith) p)
     ∙ ap₂ (λ (x y : ℕ). x ∷ y ∷ k ∷ w ∷ take 2 (drop 4 bs) ++ take 4 (drop 6 bs))
     (sym (eqb-true (getD bs 0 0) 0xC9 (m .0)))
@@ -74,7 +82,7 @@ header-same bs p r =
     ∙ sym (take-add 4 6 bs ∙ ap₂ _++_ (four bs h) six)
 
 pub index-small : (bs : List ℕ) → 10 ≤ length bs → Bytes bs → indexIn bs ≤ 65535
-unfolding indexIn
+unfolding inField
 index-small bs h p =
     let b = number-less 2 (take 2 (drop 4 bs)) (length-take-le 2 (drop 4 bs) (rw length-drop (omega arith)))
     (bytes-take 2 (drop 4 bs) (bytes-drop 4 bs p)) in

@@ -5,13 +5,15 @@ use borrow.Author.Tests.{eq-eqb, ltb-false, eqb-false, le-ltb, ne-eqb, lt-ltb, e
 use lib.Dec.{ltb, eqb}
 use lib.ListN.{length, length-append, set, length-set}
 use lib.Seq.{sets}
-use mathlib.Core.Bool.{_&&_, Bool, not, true, cond, false}
+use mathlib.Core.Bool.{Bool, not, true, cond, false}
 use mathlib.Core.List.{List}
 use mathlib.Core.Logic.{⊎-elim}
 use mathlib.Core.Path.{_≡_, refl, ap, _∙_, sym}
 use native.Mathlib.Omega.{arith}
-use Rattle.definitions.specs.Codes.{DONE, MARK, SHORT, FIELD, CUT}
-use Rattle.record.specs.Header.{kindIn, isKind, headerOf, widthIn, headerCode, indexIn, fieldsRight, marked}
+use Rattle.definitions.specs.Codes.{DONE, MARK, SHORT, CUT, RKIND, RWIDTH, RINDEX, RCOUNT}
+use Rattle.definitions.specs.Requests.{knownKind}
+use Rattle.record.specs.Header.{headerOf, marked, fields, kindIn, widthIn, indexIn, countIn, degreeIn}
+use Rattle.record.specs.Header.{fieldCode, headerCode}
 use Rattle.widths.specs.Numbers.{bytesOf, oneOf, widths}
 use Rattle.widths.proofs.Least.{or-cases, width-bounds}
 use Rattle.widths.proofs.Digits.{length-bytesOf}
@@ -46,70 +48,83 @@ module _ (bs : List ℕ) where
     unfolding headerCode
     header-unmarked m = simp (le-ltb (length bs) 10 s, m)
 
-    module _ (m : marked bs ≡ true) where
-      pub header-kind : isKind (kindIn bs) ≡ false → headerCode bs ≡ FIELD
-      unfolding headerCode fieldsRight
-      header-kind k = simp (le-ltb (length bs) 10 s, m, k)
+    pub header-fields : marked bs ≡ true → headerCode bs ≡ fieldCode fields bs
+    unfolding headerCode
+    header-fields m = simp (le-ltb (length bs) 10 s, m)
 
-      module _ (k : isKind (kindIn bs) ≡ true) where
-        pub header-width : oneOf widths (widthIn bs) ≡ false → headerCode bs ≡ FIELD
-        unfolding headerCode fieldsRight
-        header-width w = simp (le-ltb (length bs) 10 s, m, k, w)
+  -- its fields, by what stands in them
+  pub field-kind : knownKind (kindIn bs) ≡ false → fieldCode fields bs ≡ RKIND
+  unfolding fieldCode
+  field-kind k = simp k
 
-        module _ (w : oneOf widths (widthIn bs) ≡ true) where
-          pub header-zero : indexIn bs ≡ 0 → headerCode bs ≡ FIELD
-          unfolding headerCode fieldsRight
-          header-zero z = simp (le-ltb (length bs) 10 s, m, k, w, eq-eqb (indexIn bs) 0 z)
+  module _ (k : knownKind (kindIn bs) ≡ true) where
+    pub field-width : oneOf widths (widthIn bs) ≡ false → fieldCode fields bs ≡ RWIDTH
+    unfolding fieldCode
+    field-width w = simp (k, w)
 
-          pub header-right : (indexIn bs ≡ 0 → ⊥) → headerCode bs ≡ DONE
-          unfolding headerCode fieldsRight
-          header-right z = simp (le-ltb (length bs) 10 s, m, k, w, ne-eqb (indexIn bs) 0 z)
+    module _ (w : oneOf widths (widthIn bs) ≡ true) where
+      pub field-zero : indexIn bs ≡ 0 → fieldCode fields bs ≡ RINDEX
+      unfolding fieldCode
+      field-zero z = simp (k, w, eq-eqb (indexIn bs) 0 z)
+
+      module _ (z : indexIn bs ≡ 0 → ⊥) where
+        pub field-count : (countIn bs ≡ degreeIn bs + 1 → ⊥) → fieldCode fields bs ≡ RCOUNT
+        unfolding fieldCode
+        field-count c = simp (k, w, ne-eqb (indexIn bs) 0 z, ne-eqb (countIn bs) (degreeIn bs + 1) c)
+
+        pub fields-right : countIn bs ≡ degreeIn bs + 1 → fieldCode fields bs ≡ DONE
+        unfolding fieldCode
+        fields-right c = simp (k, w, ne-eqb (indexIn bs) 0 z, eq-eqb (countIn bs) (degreeIn bs + 1) c)
 
 -- and back: what a right header has
 pub record Right (bs : List ℕ) : Type 0 where
   pub long : 10 ≤ length bs
   pub mark : marked bs ≡ true
-  pub kind : isKind (kindIn bs) ≡ true
+  pub kind : knownKind (kindIn bs) ≡ true
   pub wide : oneOf widths (widthIn bs) ≡ true
   pub index : indexIn bs ≡ 0 → ⊥
+  pub count : countIn bs ≡ degreeIn bs + 1
 
-pub right : (bs : List ℕ) → headerCode bs ≡ DONE → Right bs
-unfolding headerCode fieldsRight
-right bs = go (ltb (length bs) 10) refl (marked bs) refl (isKind (kindIn bs)) refl (oneOf widths (widthIn bs)) refl
-    (eqb (indexIn bs) 0) refl
+-- what holds of each code that a header gives, and of DONE where it is right, holds of its code
+header-cases : (P : ℕ → Type 0) (bs : List ℕ) → P CUT → P MARK → P RKIND → P RWIDTH → P RINDEX → P RCOUNT
+    → (Right bs → P DONE) → P (headerCode bs)
+unfolding headerCode fieldCode
+header-cases P bs cut mark kind wide index count done =
+    go (ltb (length bs) 10) refl (marked bs) refl (knownKind (kindIn bs)) refl (oneOf widths (widthIn bs)) refl
+    (eqb (indexIn bs) 0) refl (eqb (countIn bs) (degreeIn bs + 1)) refl
   where
-    wrong : {k : ℕ} → suc k ≡ 0 → Right bs
-    wrong e = absurd (omega arith)
-
-    go : (s : Bool) → ltb (length bs) 10 ≡ s → (m : Bool) → marked bs ≡ m → (k : Bool) → isKind (kindIn bs) ≡ k
-        → (w : Bool) →
-        oneOf widths (widthIn bs) ≡ w → (z : Bool) → eqb (indexIn bs) 0 ≡ z →
-        cond s CUT (cond (not m) MARK (cond (not (k && w && not z)) FIELD DONE)) ≡ DONE → Right bs
-    go true es m em k ek w ew z ez e = wrong e
-    go false es false em k ek w ew z ez e = wrong e
-    go false es true em false ek w ew z ez e = wrong e
-    go false es true em true ek false ew z ez e = wrong e
-    go false es true em true ek true ew true ez e = wrong e
-    go false es true em true ek true ew false ez e = record {
+    go : (s : Bool) → ltb (length bs) 10 ≡ s → (m : Bool) → marked bs ≡ m → (k : Bool) → knownKind (kindIn bs) ≡ k
+        → (w : Bool) → oneOf widths (widthIn bs) ≡ w → (z : Bool) → eqb (indexIn bs) 0 ≡ z
+        → (c : Bool) → eqb (countIn bs) (degreeIn bs + 1) ≡ c →
+        P (cond s CUT (cond (not m) MARK (cond k (cond w (cond (not z) (cond c DONE RCOUNT) RINDEX) RWIDTH) RKIND)))
+    go true es m em k ek w ew z ez c ec = cut
+    go false es false em k ek w ew z ez c ec = mark
+    go false es true em false ek w ew z ez c ec = kind
+    go false es true em true ek false ew z ez c ec = wide
+    go false es true em true ek true ew true ez c ec = index
+    go false es true em true ek true ew false ez false ec = count
+    go false es true em true ek true ew false ez true ec = done (record {
       long = ltb-false (length bs) 10 es;
       mark = em;
       kind = ek;
       wide = ew;
       index = eqb-false (indexIn bs) 0 ez;
-    }
+      count = eqb-true (countIn bs) (degreeIn bs + 1) ec;
+    })
+
+pub right : (bs : List ℕ) → headerCode bs ≡ DONE → Right bs
+right bs = header-cases (λ code. code ≡ DONE → Right bs) bs wrong wrong wrong wrong wrong wrong (λ r e. r)
+  where
+    wrong : {k : ℕ} → suc k ≡ 0 → Right bs
+    wrong e = absurd (omega arith)
 
 pub header-codes : (bs : List ℕ) → headerCode bs ≡ SHORT → ⊥
-unfolding headerCode
-header-codes bs = go (ltb (length bs) 10) (marked bs) (fieldsRight bs)
-  where
-    go : (s m f : Bool) → cond s CUT (cond (not m) MARK (cond (not f) FIELD DONE)) ≡ SHORT → ⊥
-    go true m f e = omega arith
-    go false false f e = omega arith
-    go false true false e = omega arith
-    go false true true e = omega arith
+header-codes bs =
+    header-cases (λ code. code ≡ SHORT → ⊥) bs (λ e. omega arith) (λ e. omega arith) (λ e. omega arith)
+    (λ e. omega arith) (λ e. omega arith) (λ e. omega arith) (λ r e. omega arith)
 
-pub kind-small : (kind : ℕ) → isKind kind ≡ true → kind ≤ 2
-unfolding isKind
+pub kind-small : (kind : ℕ) → knownKind kind ≡ true → kind ≤ 2
+unfolding knownKind
 kind-small kind k =
     ⊎-elim (λ e. let s : kind ≡ 1 = eqb-true kind 1 e in omega arith) (λ e. let s : kind ≡ 2 = eqb-true kind 2 e in
     omega arith) (or-cases (eqb kind 1) (eqb kind 2) k)

@@ -1,13 +1,15 @@
 // The header: 10 bytes, the same in every form of a record.
 use super::bytes::get;
 use super::bytes::put;
-use super::bytes::wide;
+use answers::known_kind;
+use index::degree_of;
 use widths::is_width;
 ghost use mathlib.Core.Path.{_≡_};
-ghost use Prim.Native.Nat.{_<_, _≤_};
-ghost use lib.ListN.{length, getD};
+ghost use Prim.Native.Nat.{_≤_};
+ghost use lib.ListN.{length};
 ghost use lib.Seq.{sets};
-ghost use Rattle.record.specs.Header.{headerOf, headerCode, isKind, marked, indexIn, countIn};
+ghost use Rattle.record.specs.Header.{headerOf, marked, fields};
+ghost use Rattle.record.specs.Header.{kindIn, widthIn, indexIn, countIn, fieldCode, headerCode, byteOf};
 
 // The 10 bytes before the coefficients.
 pub fn put_header(bytes: &mut [u8], kind: u8, w: u8, n: u64, count: u64)
@@ -22,7 +24,6 @@ pub fn put_header(bytes: &mut [u8], kind: u8, w: u8, n: u64, count: u64)
     put(bytes, 6, 4, count);
 }
 
-// What stands in a header.
 fn is_marked(bytes: &[u8]) -> bool
     requires { ⌜ 10 ≤ length (now bytes) ⌝ }
     ensures { λ r. ⌜ r ≡ marked (now (bytes .entry)) ⌝ }
@@ -30,18 +31,19 @@ fn is_marked(bytes: &[u8]) -> bool
     bytes[0] == 0xC9 && bytes[1] == 0x50
 }
 
-pub fn is_kind(kind: u64) -> bool
-    ensures { λ r. ⌜ r ≡ isKind kind ⌝ }
+// What stands in the fields.
+pub fn kind_in(bytes: &[u8]) -> u64
+    requires { ⌜ 10 ≤ length (now bytes) ⌝ }
+    ensures { λ r. ⌜ r ≡ kindIn (now (bytes .entry)) ⌝ }
 {
-    kind == 1 || kind == 2
+    get(bytes, 2, 1)
 }
 
-// The field that is one byte at a place: the kind at 2, the width at 3.
-pub fn field(bytes: &[u8], at: usize) -> u64
-    requires { ⌜ (10 ≤ length (now bytes)) × (at < 10) ⌝ }
-    ensures { λ r. ⌜ r ≡ getD (now (bytes .entry)) at 0 ⌝ }
+pub fn width_in(bytes: &[u8]) -> u64
+    requires { ⌜ 10 ≤ length (now bytes) ⌝ }
+    ensures { λ r. ⌜ r ≡ widthIn (now (bytes .entry)) ⌝ }
 {
-    wide(bytes[at])
+    get(bytes, 3, 1)
 }
 
 pub fn index_in(bytes: &[u8]) -> u64
@@ -58,7 +60,31 @@ pub fn count_in(bytes: &[u8]) -> u64
     get(bytes, 6, 4)
 }
 
-// What the header says by itself: CUT, MARK, FIELD, or nothing wrong.
+// The first field that is wrong, by its code. The degree is worked out last: it takes n apart.
+fn field_code(bytes: &[u8]) -> u64
+    requires { ⌜ 10 ≤ length (now bytes) ⌝ }
+    ensures { λ r. ⌜ r ≡ fieldCode fields (now (bytes .entry)) ⌝ }
+{
+    let kind = kind_in(bytes);
+    let kind_right = known_kind(kind);
+    let width_right = is_width(width_in(bytes));
+    if !kind_right {
+        return answers::RKIND;
+    }
+    if !width_right {
+        return answers::RWIDTH;
+    }
+    let n = index_in(bytes);
+    if n == 0 {
+        return answers::RINDEX;
+    }
+    if count_in(bytes) != degree_of(kind, n) + 1 {
+        return answers::RCOUNT;
+    }
+    answers::DONE
+}
+
+// What the header says by itself: CUT, MARK, a wrong field, or nothing wrong.
 pub fn header_code(bytes: &[u8]) -> u64
     ensures { λ r. ⌜ r ≡ headerCode (now (bytes .entry)) ⌝ }
 {
@@ -68,14 +94,18 @@ pub fn header_code(bytes: &[u8]) -> u64
     if !is_marked(bytes) {
         return answers::MARK;
     }
-    if !is_kind(field(bytes, 2)) {
-        return answers::FIELD;
+    field_code(bytes)
+}
+
+// The byte at which the field of a code starts.
+pub fn byte_of(code: u64) -> u64
+    ensures { λ r. ⌜ r ≡ byteOf fields code ⌝ }
+{
+    match code {
+        answers::RKIND => 2,
+        answers::RWIDTH => 3,
+        answers::RINDEX => 4,
+        answers::RCOUNT => 6,
+        _ => 0,
     }
-    if !is_width(field(bytes, 3)) {
-        return answers::FIELD;
-    }
-    if index_in(bytes) == 0 {
-        return answers::FIELD;
-    }
-    answers::DONE
 }

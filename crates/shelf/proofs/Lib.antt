@@ -2,7 +2,6 @@
 pub mod Told
 pub mod Writing
 pub mod Reading
-pub mod Degrees
 pub mod Done
 pub mod WriteRead
 pub mod ReadWrite

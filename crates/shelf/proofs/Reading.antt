@@ -11,79 +11,71 @@ use lib.IntN.{ℤ}
 use lib.Dec.{eqb}
 use borrow.Author.Tests.{eq-eqb, ne-eqb, lt-ltb, le-ltb}
 use Rattle.definitions.specs.Answer.{heightOf}
-use Rattle.definitions.specs.Codes.{DONE, SHORT, CUT, FIELD, WIDTH}
+use Rattle.definitions.specs.Codes.{DONE, SHORT, CUT, WIDTH}
 use Rattle.widths.specs.Numbers.{coefficientsAt, widths, leastOf, width}
-use Rattle.record.specs.Header.{widthIn, countIn, headerCode}
+use Rattle.record.specs.Header.{fields, kindIn, widthIn, indexIn, countIn, degreeIn, headerCode, byteOf}
 use Rattle.record.proofs.Passes.{length-at}
 use Rattle.record.proofs.Headers.{header-codes}
 use Rattle.shelf.specs.declared.Record.{Record}
 use Rattle.shelf.specs.Format.{coefficientsIn, sizeIn, readCode, readTells, readAnswer, readLeaves}
 
-module _ (d : ℕ) (bs : List ℕ) (cs : List ℤ) where
+module _ (bs : List ℕ) (cs : List ℤ) where
   abbrev pub Answered : Record → List ℤ → Type 0
-  Answered r cs′ = (r ≡ readAnswer d bs (length cs)) × (cs′ ≡ readLeaves d bs cs)
+  Answered r cs′ = (r ≡ readAnswer bs (length cs)) × (cs′ ≡ readLeaves bs cs)
 
   -- all that hangs on the code
-  by-code : (code : ℕ) → readCode d bs (length cs) ≡ code →
-      Answered (readTells d bs code) (cond (eqb code DONE) (coefficientsIn bs ++ drop (countIn bs) cs) cs)
+  by-code : (code : ℕ) → readCode bs (length cs) ≡ code →
+      Answered (readTells bs code) (cond (eqb code DONE) (coefficientsIn bs ++ drop (countIn bs) cs) cs)
   unfolding readAnswer readLeaves
   by-code code e = rw e (refl, refl)
 
   pub header-wrong : (code : ℕ) → code ≡ headerCode bs → (code ≡ DONE → ⊥) →
-      Answered (record { code = code; degree = 0; used = 0; kind = 0; n = 0 }) cs
+      Answered (record { code = code; degree = 0; used = 0; kind = 0; n = 0; byte = byteOf fields code }) cs
   unfolding readCode readTells
   header-wrong code h z =
       let nz = ne-eqb code DONE z in
       let ns : eqb code SHORT ≡ false = ne-eqb code SHORT (λ e. header-codes bs (sym h ∙ e)) in
-      let e : readCode d bs (length cs) ≡ code = rw (← h, nz) in
+      let e : readCode bs (length cs) ≡ code = rw (← h, nz) in
       simp (nz, ns) at (by-code code e)
 
   module _ (h : headerCode bs ≡ DONE) where
-    pub count-wrong : (countIn bs ≡ d + 1 → ⊥) → Answered (readTells d bs FIELD) cs
+    pub cut : length bs < sizeIn bs → Answered (readTells bs CUT) cs
     unfolding readCode
-    count-wrong m = by-code FIELD (simp (h, ne-eqb (countIn bs) (d + 1) m))
+    cut s = by-code CUT (simp (h, lt-ltb (length bs) (sizeIn bs) s))
 
-    module _ (m : countIn bs ≡ d + 1) where
-      pub cut : length bs < sizeIn bs → Answered (readTells d bs CUT) cs
+    module _ (s : sizeIn bs ≤ length bs) where
+      pub no-room : length cs < countIn bs → Answered (readTells bs SHORT) cs
       unfolding readCode
-      cut s = by-code CUT (simp (h, eq-eqb (countIn bs) (d + 1) m, lt-ltb (length bs) (sizeIn bs) s))
+      no-room r = by-code SHORT (simp (h, le-ltb (length bs) (sizeIn bs) s, lt-ltb (length cs) (countIn bs) r))
 
-      module _ (s : sizeIn bs ≤ length bs) where
-        pub no-room : length cs < countIn bs → Answered (readTells d bs SHORT) cs
+      module _ (r : countIn bs ≤ length cs) where
+        pub width-wrong : (width (coefficientsIn bs) ≡ widthIn bs → ⊥) → Answered (readTells bs WIDTH) cs
         unfolding readCode
-        no-room r = by-code SHORT
-            (simp (
-              h,
-              eq-eqb (countIn bs) (d + 1) m,
-              le-ltb (length bs) (sizeIn bs) s,
-              lt-ltb (length cs) (countIn bs) r,
-            ))
+        width-wrong w = by-code WIDTH (simp (
+          h,
+          le-ltb (length bs) (sizeIn bs) s,
+          le-ltb (length cs) (countIn bs) r,
+          ne-eqb (width (coefficientsIn bs)) (widthIn bs) w,
+        ))
 
-        module _ (r : countIn bs ≤ length cs) where
-          pub width-wrong : (width (coefficientsIn bs) ≡ widthIn bs → ⊥) → Answered (readTells d bs WIDTH) cs
-          unfolding readCode
-          width-wrong w = by-code WIDTH (simp (
-            h,
-            eq-eqb (countIn bs) (d + 1) m,
-            le-ltb (length bs) (sizeIn bs) s,
-            le-ltb (length cs) (countIn bs) r,
-            ne-eqb (width (coefficientsIn bs)) (widthIn bs) w,
-          ))
-
-          pub filled : width (coefficientsIn bs) ≡ widthIn bs
-              → Answered (readTells d bs DONE) (coefficientsIn bs ++ drop (countIn bs) cs)
-          unfolding readCode
-          filled w = by-code DONE (simp (
-            h,
-            eq-eqb (countIn bs) (d + 1) m,
-            le-ltb (length bs) (sizeIn bs) s,
-            le-ltb (length cs) (countIn bs) r,
-            eq-eqb (width (coefficientsIn bs)) (widthIn bs) w,
-          ))
+        pub filled : width (coefficientsIn bs) ≡ widthIn bs
+            → Answered (readTells bs DONE) (coefficientsIn bs ++ drop (countIn bs) cs)
+        unfolding readCode
+        filled w = by-code DONE (simp (
+          h,
+          le-ltb (length bs) (sizeIn bs) s,
+          le-ltb (length cs) (countIn bs) r,
+          eq-eqb (width (coefficientsIn bs)) (widthIn bs) w,
+        ))
 
 pub length-all : (bs : List ℕ) → length (coefficientsIn bs) ≡ countIn bs
 unfolding coefficientsIn
 length-all bs = length-at (widthIn bs) (countIn bs) (drop 10 bs)
+
+pub all-told : (bs : List ℕ) (d s kind n : ℕ) → d ≡ degreeIn bs → s ≡ sizeIn bs → kind ≡ kindIn bs → n ≡ indexIn bs →
+    record { code = DONE; degree = d; used = s; kind = kind; n = n; byte = 0 } ≡ readTells bs DONE
+unfolding readTells byteOf
+all-told bs d s kind n ed es ek en = rw (ed, es, ek, en)
 
 -- as the functions have it, with w and k for the width and the count in the header
 module _ (bs : List ℕ) (w k : ℕ) (ew : w ≡ widthIn bs) (ek : k ≡ countIn bs) where

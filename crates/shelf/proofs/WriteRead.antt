@@ -1,5 +1,5 @@
 -- What stands in a record, and how the reader takes it: the record's own fields and coefficients.
-use Prim.Native.Nat.{ℕ, _≤_}
+use Prim.Native.Nat.{ℕ, _+_, _≤_}
 use mathlib.Core.Path.{_≡_, sym, ap, _∙_}
 use mathlib.Core.Bool.{false, true≢false}
 use mathlib.Core.List.{List, _++_, append-assoc}
@@ -12,13 +12,15 @@ use Rattle.definitions.specs.Answer.{heightOf}
 use Rattle.definitions.specs.Steps.{largest}
 use Rattle.definitions.specs.Codes.{DONE}
 use Rattle.definitions.specs.Polynomials.{degree}
+use Rattle.definitions.specs.Requests.{knownKind}
 use Rattle.widths.specs.Numbers.{body, widths, oneOf, width}
-use Rattle.record.specs.Header.{headerOf, isKind, countIn}
+use Rattle.record.specs.Header.{headerOf, countIn, degreeIn, byteOf}
+use Rattle.index.proofs.Laws.{index-good, degree-le}
 use Rattle.widths.proofs.Least.{Fitting, width-none, width-some}
 use Rattle.widths.proofs.Digits.{coefficients-body}
-use Rattle.record.proofs.Headers.{length-header, header-right}
+use Rattle.record.proofs.Headers.{length-header, header-fields, fields-right}
 use Rattle.record.proofs.HeaderTrips.{marked-back, kind-back, width-back, index-back, count-back}
-use Rattle.shelf.specs.Format.{recordOf, size, writeCode, writeLeaves, degreeIn, coefficientsIn, sizeIn}
+use Rattle.shelf.specs.Format.{recordOf, size, writeCode, writeLeaves, coefficientsIn, sizeIn}
 use Rattle.shelf.specs.Format.{readTells, readAnswer, readLeaves}
 use Rattle.shelf.proofs.Writing.{length-record}
 use Rattle.shelf.proofs.Reading.{filled}
@@ -38,7 +40,7 @@ is-laid kind n cs rest = append-assoc (headerOf kind (width cs) n (length cs)) (
 
 -- what stands in it, beside what stands in its header
 module _ (kind n : ℕ) (cs : List ℤ) (rest : List ℕ) where
-  pub degree-back : n ≤ 65535 → degreeIn (laid kind n cs rest) ≡ degree kind n
+  degree-back : n ≤ 65535 → degreeIn (laid kind n cs rest) ≡ degree kind n
   unfolding degreeIn
   degree-back h = rw (kind-back, index-back kind (width cs) n (length cs) (body (width cs) cs ++ rest) h)
 
@@ -58,24 +60,24 @@ module _ (kind n : ℕ) (cs : List ℤ) (rest : List ℕ) where
   size-back h = rw (width-back, counted h)
 
 -- Written, then read.
-module _ (d kind n : ℕ) (cs : List ℤ) (b : List ℕ) (small : d ≤ 65535)
-    (done : writeCode d kind n cs (length b) ≡ DONE) where
-  pub left-written : writeLeaves d kind n cs b ≡ laid kind n cs (drop (size cs) b)
+module _ (kind n : ℕ) (cs : List ℤ) (b : List ℕ) (done : writeCode kind n cs (length b) ≡ DONE) where
+  pub left-written : writeLeaves kind n cs b ≡ laid kind n cs (drop (size cs) b)
   unfolding writeLeaves
   left-written = rw done (is-laid kind n cs (drop (size cs) b))
 
   pub write-read-record : (out : List ℤ) → length cs ≤ length out →
-      let bs = laid kind n cs (drop (size cs) b) in (readAnswer d bs (length out)
-      ≡ record { code = DONE; degree = d; used = size cs; kind = kind; n = n })
-      × (readLeaves d bs out ≡ cs ++ drop (length cs) out)
-  unfolding readTells
+      let bs = laid kind n cs (drop (size cs) b) in (readAnswer bs (length out)
+      ≡ record { code = DONE; degree = degree kind n; used = size cs; kind = kind; n = n; byte = 0 })
+      × (readLeaves bs out ≡ cs ++ drop (length cs) out)
+  unfolding readTells byteOf
   write-read-record out room =
       let rest = drop (size cs) b in
       let bs = laid kind n cs rest in
       let w = width cs in
       let after = body w cs ++ rest in
-      let g = written-right d kind n cs (length b) done in
-      let few : length cs ≤ 65536 = omega (arith, g .count) in
+      let g = written-right kind n cs (length b) done in
+      let reach = index-good n (g .good) in
+      let few : length cs ≤ 65536 = omega (arith, degree-le kind n, reach .1, g .count) in
       let f = has-width cs (g .within) in
       let least : 10 ≤ size cs = unfold size in omega arith in
       let long : length bs ≡ length b =
@@ -84,10 +86,11 @@ module _ (d kind n : ℕ) (cs : List ℤ) (b : List ℕ) (small : d ≤ 65535)
       let back = coefficients-back kind n cs rest few f in
       let is-kind = kind-back kind w n (length cs) after in
       let wide = width-back kind w n (length cs) after in
-      let index = index-back kind w n (length cs) after (g .high) in
+      let index = index-back kind w n (length cs) after (reach .1) in
       let whole = size-back kind n cs rest few in
-      let head = header-right bs (omega (arith, g .fits)) (marked-back kind w n (length cs) after)
-      (ap isKind is-kind ∙ g .kinds) (ap (oneOf widths) wide ∙ f .one) (λ z. g .low (sym index ∙ z)) in
-      let p = filled d bs out head (count ∙ g .count) (omega (arith, g .fits)) (omega arith)
-      (ap width back ∙ sym wide) in
-      (sym (p .0) ∙ rw (whole, is-kind, index), sym (p .1) ∙ rw (back, count))
+      let true-degree = degree-back kind n cs rest (reach .1) in
+      let head = header-fields bs (omega (arith, g .fits)) (marked-back kind w n (length cs) after)
+      ∙ fields-right bs (ap knownKind is-kind ∙ g .known) (ap (oneOf widths) wide ∙ f .one) (λ z. omega (arith, index, reach .0))
+      (count ∙ g .count ∙ ap (λ (d : ℕ). d + 1) (sym true-degree)) in
+      let p = filled bs out head (omega (arith, g .fits)) (omega arith) (ap width back ∙ sym wide) in
+      (sym (p .0) ∙ rw (true-degree, whole, is-kind, index), sym (p .1) ∙ rw (back, count))

@@ -1,7 +1,7 @@
 -- The writer's answers, a code each, from the tests that led there; and what the stores leave.
 use Prim.Native.Nat.{ℕ, _+_, _*_, _≤_, _<_}
 use mathlib.Core.Path.{_≡_, refl, sym, _∙_}
-use mathlib.Core.Bool.{true, false, cond, _||_}
+use mathlib.Core.Bool.{true, false, cond}
 use mathlib.Core.List.{List, _++_}
 use native.Mathlib.Omega.{arith}
 use native.Mathlib.Nat.{zero-add}
@@ -11,10 +11,12 @@ use lib.IntN.{ℤ}
 use lib.Dec.{eqb, ltb}
 use borrow.Author.Tests.{eq-eqb, ne-eqb, lt-ltb, le-ltb}
 use Rattle.definitions.specs.Answer.{heightOf}
-use Rattle.definitions.specs.Codes.{DONE, KIND, INDEX, SHORT, OVER, FIELD}
+use Rattle.definitions.specs.Codes.{DONE, KIND, INDEX, SHORT, OVER, RCOUNT}
+use Rattle.definitions.specs.Polynomials.{degree}
+use Rattle.definitions.specs.Requests.{knownKind, goodIndex}
 use Rattle.definitions.specs.Steps.{largest}
 use Rattle.widths.specs.Numbers.{body, width}
-use Rattle.record.specs.Header.{headerOf, isKind}
+use Rattle.record.specs.Header.{headerOf, byteOf}
 use Rattle.record.proofs.Passes.{sets-append, length-body}
 use Rattle.record.proofs.Headers.{length-header}
 use Rattle.shelf.specs.declared.Written.{Written}
@@ -24,43 +26,50 @@ pub length-record : (kind n : ℕ) (cs : List ℤ) → length (recordOf kind n c
 unfolding recordOf size
 length-record kind n cs = rw (length-append, length-header, length-body)
 
-module _ (d kind n : ℕ) (cs : List ℤ) (b : List ℕ) where
+module _ (kind n : ℕ) (cs : List ℤ) (b : List ℕ) where
   abbrev pub Answered : Written → List ℕ → Type 0
-  Answered r b′ = (r ≡ writeAnswer d kind n cs (length b)) × (b′ ≡ writeLeaves d kind n cs b)
+  Answered r b′ = (r ≡ writeAnswer kind n cs (length b)) × (b′ ≡ writeLeaves kind n cs b)
 
   -- all that hangs on the code
-  by-code : (code : ℕ) → writeCode d kind n cs (length b) ≡ code →
-      Answered (writeTells d cs code) (cond (eqb code DONE) (recordOf kind n cs ++ drop (size cs) b) b)
+  by-code : (code : ℕ) → writeCode kind n cs (length b) ≡ code →
+      Answered (writeTells kind n cs code) (cond (eqb code DONE) (recordOf kind n cs ++ drop (size cs) b) b)
   unfolding writeAnswer writeLeaves
   by-code code e = rw e (refl, refl)
 
-  pub kind-wrong : isKind kind ≡ false → Answered (writeTells d cs KIND) b
+  pub kind-wrong : knownKind kind ≡ false → Answered (writeTells kind n cs KIND) b
   unfolding writeCode
   kind-wrong k = by-code KIND (simp k)
 
-  module _ (k : isKind kind ≡ true) where
-    pub index-wrong : (eqb n 0 || ltb 65535 n) ≡ true → Answered (writeTells d cs INDEX) b
+  module _ (k : knownKind kind ≡ true) where
+    pub index-wrong : goodIndex n ≡ false → Answered (writeTells kind n cs INDEX) b
     unfolding writeCode
     index-wrong i = by-code INDEX (simp (k, i))
 
-    module _ (i : (eqb n 0 || ltb 65535 n) ≡ false) where
-      pub count-wrong : (length cs ≡ d + 1 → ⊥) → Answered (writeTells d cs FIELD) b
+    module _ (i : goodIndex n ≡ true) where
+      pub count-wrong : (length cs ≡ degree kind n + 1 → ⊥) → Answered (writeTells kind n cs RCOUNT) b
       unfolding writeCode
-      count-wrong m = by-code FIELD (simp (k, i, ne-eqb (length cs) (d + 1) m))
+      count-wrong m = by-code RCOUNT (simp (k, i, ne-eqb (length cs) (degree kind n + 1) m))
 
-      module _ (m : length cs ≡ d + 1) where
-        pub too-low : ltb largest (heightOf cs) ≡ true → Answered (writeTells d cs OVER) b
+      module _ (m : length cs ≡ degree kind n + 1) where
+        pub too-low : ltb largest (heightOf cs) ≡ true → Answered (writeTells kind n cs OVER) b
         unfolding writeCode
-        too-low o = by-code OVER (simp (k, i, eq-eqb (length cs) (d + 1) m, o))
+        too-low o = by-code OVER (simp (k, i, eq-eqb (length cs) (degree kind n + 1) m, o))
 
         module _ (o : ltb largest (heightOf cs) ≡ false) where
-          pub no-room : length b < size cs → Answered (writeTells d cs SHORT) b
+          pub no-room : length b < size cs → Answered (writeTells kind n cs SHORT) b
           unfolding writeCode
-          no-room s = by-code SHORT (simp (k, i, eq-eqb (length cs) (d + 1) m, o, lt-ltb (length b) (size cs) s))
+          no-room s =
+              by-code SHORT (simp (k, i, eq-eqb (length cs) (degree kind n + 1) m, o, lt-ltb (length b) (size cs) s))
 
-          pub stored : size cs ≤ length b → Answered (writeTells d cs DONE) (recordOf kind n cs ++ drop (size cs) b)
+          pub stored : size cs ≤ length b → Answered (writeTells kind n cs DONE) (recordOf kind n cs ++ drop (size cs) b)
           unfolding writeCode
-          stored s = by-code DONE (simp (k, i, eq-eqb (length cs) (d + 1) m, o, le-ltb (length b) (size cs) s))
+          stored s =
+              by-code DONE (simp (k, i, eq-eqb (length cs) (degree kind n + 1) m, o, le-ltb (length b) (size cs) s))
+
+pub all-told : (kind n : ℕ) (cs : List ℤ) (d s : ℕ) → d ≡ degree kind n → s ≡ size cs →
+    record { code = DONE; degree = d; used = s; byte = 0 } ≡ writeTells kind n cs DONE
+unfolding writeTells byteOf
+all-told kind n cs d s ed es = rw (ed, es)
 
 -- header and body stored one after the other are the record, with the rest as it was
 pub record-stored : (kind n : ℕ) (cs : List ℤ) (b : List ℕ) → size cs ≤ length b →
@@ -82,13 +91,3 @@ record-made kind n w cs b b₁ b₂ e s e₁ e₂ = rw (e₂, e₁, e) (record-s
 pub size-made : (cs : List ℤ) (w : ℕ) → w ≡ width cs → 10 + length cs * w ≡ size cs
 unfolding size
 size-made cs w e = rw e
-
--- the index's tests
-pub index-zero : (n : ℕ) → n ≡ 0 → (eqb n 0 || ltb 65535 n) ≡ true
-index-zero n e = rw e
-
-pub index-above : (n : ℕ) → (n ≡ 0 → ⊥) → 65535 < n → (eqb n 0 || ltb 65535 n) ≡ true
-index-above n z h = simp (ne-eqb n 0 z, lt-ltb 65535 n h)
-
-pub index-right : (n : ℕ) → (n ≡ 0 → ⊥) → n ≤ 65535 → (eqb n 0 || ltb 65535 n) ≡ false
-index-right n z h = simp (ne-eqb n 0 z, le-ltb 65535 n h)

@@ -4,11 +4,16 @@ use mathlib.Core.Path.{_≡_, refl}
 use mathlib.Core.List.{List, [], _∷_, map}
 use lib.ListN.{set, take}
 use lib.IntN.{ℤ, pos, negsuc}
-use Rattle.definitions.specs.Codes.{DONE, KIND, INDEX, SHORT, OVER, CUT, MARK, FIELD, WIDTH}
+use Rattle.definitions.specs.Codes.{DONE, KIND, INDEX, SHORT, OVER, CUT, MARK, WIDTH, RKIND, RWIDTH, RINDEX, RCOUNT}
+use Rattle.definitions.specs.Numbers.{someTo, countTo, divides, shareFactor, phi}
+use Rattle.definitions.specs.Polynomials.{degree}
+use Rattle.definitions.specs.Requests.{knownKind, goodIndex}
 use Rattle.definitions.specs.Answer.{heightOf}
 use Rattle.widths.specs.Numbers.{bytesOf, number, top, twos, signedOf, body, coefficientsAt, oneOf, leastOf, width}
-use Rattle.record.specs.Header.{headerOf, isKind, marked, kindIn, widthIn, indexIn, countIn, fieldsRight, headerCode}
-use Rattle.shelf.specs.Format.{recordOf, size, writeCode, coefficientsIn, sizeIn, readCode}
+use Rattle.record.specs.Header.{headerOf, marked, inField, degreeIn, fieldCode, headerCode, byteOf}
+use Rattle.shelf.specs.declared.Written.{Written}
+use Rattle.shelf.specs.Format.{recordOf, size, writeCode, writeTells, writeAnswer, coefficientsIn, sizeIn}
+use Rattle.shelf.specs.Format.{readCode, readTells, readAnswer}
 
 -- F(6): C9 50 01 01 06 00 03 00 00 00 01 FF 01
 F6 : List ℕ
@@ -19,7 +24,7 @@ unfolding F6 recordOf headerOf body bytesOf twos width leastOf top heightOf
 writes-F6 = refl
 
 reads-F6 : coefficientsIn F6 ≡ pos 1 ∷ negsuc 0 ∷ pos 1 ∷ []
-unfolding F6 coefficientsIn coefficientsAt signedOf number kindIn widthIn countIn top
+unfolding F6 coefficientsIn coefficientsAt signedOf number inField top
 reads-F6 = refl
 
 -- the widths at their edges: 127, -127, 128, -128, 2^15 - 1, 2^15, 2^31 - 1, 2^31, 2^63 - 1, -2^63 and nothing
@@ -32,34 +37,46 @@ unfolding width leastOf top heightOf
 edges = refl
 
 -- F(6)'s record read, by the number of entries lent: 3, 2
-by-entries : map (λ (room : ℕ). readCode 2 F6 room) (3 ∷ 2 ∷ []) ≡ DONE ∷ SHORT ∷ []
-unfolding F6 readCode headerCode marked fieldsRight isKind oneOf kindIn widthIn indexIn countIn coefficientsIn sizeIn
-    coefficientsAt signedOf number top width leastOf heightOf
+by-entries : map (readCode F6) (3 ∷ 2 ∷ []) ≡ DONE ∷ SHORT ∷ []
+unfolding F6 readCode headerCode marked fieldCode inField knownKind oneOf degreeIn degree phi countTo shareFactor someTo
+    divides coefficientsIn sizeIn coefficientsAt signedOf number top width leastOf heightOf
 by-entries = refl
 
--- the same record with one byte changed, in 3 entries: marks, kind, width 2 and 3, index 0, count, and -128 for the 1
--- at the end; then cut after its 12th and its 9th byte
+-- the code and the byte that bytes read into 3 entries get
+said : List ℕ → ℕ × ℕ
+said bytes = (readAnswer bytes 3 .code, readAnswer bytes 3 .byte)
+
+-- the same record with one byte changed: marks, kind, width 2 and 3, index 0, count, and -128 for the 1 at the end; then
+-- cut after its 12th and its 9th byte
 damaged :
-    map (λ (bytes : List ℕ). readCode 2 bytes 3)
-    (set F6 0 0xC8 ∷ set F6 1 0x51 ∷ set F6 2 3 ∷ set F6 3 2 ∷ set F6 3 3 ∷ set F6 4 0 ∷ set F6 6 2 ∷ set F6 12 128
-    ∷ take 12 F6 ∷ take 9 F6 ∷ [])
-    ≡ MARK ∷ MARK ∷ FIELD ∷ CUT ∷ FIELD ∷ FIELD ∷ FIELD ∷ WIDTH ∷ CUT ∷ CUT ∷ []
-unfolding F6 readCode headerCode marked fieldsRight isKind oneOf kindIn widthIn indexIn countIn coefficientsIn sizeIn
-    coefficientsAt signedOf number top width leastOf heightOf
+    map said (set F6 0 0xC8 ∷ set F6 1 0x51 ∷ set F6 2 3 ∷ set F6 3 2 ∷ set F6 3 3 ∷ set F6 4 0 ∷ set F6 6 2
+    ∷ set F6 12 128 ∷ take 12 F6 ∷ take 9 F6 ∷ [])
+    ≡ (MARK, 0) ∷ (MARK, 0) ∷ (RKIND, 2) ∷ (CUT, 0) ∷ (RWIDTH, 3) ∷ (RINDEX, 4) ∷ (RCOUNT, 6) ∷ (WIDTH, 0) ∷ (CUT, 0)
+    ∷ (CUT, 0) ∷ []
+unfolding said F6 readAnswer readTells byteOf readCode headerCode marked fieldCode inField knownKind oneOf degreeIn degree
+    phi countTo shareFactor someTo divides coefficientsIn sizeIn coefficientsAt signedOf number top width leastOf heightOf
 damaged = refl
+
+-- two fields changed: kind and width, width and index, index and count; then the count, and cut
+both-wrong :
+    map said (set (set F6 2 0) 3 0 ∷ set (set F6 3 5) 4 0 ∷ set (set F6 4 0) 6 2 ∷ set (take 12 F6) 9 1 ∷ [])
+    ≡ (RKIND, 2) ∷ (RWIDTH, 3) ∷ (RINDEX, 4) ∷ (RCOUNT, 6) ∷ []
+unfolding said F6 readAnswer readTells byteOf readCode headerCode marked fieldCode inField knownKind oneOf degreeIn degree
+    phi countTo shareFactor someTo divides number
+both-wrong = refl
 
 -- three coefficients written at kind 1 and index 6 in 13 bytes: F(6)'s; with a 128, which takes 16 bytes; with -2^63
 written :
-    map (λ (c : ℤ). writeCode 2 1 6 (pos 1 ∷ c ∷ pos 1 ∷ []) 13) (negsuc 0 ∷ pos 128 ∷ negsuc (2 ^ 63 - 1) ∷ [])
+    map (λ (c : ℤ). writeCode 1 6 (pos 1 ∷ c ∷ pos 1 ∷ []) 13) (negsuc 0 ∷ pos 128 ∷ negsuc (2 ^ 63 - 1) ∷ [])
     ≡ DONE ∷ SHORT ∷ OVER ∷ []
-unfolding writeCode isKind size width leastOf top heightOf
+unfolding writeCode knownKind goodIndex degree phi countTo shareFactor someTo divides size width leastOf top heightOf
 written = refl
 
 -- and by kind and index, and with one coefficient too few for the degree
 refused :
-    writeCode 2 3 6 (pos 1 ∷ []) 13 ∷ writeCode 2 1 0 (pos 1 ∷ []) 13 ∷ writeCode 2 1 65536 (pos 1 ∷ []) 13
-    ∷ writeCode 2 1 6
-    (pos 1 ∷ pos 1 ∷ []) 13 ∷ []
-    ≡ KIND ∷ INDEX ∷ INDEX ∷ FIELD ∷ []
-unfolding writeCode isKind size width leastOf top heightOf
+    map {B = ℕ × ℕ} (λ (r : Written). (r .code, r .byte))
+    (writeAnswer 3 6 (pos 1 ∷ []) 13 ∷ writeAnswer 1 0 (pos 1 ∷ []) 13 ∷ writeAnswer 1 65536 (pos 1 ∷ []) 13
+    ∷ writeAnswer 1 6 (pos 1 ∷ pos 1 ∷ []) 13 ∷ [])
+    ≡ (KIND, 0) ∷ (INDEX, 0) ∷ (INDEX, 0) ∷ (RCOUNT, 6) ∷ []
+unfolding writeAnswer writeTells byteOf writeCode knownKind goodIndex degree phi countTo shareFactor someTo divides
 refused = refl

@@ -1,13 +1,15 @@
 // The writer: looks at everything, then stores.
 use super::Written;
-use record::is_kind;
+use index::degree_of;
 use record::put_body;
 use record::put_header;
 use widths::least_width;
 ghost use mathlib.Core.Path.{_≡_};
 ghost use Prim.Native.Nat.{_<_, _≤_};
+ghost use mathlib.Core.Bool.{true};
 ghost use mathlib.Core.List.{_++_};
 ghost use lib.ListN.{length, drop};
+ghost use Rattle.definitions.specs.Requests.{knownKind, goodIndex};
 ghost use Rattle.widths.specs.Numbers.{width};
 ghost use Rattle.shelf.specs.Format.{recordOf, size, writeAnswer, writeLeaves};
 
@@ -22,44 +24,31 @@ fn store(kind: u64, n: u64, w: usize, coeffs: &[i64], bytes: &mut [u8])
     put_body(coeffs, w, bytes);
 }
 
-// Writing at a kind and an index whose degree the caller has worked out.
-pub(crate) fn write_with(
-    kind: u64,
-    n: u64,
-    degree: u64,
-    coeffs: &[i64],
-    bytes: &mut [u8],
-) -> Written
-    requires { ⌜ degree ≤ 65535 ⌝ }
-    ensures answer { λ r. ⌜ r ≡ writeAnswer degree kind n (now (coeffs .entry)) (length (now (bytes .entry))) ⌝ }
-    ensures leaves { λ r. ⌜ now (bytes .exit) ≡ writeLeaves degree kind n (now (coeffs .entry)) (now (bytes .entry)) ⌝ }
+// Writing at a known kind and a good index.
+pub(crate) fn write_with(kind: u64, n: u64, coeffs: &[i64], bytes: &mut [u8]) -> Written
+    requires { ⌜ (knownKind kind ≡ true) × (goodIndex n ≡ true) ⌝ }
+    ensures answer { λ r. ⌜ r ≡ writeAnswer kind n (now (coeffs .entry)) (length (now (bytes .entry))) ⌝ }
+    ensures leaves { λ r. ⌜ now (bytes .exit) ≡ writeLeaves kind n (now (coeffs .entry)) (now (bytes .entry)) ⌝ }
 {
-    if !is_kind(kind) {
-        return Written::refused(answers::KIND, 0);
-    }
-    if n == 0 {
-        return Written::refused(answers::INDEX, 0);
-    }
-    if 65535 < n {
-        return Written::refused(answers::INDEX, 0);
-    }
+    let degree = degree_of(kind, n);
     let count = coeffs.len();
     if count as u64 != degree + 1 {
-        return Written::refused(answers::FIELD, 0);
+        return Written::refused(answers::RCOUNT, 0, 6);
     }
     let top = heights::peak(coeffs);
     let w = least_width(top.height);
     if w == 0 {
-        return Written::refused(answers::OVER, degree);
+        return Written::refused(answers::OVER, degree, 0);
     }
     let size = 10 + count * w;
     if bytes.len() < size {
-        return Written::refused(answers::SHORT, degree);
+        return Written::refused(answers::SHORT, degree, 0);
     }
     store(kind, n, w, coeffs, bytes);
     Written {
         code: answers::DONE,
         degree,
         used: size as u64,
+        byte: 0,
     }
 }

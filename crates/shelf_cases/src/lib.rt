@@ -66,7 +66,7 @@ pub fn write_one(kind: u64, n: u64, coeffs: &[i64], bytes: &mut [u8]) {
     let lent = [kind, n, coeffs.len() as u64, bytes.len() as u64];
     io::write_all(STDOUT_FILENO, b"w");
     printing::numbers(b" ", &lent, b"");
-    printing::numbers(b" ", &[told.code, told.degree, told.used], b"");
+    printing::numbers(b" ", &[told.code, told.degree, told.used, told.byte], b"");
     io::write_all(STDOUT_FILENO, b" : ");
     printing::hex(bytes);
     io::write_all(STDOUT_FILENO, b"\n");
@@ -80,6 +80,7 @@ fn read_one(bytes: &[u8], entries: &mut [i64]) -> shelf::Record {
         told.used,
         told.kind,
         told.n,
+        told.byte,
         untouched(entries),
     ];
     io::write_all(STDOUT_FILENO, b"r");

@@ -1,30 +1,66 @@
--- `write`: `write_with` at the degree, which is the true one unless the index is refused (Degrees).
-use mathlib.Core.Path.{_∙_}
+-- `write`: a wrong kind or index is refused at once, and else `write_with`.
+use mathlib.Core.Path.{sym, _∙_}
 use borrow.Author.Needs.{needs}
-use lib.ListN.{length}
-use Rattle.shelf.proofs.Degrees.{told-small, same-answer, same-leaves}
+use borrow.Author.Tests.{not-true, not-false}
+use Rattle.record.specs.Header.{byteOf}
+use Rattle.shelf.specs.Format.{writeTells}
+use Rattle.shelf.proofs.Told.{told}
+use Rattle.shelf.proofs.Writing.{kind-wrong, index-wrong}
 use Rattle.shelf.proofs.write.Statement.{statement}
 use Rattle.shelf.proofs.write.Tie as tie
 
-degree-of-requires : tie.Need-degree-of-requires
-degree-of-requires c κs = search needs
+known-kind-requires : tie.Need-known-kind-requires
+known-kind-requires c κs = search needs
+
+refused-requires : tie.Need-refused-requires
+refused-requires c κs = search needs
+
+returns : tie.Need-returns
+unfolding writeTells byteOf
+returns c =
+    let tested = c .before in
+    told (c .refused .ensures)
+    (kind-wrong _ _ _ _ (sym (tested .before .known-kind .ensures) ∙ not-true _ (tested .if1 .taken)))
+
+good-index-requires : tie.Need-good-index-requires
+good-index-requires c κs = search needs
+
+refused-requires-2 : tie.Need-refused-requires-2
+refused-requires-2 c κs = search needs
+
+returns-2 : tie.Need-returns-2
+unfolding writeTells byteOf
+returns-2 c =
+    let tested = c .before in
+    let e = tested .before .before in
+    told (c .refused2 .ensures)
+    (index-wrong _ _ _ _ (sym (e .before .known-kind .ensures) ∙ not-false _ (e .if1 .left))
+    (sym (tested .before .good-index .ensures) ∙ not-true _ (tested .if2 .taken)))
 
 write-with-requires : tie.Need-write-with-requires
 write-with-requires c κs =
-    let a = c .before .before .before .args in
-    told-small (a .kind) (a .n) _ (c .before .degree-of .ensures)
+    let tested = c .before in
+    let e = tested .before .before in (
+      sym (e .before .known-kind .ensures) ∙ not-false _ (e .if1 .left),
+      sym (tested .before .good-index .ensures) ∙ not-false _ (tested .if2 .left),
+    )
 
 same-length : tie.Need-same-length
 same-length c = search needs
 
-returns : tie.Need-returns
-returns c =
-    let a = c .before .before .before .before .before .before .args in
-    let told = c .before .before .before .before .degree-of .ensures in
-    let w = c .before .before .write-with .ensures in (
-      w .0 ∙ same-answer (a .kind) (a .n) _ told (a .coeffs .now) (length (a .bytes .now)),
-      w .1 ∙ same-leaves (a .kind) (a .n) _ told (a .coeffs .now) (a .bytes .now),
-    )
+returns-3 : tie.Need-returns-3
+returns-3 c = c .before .before .write-with .ensures
 
 pub write-spec : {M : Type 1} → statement M
-write-spec = tie.close (tie.spec degree-of-requires write-with-requires same-length returns)
+write-spec =
+    tie.close
+    (tie.spec
+    known-kind-requires
+    refused-requires
+    returns
+    good-index-requires
+    refused-requires-2
+    returns-2
+    write-with-requires
+    same-length
+    returns-3)

@@ -1,6 +1,6 @@
 -- `count_in`: four bytes of the header.
 use borrow.Author.Needs.{needs}
-use Rattle.record.specs.Header.{countIn}
+use Rattle.record.specs.Header.{inField}
 use Rattle.record.proofs.header.count_in.Statement.{statement}
 use Rattle.record.proofs.header.count_in.Tie as tie
 
@@ -8,7 +8,7 @@ get-requires : tie.Need-get-requires
 get-requires c κs = search needs
 
 returns : tie.Need-returns
-unfolding countIn
+unfolding inField
 returns c = c .get .ensures .0
 
 pub count-in-spec : {M : Type 1} → statement M

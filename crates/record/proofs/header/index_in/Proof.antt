@@ -1,7 +1,7 @@
 -- `index_in`: two bytes of the header.
 use native.Mathlib.Omega.{arith}
 use borrow.Author.Needs.{needs}
-use Rattle.record.specs.Header.{indexIn}
+use Rattle.record.specs.Header.{inField}
 use Rattle.record.proofs.header.index_in.Statement.{statement}
 use Rattle.record.proofs.header.index_in.Tie as tie
 
@@ -9,7 +9,7 @@ get-requires : tie.Need-get-requires
 get-requires c κs = search needs
 
 returns : tie.Need-returns
-unfolding indexIn
+unfolding inField
 returns c = (c .get .ensures .0, omega arith)
 
 pub index-in-spec : {M : Type 1} → statement M
