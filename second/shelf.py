@@ -92,8 +92,12 @@ def run_case(kind, n, p, count, room):
         write_one(k, m, left[:count], room)
     if p % 5 == 1:
         whole = data + b"\xaa" * (180 - room)
-        for v in (1, 2, 4):
+        for v in (0, 1, 2, 3, 4):
             damage_all(whole, room, v)
+        for i, j in ((2, 3), (3, 4), (4, 6)):
+            data = bytearray(whole)
+            data[i] = data[j] = 0
+            read_one(bytes(data[:room]), 20)
         read_one(whole[:10] + b"\x80" + whole[11:], 20)
 
 

@@ -90,7 +90,8 @@ module _ (kind n : ℕ) (cs : List ℤ) (b : List ℕ) (done : writeCode kind n 
       let whole = size-back kind n cs rest few in
       let true-degree = degree-back kind n cs rest (reach .1) in
       let head = header-fields bs (omega (arith, g .fits)) (marked-back kind w n (length cs) after)
-      ∙ fields-right bs (ap knownKind is-kind ∙ g .known) (ap (oneOf widths) wide ∙ f .one) (λ z. omega (arith, index, reach .0))
+      ∙ fields-right bs (ap knownKind is-kind ∙ g .known) (ap (oneOf widths) wide ∙ f .one)
+      (λ z. omega (arith, index, reach .0))
       (count ∙ g .count ∙ ap (λ (d : ℕ). d + 1) (sym true-degree)) in
       let p = filled bs out head (omega (arith, g .fits)) (omega arith) (ap width back ∙ sym wide) in
       (sym (p .0) ∙ rw (true-degree, whole, is-kind, index), sym (p .1) ∙ rw (back, count))

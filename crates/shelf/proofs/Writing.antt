@@ -61,7 +61,8 @@ module _ (kind n : ℕ) (cs : List ℤ) (b : List ℕ) where
           no-room s =
               by-code SHORT (simp (k, i, eq-eqb (length cs) (degree kind n + 1) m, o, lt-ltb (length b) (size cs) s))
 
-          pub stored : size cs ≤ length b → Answered (writeTells kind n cs DONE) (recordOf kind n cs ++ drop (size cs) b)
+          pub stored : size cs ≤ length b
+              → Answered (writeTells kind n cs DONE) (recordOf kind n cs ++ drop (size cs) b)
           unfolding writeCode
           stored s =
               by-code DONE (simp (k, i, eq-eqb (length cs) (degree kind n + 1) m, o, le-ltb (length b) (size cs) s))

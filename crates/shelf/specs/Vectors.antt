@@ -46,23 +46,24 @@ by-entries = refl
 said : List ℕ → ℕ × ℕ
 said bytes = (readAnswer bytes 3 .code, readAnswer bytes 3 .byte)
 
--- the same record with one byte changed: marks, kind, width 2 and 3, index 0, count, and -128 for the 1 at the end; then
--- cut after its 12th and its 9th byte
+-- the same record with one byte changed: marks, kind, width 2 and 3, index 0, count, and -128 for the 1 at the end;
+-- then cut after its 12th and its 9th byte
 damaged :
     map said (set F6 0 0xC8 ∷ set F6 1 0x51 ∷ set F6 2 3 ∷ set F6 3 2 ∷ set F6 3 3 ∷ set F6 4 0 ∷ set F6 6 2
     ∷ set F6 12 128 ∷ take 12 F6 ∷ take 9 F6 ∷ [])
     ≡ (MARK, 0) ∷ (MARK, 0) ∷ (RKIND, 2) ∷ (CUT, 0) ∷ (RWIDTH, 3) ∷ (RINDEX, 4) ∷ (RCOUNT, 6) ∷ (WIDTH, 0) ∷ (CUT, 0)
     ∷ (CUT, 0) ∷ []
-unfolding said F6 readAnswer readTells byteOf readCode headerCode marked fieldCode inField knownKind oneOf degreeIn degree
-    phi countTo shareFactor someTo divides coefficientsIn sizeIn coefficientsAt signedOf number top width leastOf heightOf
+unfolding said F6 readAnswer readTells byteOf readCode headerCode marked fieldCode inField knownKind oneOf degreeIn
+    degree phi countTo shareFactor someTo divides coefficientsIn sizeIn coefficientsAt signedOf number top width leastOf
+    heightOf
 damaged = refl
 
 -- two fields changed: kind and width, width and index, index and count; then the count, and cut
 both-wrong :
     map said (set (set F6 2 0) 3 0 ∷ set (set F6 3 5) 4 0 ∷ set (set F6 4 0) 6 2 ∷ set (take 12 F6) 9 1 ∷ [])
     ≡ (RKIND, 2) ∷ (RWIDTH, 3) ∷ (RINDEX, 4) ∷ (RCOUNT, 6) ∷ []
-unfolding said F6 readAnswer readTells byteOf readCode headerCode marked fieldCode inField knownKind oneOf degreeIn degree
-    phi countTo shareFactor someTo divides number
+unfolding said F6 readAnswer readTells byteOf readCode headerCode marked fieldCode inField knownKind oneOf degreeIn
+    degree phi countTo shareFactor someTo divides number
 both-wrong = refl
 
 -- three coefficients written at kind 1 and index 6 in 13 bytes: F(6)'s; with a 128, which takes 16 bytes; with -2^63

@@ -100,6 +100,20 @@ pub fn damage(bytes: &mut [u8], room: usize, j: usize, v: u8) {
     bytes[j] = old;
 }
 
+// A record with two bytes 0 for what they were.
+pub fn damage_two(bytes: &mut [u8], room: usize, i: usize, j: usize) {
+    if bytes.len() <= i || bytes.len() <= j {
+        return;
+    }
+    let first = bytes[i];
+    let second = bytes[j];
+    bytes[i] = 0;
+    bytes[j] = 0;
+    cut(bytes, room);
+    bytes[i] = first;
+    bytes[j] = second;
+}
+
 // How many of some bytes can be lent where so many are asked for: the two facts that a part needs.
 fn of_bytes(asked: usize, bytes: &[u8]) -> usize
     ensures { λ r. ⌜ (r ≤ length (now (bytes .entry))) × (r ≡ length (take r (now (bytes .entry)))) ⌝ }

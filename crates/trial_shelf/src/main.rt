@@ -2,6 +2,7 @@
 // what second/shelf.py makes of the same cases.
 use shelf_cases::cut;
 use shelf_cases::damage;
+use shelf_cases::damage_two;
 use shelf_cases::read_part;
 use shelf_cases::set_values;
 use shelf_cases::write_one;
@@ -16,6 +17,13 @@ fn damage_all(bytes: &mut [u8], room: usize, v: u8) {
         cut(bytes, j);
         j += 1;
     }
+}
+
+// Two fields of the header wrong, each with the next one.
+fn damage_fields(bytes: &mut [u8], room: usize) {
+    damage_two(bytes, room, 2, 3);
+    damage_two(bytes, room, 3, 4);
+    damage_two(bytes, room, 4, 6);
 }
 
 // Coefficients written in `room` bytes, read back into one entry more, and rewritten where they read well.
@@ -33,9 +41,12 @@ fn run_case(kind: u64, n: u64, p: usize, count: usize, room: usize)
         write_part(told.kind, told.n, &entries, count, &mut again, room);
     }
     if p % 5 == 1 {
+        damage_all(&mut bytes, room, 0);
         damage_all(&mut bytes, room, 1);
         damage_all(&mut bytes, room, 2);
+        damage_all(&mut bytes, room, 3);
         damage_all(&mut bytes, room, 4);
+        damage_fields(&mut bytes, room);
         damage(&mut bytes, 180, 10, 128);
     }
 }

@@ -20,7 +20,8 @@ returns : tie.Need-returns
 returns c =
     let tested = c .before .before in
     let a = tested .before .before .before .args in
-    let p = header-wrong (a .bytes .now) (a .coeffs .now) _ (tested .before .header-code .ensures) (tested .if1 .taken) in
+    let p = header-wrong (a .bytes .now) (a .coeffs .now) _ (tested .before .header-code .ensures)
+    (tested .if1 .taken) in
     told (c .refused .ensures ∙ rw (c .before .byte-of .ensures)) p
 
 read-with-requires : tie.Need-read-with-requires

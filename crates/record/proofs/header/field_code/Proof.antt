@@ -1,5 +1,5 @@
--- `field_code`: each return by the fields that were right before it (Headers), the count's by the degree of the kind and
--- the index that were read.
+-- `field_code`: each return by the fields that were right before it (Headers), the count's by the degree of the kind
+-- and the index that were read.
 use Prim.Native.Nat.{ℕ, _+_, _≤_}
 use mathlib.Core.Path.{_≡_, sym, _∙_, ap, ap₂}
 use mathlib.Core.Bool.{Bool, true}

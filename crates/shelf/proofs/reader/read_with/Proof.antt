@@ -139,7 +139,8 @@ returns-4 c =
     let wide = e .before .before .width-in .ensures in
     let p = filled (bytes e) cs (from e .pre) (omega (arith, whole e)) (omega (arith, e .count-in .ensures))
     (sym (seen look) ∙ test .if3 .left ∙ wide) in
-    let left = filled-in (bytes e) _ _ wide (e .count-in .ensures) cs _ (omega arith) (c .before .before .fill .ensures) in
+    let left = filled-in (bytes e) _ _ wide (e .count-in .ensures) cs _ (omega arith)
+    (c .before .before .fill .ensures) in
     told (all-told _ _ _ _ _ (degree-is e) (whole e) (c .kind-in .ensures) (e .before .index-in .ensures .0))
     (p .0, left ∙ p .1)
 

@@ -84,8 +84,8 @@ returns-2 c =
     let looked = c .before .before in
     let e = looked .before .before in
     let start = from1 e in
-    told (c .refused2 .ensures ∙ rw (degree-is (e .before))) (too-low _ _ _ _ (start .pre .0) (start .pre .1) (counted e)
-    (width-none _ (sym (made looked) ∙ c .before .if2 .taken)))
+    told (c .refused2 .ensures ∙ rw (degree-is (e .before)))
+    (too-low _ _ _ _ (start .pre .0) (start .pre .1) (counted e) (width-none _ (sym (made looked) ∙ c .before .if2 .taken)))
 
 mul-size : tie.Need-mul-size
 mul-size c = omega (arith, small c)
@@ -102,8 +102,8 @@ returns-3 c =
     let over = c .before .before in
     let e = over .before .before .before in
     let start = from1 e in
-    told (c .refused3 .ensures ∙ rw (degree-is (e .before))) (no-room _ _ _ _ (start .pre .0) (start .pre .1) (counted e)
-    (fit over .within) (omega (arith, whole over)))
+    told (c .refused3 .ensures ∙ rw (degree-is (e .before)))
+    (no-room _ _ _ _ (start .pre .0) (start .pre .1) (counted e) (fit over .within) (omega (arith, whole over)))
 
 store-requires : tie.Need-store-requires
 store-requires c κs =
