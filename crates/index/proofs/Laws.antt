@@ -8,7 +8,7 @@ use native.Mathlib.Nat as NatL
 use native.Mathlib.Decide.{ℕ-discrete}
 use borrow.Author.Tests.{lt-ltb, le-ltb}
 use lib.Dec.{eqb, ltb}
-use Rattle.definitions.specs.Numbers.{countTo, phi, rOf, kOf, mOf, tOf}
+use Rattle.definitions.specs.Numbers.{countTo, phi, rOf, mOf, tOf}
 use Rattle.definitions.specs.Polynomials.{degree}
 use Rattle.definitions.specs.Requests.{goodIndex}
 use Rattle.numbers.specs.Tests.{not-both, test-and, test-lt, test-le}

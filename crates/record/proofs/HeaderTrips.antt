@@ -10,7 +10,7 @@ use mathlib.Core.List.{_++_, [], _∷_, List}
 use mathlib.Core.Path.{_≡_, refl, ap₂, ap, _∙_, sym}
 use native.Mathlib.Omega.{arith}
 use native.Mathlib.Nat.{add-zero}
-use Rattle.record.specs.Header.{headerOf, marked, inField, kindIn, widthIn, indexIn, countIn}
+use Rattle.record.specs.Header.{headerOf, marked, kindIn, widthIn, indexIn, countIn}
 use Rattle.widths.specs.Numbers.{bytesOf, number}
 use Rattle.widths.proofs.Digits.{Bytes, bytes-take, bytes-drop, number-bytes, number-less, bytes-number}
 use Rattle.record.proofs.Headers.{Right}
@@ -22,19 +22,19 @@ module _ (kind w n count : ℕ) (rest : List ℕ) where
   marked-back = refl
 
   pub kind-back : kindIn (headerOf kind w n count ++ rest) ≡ kind
-  unfolding inField headerOf number
+  unfolding headerOf number
   kind-back = add-zero kind
 
   pub width-back : widthIn (headerOf kind w n count ++ rest) ≡ w
-  unfolding inField headerOf number
+  unfolding headerOf number
   width-back = add-zero w
 
   pub index-back : n ≤ 65535 → indexIn (headerOf kind w n count ++ rest) ≡ n
-  unfolding inField headerOf bytesOf number
+  unfolding headerOf bytesOf number
   index-back h = number-bytes 2 n (omega arith)
 
   pub count-back : count ≤ 65536 → countIn (headerOf kind w n count ++ rest) ≡ count
-  unfolding inField headerOf bytesOf number
+  unfolding headerOf bytesOf number
   count-back h = number-bytes 4 count (omega arith)
 
 -- and the other way: the header's bytes are those of its fields
@@ -64,7 +64,7 @@ byte-in bs at h = rw (drop-cons bs at 0 h) (add-zero (getD bs at 0))
 
 pub header-same : (bs : List ℕ) → Bytes bs → Right bs → headerOf (kindIn bs) (widthIn bs) (indexIn bs) (countIn bs)
     ≡ take 10 bs
-unfolding headerOf inField marked
+unfolding headerOf marked
 header-same bs p r =
     let h = r .long in
     let m = and-both (eqb (getD bs 0 0) 0xC9) (eqb (getD bs 1 0) 0x50) (r .mark) in
@@ -82,7 +82,6 @@ header-same bs p r =
     ∙ sym (take-add 4 6 bs ∙ ap₂ _++_ (four bs h) six)
 
 pub index-small : (bs : List ℕ) → 10 ≤ length bs → Bytes bs → indexIn bs ≤ 65535
-unfolding inField
 index-small bs h p =
     let b = number-less 2 (take 2 (drop 4 bs)) (length-take-le 2 (drop 4 bs) (rw length-drop (omega arith)))
     (bytes-take 2 (drop 4 bs) (bytes-drop 4 bs p)) in

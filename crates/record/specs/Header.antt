@@ -42,7 +42,7 @@ abbrev pub fields : List Field
 fields = kindField ∷ widthField ∷ indexField ∷ countField ∷ []
 
 -- what stands in a field
-unfoldable pub inField : Field → List ℕ → ℕ
+abbrev pub inField : Field → List ℕ → ℕ
 inField f bytes = number (take (f .long) (drop (f .first) bytes))
 
 abbrev pub kindIn : List ℕ → ℕ

@@ -72,6 +72,12 @@ pub length-all : (bs : List ℕ) → length (coefficientsIn bs) ≡ countIn bs
 unfolding coefficientsIn
 length-all bs = length-at (widthIn bs) (countIn bs) (drop 10 bs)
 
+-- what is told where nothing is refused, and the degree with a refusal, as the functions work them out
+pub degree-told : (code d e : ℕ) → d ≡ e →
+    _≡_ {A = Record} (record { code = code; degree = d; used = 0; kind = 0; n = 0; byte = 0 })
+    (record { code = code; degree = e; used = 0; kind = 0; n = 0; byte = 0 })
+degree-told code d e p = rw p
+
 pub all-told : (bs : List ℕ) (d s kind n : ℕ) → d ≡ degreeIn bs → s ≡ sizeIn bs → kind ≡ kindIn bs → n ≡ indexIn bs →
     record { code = DONE; degree = d; used = s; kind = kind; n = n; byte = 0 } ≡ readTells bs DONE
 unfolding readTells byteOf

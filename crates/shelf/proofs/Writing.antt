@@ -67,6 +67,12 @@ module _ (kind n : ℕ) (cs : List ℤ) (b : List ℕ) where
           stored s =
               by-code DONE (simp (k, i, eq-eqb (length cs) (degree kind n + 1) m, o, le-ltb (length b) (size cs) s))
 
+-- what is told where nothing is refused, and the degree with a refusal, as the function works them out
+pub degree-told : (code d e : ℕ) → d ≡ e →
+    _≡_ {A = Written} (record { code = code; degree = d; used = 0; byte = 0 })
+    (record { code = code; degree = e; used = 0; byte = 0 })
+degree-told code d e p = rw p
+
 pub all-told : (kind n : ℕ) (cs : List ℤ) (d s : ℕ) → d ≡ degree kind n → s ≡ size cs →
     record { code = DONE; degree = d; used = s; byte = 0 } ≡ writeTells kind n cs DONE
 unfolding writeTells byteOf

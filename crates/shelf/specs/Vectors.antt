@@ -10,7 +10,7 @@ use Rattle.definitions.specs.Polynomials.{degree}
 use Rattle.definitions.specs.Requests.{knownKind, goodIndex}
 use Rattle.definitions.specs.Answer.{heightOf}
 use Rattle.widths.specs.Numbers.{bytesOf, number, top, twos, signedOf, body, coefficientsAt, oneOf, leastOf, width}
-use Rattle.record.specs.Header.{headerOf, marked, inField, degreeIn, fieldCode, headerCode, byteOf}
+use Rattle.record.specs.Header.{headerOf, marked, degreeIn, fieldCode, headerCode, byteOf}
 use Rattle.shelf.specs.declared.Written.{Written}
 use Rattle.shelf.specs.Format.{recordOf, size, writeCode, writeTells, writeAnswer, coefficientsIn, sizeIn}
 use Rattle.shelf.specs.Format.{readCode, readTells, readAnswer}
@@ -24,7 +24,7 @@ unfolding F6 recordOf headerOf body bytesOf twos width leastOf top heightOf
 writes-F6 = refl
 
 reads-F6 : coefficientsIn F6 ≡ pos 1 ∷ negsuc 0 ∷ pos 1 ∷ []
-unfolding F6 coefficientsIn coefficientsAt signedOf number inField top
+unfolding F6 coefficientsIn coefficientsAt signedOf number top
 reads-F6 = refl
 
 -- the widths at their edges: 127, -127, 128, -128, 2^15 - 1, 2^15, 2^31 - 1, 2^31, 2^63 - 1, -2^63 and nothing
@@ -38,7 +38,7 @@ edges = refl
 
 -- F(6)'s record read, by the number of entries lent: 3, 2
 by-entries : map (readCode F6) (3 ∷ 2 ∷ []) ≡ DONE ∷ SHORT ∷ []
-unfolding F6 readCode headerCode marked fieldCode inField knownKind oneOf degreeIn degree phi countTo shareFactor someTo
+unfolding F6 readCode headerCode marked fieldCode knownKind oneOf degreeIn degree phi countTo shareFactor someTo
     divides coefficientsIn sizeIn coefficientsAt signedOf number top width leastOf heightOf
 by-entries = refl
 
@@ -53,7 +53,7 @@ damaged :
     ∷ set F6 12 128 ∷ take 12 F6 ∷ take 9 F6 ∷ [])
     ≡ (MARK, 0) ∷ (MARK, 0) ∷ (RKIND, 2) ∷ (CUT, 0) ∷ (RWIDTH, 3) ∷ (RINDEX, 4) ∷ (RCOUNT, 6) ∷ (WIDTH, 0) ∷ (CUT, 0)
     ∷ (CUT, 0) ∷ []
-unfolding said F6 readAnswer readTells byteOf readCode headerCode marked fieldCode inField knownKind oneOf degreeIn
+unfolding said F6 readAnswer readTells byteOf readCode headerCode marked fieldCode knownKind oneOf degreeIn
     degree phi countTo shareFactor someTo divides coefficientsIn sizeIn coefficientsAt signedOf number top width leastOf
     heightOf
 damaged = refl
@@ -62,7 +62,7 @@ damaged = refl
 both-wrong :
     map said (set (set F6 2 0) 3 0 ∷ set (set F6 3 5) 4 0 ∷ set (set F6 4 0) 6 2 ∷ set (take 12 F6) 9 1 ∷ [])
     ≡ (RKIND, 2) ∷ (RWIDTH, 3) ∷ (RINDEX, 4) ∷ (RCOUNT, 6) ∷ []
-unfolding said F6 readAnswer readTells byteOf readCode headerCode marked fieldCode inField knownKind oneOf degreeIn
+unfolding said F6 readAnswer readTells byteOf readCode headerCode marked fieldCode knownKind oneOf degreeIn
     degree phi countTo shareFactor someTo divides number
 both-wrong = refl
 

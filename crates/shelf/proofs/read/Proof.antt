@@ -1,7 +1,6 @@
 -- `read`: a wrong header refuses by itself, with the byte of the field, and else `read_with`.
-use mathlib.Core.Path.{sym, _∙_, ap}
+use mathlib.Core.Path.{sym, _∙_}
 use borrow.Author.Needs.{needs}
-use Rattle.shelf.specs.declared.Record.{Record}
 use Rattle.shelf.proofs.Told.{told}
 use Rattle.shelf.proofs.Reading.{header-wrong}
 use Rattle.shelf.proofs.read.Statement.{statement}

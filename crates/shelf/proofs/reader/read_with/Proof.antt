@@ -6,12 +6,12 @@ use native.Mathlib.Omega.{arith}
 use borrow.Author.Needs.{needs}
 use Rattle.index.proofs.Laws.{degree-le}
 use Rattle.widths.specs.Numbers.{width}
-use Rattle.record.specs.Header.{kindIn, widthIn, indexIn, countIn, degreeIn, byteOf}
+use Rattle.record.specs.Header.{kindIn, indexIn, degreeIn, byteOf}
 use Rattle.widths.proofs.Widths.{few}
 use Rattle.record.proofs.Headers.{Right, right, in-bounds}
 use Rattle.shelf.specs.Format.{coefficientsIn, sizeIn, readTells}
 use Rattle.shelf.proofs.Told.{told}
-use Rattle.shelf.proofs.Reading.{cut, no-room, width-wrong, filled, all-told, size-in, seen-in, filled-in}
+use Rattle.shelf.proofs.Reading.{cut, no-room, width-wrong, filled, degree-told, all-told, size-in, seen-in, filled-in}
 use Rattle.shelf.proofs.reader.read_with.Statement.{statement}
 use Rattle.shelf.proofs.reader.read_with.Tie as tie
 
@@ -96,7 +96,7 @@ returns-2 c =
     let e = c .before .before .before in
     let p = no-room (bytes e) (from e .args .coeffs .now) (from e .pre) (omega (arith, whole e))
     (omega (arith, e .count-in .ensures)) in
-    told (c .refused2 .ensures ∙ rw (degree-is e)) p
+    told (c .refused2 .ensures ∙ degree-told _ _ _ (degree-is e)) p
 
 height-in-requires : tie.Need-height-in-requires
 height-in-requires c κs =

@@ -13,7 +13,7 @@ use Rattle.widths.proofs.Widths.{few, nonzero}
 use Rattle.record.proofs.Headers.{kind-small}
 use Rattle.shelf.specs.Format.{size, writeTells}
 use Rattle.shelf.proofs.Told.{told}
-use Rattle.shelf.proofs.Writing.{count-wrong, too-low, no-room, stored, size-made, all-told}
+use Rattle.shelf.proofs.Writing.{count-wrong, too-low, no-room, stored, size-made, degree-told, all-told}
 use Rattle.shelf.proofs.writer.write_with.Statement.{statement}
 use Rattle.shelf.proofs.writer.write_with.Tie as tie
 
@@ -84,8 +84,9 @@ returns-2 c =
     let looked = c .before .before in
     let e = looked .before .before in
     let start = from1 e in
-    told (c .refused2 .ensures ∙ rw (degree-is (e .before)))
-    (too-low _ _ _ _ (start .pre .0) (start .pre .1) (counted e) (width-none _ (sym (made looked) ∙ c .before .if2 .taken)))
+    told (c .refused2 .ensures ∙ degree-told _ _ _ (degree-is (e .before)))
+    (too-low _ _ _ _ (start .pre .0) (start .pre .1) (counted e)
+    (width-none _ (sym (made looked) ∙ c .before .if2 .taken)))
 
 mul-size : tie.Need-mul-size
 mul-size c = omega (arith, small c)
@@ -102,7 +103,7 @@ returns-3 c =
     let over = c .before .before in
     let e = over .before .before .before in
     let start = from1 e in
-    told (c .refused3 .ensures ∙ rw (degree-is (e .before)))
+    told (c .refused3 .ensures ∙ degree-told _ _ _ (degree-is (e .before)))
     (no-room _ _ _ _ (start .pre .0) (start .pre .1) (counted e) (fit over .within) (omega (arith, whole over)))
 
 store-requires : tie.Need-store-requires
