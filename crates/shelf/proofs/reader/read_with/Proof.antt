@@ -11,7 +11,8 @@ use Rattle.widths.proofs.Widths.{few}
 use Rattle.record.proofs.Headers.{Right, right, in-bounds}
 use Rattle.shelf.specs.Format.{coefficientsIn, sizeIn, readTells}
 use Rattle.shelf.proofs.Told.{told}
-use Rattle.shelf.proofs.Reading.{cut, no-room, width-wrong, filled, degree-told, all-told, size-in, seen-in, filled-in}
+use Rattle.shelf.proofs.Reading.{cut, no-room, width-wrong, filled, degree-told, all-told}
+use Rattle.shelf.proofs.Reading.{size-in, seen-in, filled-in}
 use Rattle.shelf.proofs.reader.read_with.Statement.{statement}
 use Rattle.shelf.proofs.reader.read_with.Tie as tie
 
