@@ -1,13 +1,19 @@
 -- `write`: a wrong kind or index is refused at once, and else `write_with`.
-use mathlib.Core.Path.{sym, _∙_}
+use mathlib.Core.Path.{_≡_, sym, _∙_}
+use mathlib.Core.Bool.{true}
 use borrow.Author.Needs.{needs}
 use borrow.Author.Tests.{not-true, not-false}
+use Rattle.definitions.specs.Requests.{knownKind}
 use Rattle.record.specs.Header.{byteOf}
 use Rattle.shelf.specs.Format.{writeTells}
 use Rattle.shelf.proofs.Told.{told}
 use Rattle.shelf.proofs.Writing.{kind-wrong, index-wrong}
 use Rattle.shelf.proofs.write.Statement.{statement}
 use Rattle.shelf.proofs.write.Tie as tie
+
+-- the kind passed its test
+known : (c : tie.Else1) → knownKind (c .before .before .before .args .kind) ≡ true
+known c = sym (c .before .known-kind .ensures) ∙ not-false _ (c .if1 .left)
 
 known-kind-requires : tie.Need-known-kind-requires
 known-kind-requires c κs = search needs
@@ -32,18 +38,14 @@ returns-2 : tie.Need-returns-2
 unfolding writeTells byteOf
 returns-2 c =
     let tested = c .before in
-    let e = tested .before .before in
     told (c .refused2 .ensures)
-    (index-wrong _ _ _ _ (sym (e .before .known-kind .ensures) ∙ not-false _ (e .if1 .left))
+    (index-wrong _ _ _ _ (known (tested .before .before))
     (sym (tested .before .good-index .ensures) ∙ not-true _ (tested .if2 .taken)))
 
 write-with-requires : tie.Need-write-with-requires
 write-with-requires c κs =
     let tested = c .before in
-    let e = tested .before .before in (
-      sym (e .before .known-kind .ensures) ∙ not-false _ (e .if1 .left),
-      sym (tested .before .good-index .ensures) ∙ not-false _ (tested .if2 .left),
-    )
+    (known (tested .before .before), sym (tested .before .good-index .ensures) ∙ not-false _ (tested .if2 .left))
 
 same-length : tie.Need-same-length
 same-length c = search needs

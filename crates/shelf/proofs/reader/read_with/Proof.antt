@@ -1,9 +1,10 @@
 -- `read_with`: each return by the tests that led there (Reading).
 use Prim.Native.Nat.{ℕ, _+_, _*_, _-_, _<_, _≤_}
-use mathlib.Core.Path.{_≡_, sym, _∙_}
+use mathlib.Core.Path.{_≡_, _∙_}
 use mathlib.Core.List.{List}
 use native.Mathlib.Omega.{arith}
 use borrow.Author.Needs.{needs}
+use Rattle.definitions.specs.Codes.{SHORT}
 use Rattle.index.proofs.Laws.{degree-le}
 use Rattle.widths.specs.Numbers.{width}
 use Rattle.record.specs.Header.{kindIn, indexIn, degreeIn, byteOf}
@@ -97,7 +98,7 @@ returns-2 c =
     let e = c .before .before .before in
     let p = no-room (bytes e) (from e .args .coeffs .now) (from e .pre) (omega (arith, whole e))
     (omega (arith, e .count-in .ensures)) in
-    told (c .refused2 .ensures ∙ degree-told _ _ _ (degree-is e)) p
+    told (c .refused2 .ensures ∙ degree-told SHORT (k e - 1) (degreeIn (bytes e)) (degree-is e)) p
 
 height-in-requires : tie.Need-height-in-requires
 height-in-requires c κs =
@@ -117,7 +118,7 @@ returns-3 c =
     let e = look .before .before .before .before in
     let p = width-wrong (bytes e) (from e .args .coeffs .now) (from e .pre) (omega (arith, whole e))
     (omega (arith, e .count-in .ensures))
-    (λ same. c .before .if3 .taken (seen look ∙ same ∙ sym (e .before .before .width-in .ensures))) in
+    (λ same. omega (arith, seen look, e .before .before .width-in .ensures)) in
     told (c .refused3 .ensures) p
 
 fill-requires : tie.Need-fill-requires
@@ -139,7 +140,7 @@ returns-4 c =
     let cs = from e .args .coeffs .now in
     let wide = e .before .before .width-in .ensures in
     let p = filled (bytes e) cs (from e .pre) (omega (arith, whole e)) (omega (arith, e .count-in .ensures))
-    (sym (seen look) ∙ test .if3 .left ∙ wide) in
+    (omega (arith, seen look, wide)) in
     let left = filled-in (bytes e) _ _ wide (e .count-in .ensures) cs _ (omega arith)
     (c .before .before .fill .ensures) in
     told (all-told _ _ _ _ _ (degree-is e) (whole e) (c .kind-in .ensures) (e .before .index-in .ensures .0))
