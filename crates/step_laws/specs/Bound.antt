@@ -19,21 +19,26 @@ use Rattle.step_laws.specs.Accumulated.{accumulated-from, accumulated-be
 use Rattle.step_laws.specs.Step.{combed-from, stepped-below, getD-stepList, getD-stepList-below, length-stepList}
 use Rattle.step_laws.specs.Step.{not-over-all, not-over-each}
 
--- no value of a is larger than b
+-- no value of a is larger than b; none up to place i is
 abbrev pub Bounded : ℕ → Series → Type 0
 Bounded b a = (k : ℕ) → natAbs (a k) ≤ b
+
+abbrev pub BoundedTo : ℕ → ℕ → Series → Type 0
+BoundedTo i b a = (k : ℕ) → k ≤ i → natAbs (a k) ≤ b
 
 -- the largest magnitude after a step on n entries of magnitude at most b
 unfoldable pub growth : Sort → ℕ → ℕ → ℕ → ℕ
 growth comb d n b = b + b
 growth accumulate d n b = b * (n / d + 1)
 
-module _ (d b : ℕ) (a : Series) (h : Bounded b a) where
-  pub combed-bound : (i : ℕ) → natAbs (combed d a i) ≤ b + b
+-- a step looks back only, so what it makes at i hangs on the values up to i
+module _ (d b : ℕ) (a : Series) where
+  pub combed-bound : (i : ℕ) → BoundedTo i b a → natAbs (combed d a i) ≤ b + b
   unfolding stepped
-  combed-bound i =
-      by-order i d (λ l. rw (stepped-below d a comb i l) (omega (arith, h i)))
-      (λ l. rw (combed-from d a i l) (omega (arith, abs-⊝ (a i) (a (i - d)), h i, h (i - d))))
+  combed-bound i h =
+      by-order i d (λ l. rw (stepped-below d a comb i l) (omega (arith, h i (omega arith))))
+      (λ l. rw (combed-from d a i l)
+      (omega (arith, abs-⊝ (a i) (a (i - d)), h i (omega arith), h (i - d) (omega arith))))
 
   -- one more turn of d adds at most b
   turn : 1 ≤ d → (i : ℕ) → d ≤ i → b + b * ((i - d) / d + 1) ≡ b * (i / d + 1)
@@ -42,27 +47,31 @@ module _ (d b : ℕ) (a : Series) (h : Bounded b a) where
       let e : b * (q + 1 + 1) ≡ b * (q + 1) + b * 1 = mul-add b (q + 1) 1 in
       rw (div-eq-sub-div one l) (omega (arith, e, mul-one b))
 
-  up-to : 1 ≤ d → (n i : ℕ) → i < n → natAbs (accumulated d a i) ≤ b * (i / d + 1)
-  up-to one zero i m = absurd (not-suc-le-zero m)
-  up-to one (suc n) i m =
-      by-order i d (λ l. rw (accumulated-below d a i l, div-eq-of-lt l) (omega (arith, h i, mul-one b)))
+  up-to : 1 ≤ d → (n i : ℕ) → i < n → BoundedTo i b a → natAbs (accumulated d a i) ≤ b * (i / d + 1)
+  up-to one zero i m h = absurd (not-suc-le-zero m)
+  up-to one (suc n) i m h =
+      by-order i d (λ l. rw (accumulated-below d a i l, div-eq-of-lt l) (omega (arith, h i (omega arith), mul-one b)))
       (λ l.
-      let rest = up-to one n (i - d) (omega arith) in
+      let rest = up-to one n (i - d) (omega arith) (λ k m. h k (omega arith)) in
       rw (accumulated-from d a i one l, ← turn one i l)
-      (omega (arith, abs-⊕ (a i) (accumulated d a (i - d)), h i, rest)))
+      (omega (arith, abs-⊕ (a i) (accumulated d a (i - d)), h i (omega arith), rest)))
 
-  pub accumulated-bound : 1 ≤ d → (i : ℕ) → natAbs (accumulated d a i) ≤ b * (i / d + 1)
-  accumulated-bound one i = up-to one (suc i) i (omega arith)
+  pub accumulated-bound : 1 ≤ d → (i : ℕ) → BoundedTo i b a → natAbs (accumulated d a i) ≤ b * (i / d + 1)
+  accumulated-bound one i h = up-to one (suc i) i (omega arith) h
+
+-- no more turns of d go into i than into n
+pub fewer-turns : (d n i : ℕ) → 1 ≤ d → i < n → i / d + 1 ≤ n / d + 1
+fewer-turns d n i one m =
+    omega (arith, le-div-iff-mul-le {x = i / d} {y = n} one .1 (omega (arith, div-mul-le-self i d)))
 
 -- the same of a list and of either sort
 module _ (s : Sort) (d b : ℕ) (one : 1 ≤ d) (l : List ℤ) (h : Bounded b (entries l)) where
   stepped-bound : (s : Sort) (i : ℕ) → i < length l → natAbs (stepped s d (entries l) i) ≤ growth s d (length l) b
   unfolding stepped growth
-  stepped-bound comb i m = combed-bound d b (entries l) h i
+  stepped-bound comb i m = combed-bound d b (entries l) i (λ k below. h k)
   stepped-bound accumulate i m =
-      le-trans (accumulated-bound d b (entries l) h one i)
-      (mul-le-mul-left b
-      (omega (arith, le-div-iff-mul-le {x = i / d} {y = length l} one .1 (omega (arith, div-mul-le-self i d)))))
+      le-trans (accumulated-bound d b (entries l) one i (λ k below. h k))
+      (mul-le-mul-left b (fewer-turns d (length l) i one m))
 
   pub growth-inside : (w : ℕ) → growth s d (length l) b ≤ w → (i : ℕ) → i < length l
       → inRange w (stepped s d (entries l) i) ≡ true
