@@ -45,7 +45,7 @@ unfolding productOf
 picked t true d = ·-one (t d)
 picked t false d = refl
 
-list-product : (t : ℕ → Series) (q : ℕ → Bool) (k : ℕ) → productOf (map t (listTo k q))
+pub list-product : (t : ℕ → Series) (q : ℕ → Bool) (k : ℕ) → productOf (map t (listTo k q))
     ≡ productTo k (λ d. cond (q d) (t d) 𝟙)
 unfolding listTo productTo productOf
 list-product t q zero = refl

@@ -16,6 +16,7 @@ use Rattle.numbers.specs.Folds.{fold-multiples}
 use Rattle.numbers.specs.Tests.{same, denies, test-and, test-not, test-divides, divides-yes, divides-no}
 use Rattle.numbers.specs.Primes.{Prime, prime-pos, divides-without}
 use Rattle.numbers.specs.Divisors.{divides-times}
+use Rattle.numbers.specs.Divisors as Divisors
 use Rattle.cyclotomic.specs.Family.{times, product-fold, product-same, same-family, product-law, unit-F}
 
 -- ---- z^t for z in a product
@@ -87,17 +88,12 @@ module _ (g : ℕ → Series) {p : ℕ} (P : Prime p) (n : ℕ) (pos : 0 < n) wh
       ∙ ap₂ _·_ (multiples ∙ sym (product-fold n (atDivisors n (λ e. g (e * p)))))
       (others ∙ sym (product-fold n (atDivisors n (unlessDivides p g))))
 
-cond-both : (b : Bool) (f g : Series) → cond b (f · g) 𝟙 ≡ cond b f 𝟙 · cond b g 𝟙
-cond-both true f g = refl
-cond-both false f g = sym (·-one 𝟙)
-
 pub divisors-both : (n : ℕ) (g h : ℕ → Series) (k : ℕ) → productTo k (atDivisors n g) · productTo k (atDivisors n h)
     ≡ productTo k (atDivisors n (λ d. g d · h d))
 unfolding atDivisors
 divisors-both n g h k =
     ap₂ _·_ (product-fold k (atDivisors n g)) (product-fold k (atDivisors n h))
-    ∙ sym (fold-both times (atDivisors n g) (atDivisors n h) k)
-    ∙ sym (product-same k (λ d l u. cond-both (divides d n) (g d) (h d)) ∙ product-fold k _)
+    ∙ sym (product-fold k (atDivisors n (λ d. g d · h d)) ∙ Divisors.divisors-both times n g h k)
 
 pub over-both : (n : ℕ) (g h : ℕ → Series) → overDivisors n (λ d. g d · h d) ≡ overDivisors n g · overDivisors n h
 unfolding overDivisors

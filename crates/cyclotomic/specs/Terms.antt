@@ -24,7 +24,7 @@ use Rattle.series.specs.Maps.{spread-z^}
 use Rattle.numbers.specs.Tests.{same, test-divides, divides-yes, divides-no, yes-divides}
 use Rattle.numbers.specs.Folds.{fold-units}
 use Rattle.numbers.specs.Primes.{Prime, prime-pos, quotient-pos}
-use Rattle.numbers.specs.Divisors.{quotient-old, quotient-free}
+use Rattle.numbers.specs.Divisors.{divisors-same, quotient-old, quotient-free}
 use Rattle.numbers.specs.HowMany.{primes-one, mu-times}
 use Rattle.numbers.specs.Apart.{OddSquarefree, by-odd-primes}
 use Rattle.cyclotomic.specs.Family.{times, product-fold, product-same, F-one, unit-F, unit-divisors, last-divisor}
@@ -135,14 +135,11 @@ module _ (r p : ℕ) (O : OddSquarefree r) (P : Prime p) (new : ¬ (p ∣ r)) wh
   sort-kept e = ap (λ q. cond (muIsPlus q) comb accumulate) (NatL.mul-div-mul-right r e (prime-pos P))
 
 -- ---- products over divisors
-cond-same : (b : Bool) (f g : Series) → (b ≡ true → f ≡ g) → cond b f 𝟙 ≡ cond b g 𝟙
-cond-same true f g e = e refl
-cond-same false f g e = refl
-
 pub over-same : (n : ℕ) {g h : ℕ → Series} → ((d : ℕ) → 0 < d → d ∣ n → g d ≡ h d) → (k : ℕ)
     → productTo k (atDivisors n g) ≡ productTo k (atDivisors n h)
 unfolding atDivisors
-over-same n {g} {h} e k = product-same k (λ d l u. cond-same (divides d n) (g d) (h d) (λ t. e d l (yes-divides d n t)))
+over-same n {g} {h} e k =
+    product-fold k (atDivisors n g) ∙ divisors-same times n g h e k ∙ sym (product-fold k (atDivisors n h))
 
 cond-one : (b : Bool) → cond b 𝟙 𝟙 ≡ 𝟙
 cond-one true = refl

@@ -1,21 +1,43 @@
 -- The divisors of n p, for a prime p: those of n, and the p e with e a divisor of n where p e is none. Said of a fold
 -- over the divisors, in any commutative monoid: it carries the number theory of F, I and phi.
 use Prim.Native.Nat.{ℕ, _*_, _/_, _<_, _∣_}
-use mathlib.Core.Path.{_≡_, ap, ap₂, _∙_}
-use mathlib.Core.Bool.{cond, not, and-true, _&&_}
+use mathlib.Core.Path.{_≡_, refl, sym, ap, ap₂, _∙_}
+use mathlib.Core.Bool.{Bool, true, false, cond, not, and-true, _&&_}
 use native.Mathlib.Nat.{dvd-trans, mul-div-assoc, mul-div-mul-left, dvd-mul-right, dvd-mul-right-of-dvd}
 use native.Mathlib.Nat.{dvd-of-mul-dvd-mul-left, mul-dvd-mul-left, mul-comm, le-mul-of-pos-right, le-of-dvd}
 use native.Mathlib.Nat.{not-le-of-lt}
 use Rattle.definitions.specs.Numbers.{divides}
-use Rattle.numbers.specs.Tests.{same, denies, test-and, test-not, test-divides, divides-no}
+use Rattle.numbers.specs.Tests.{same, denies, test-and, test-not, test-divides, divides-no, yes-divides}
 use Rattle.numbers.specs.Primes.{quotient-divides, Prime, prime-pos, divides-without}
-use Rattle.numbers.specs.Folds.{Monoid, foldTo, only, only-off, fold-by, fold-same, fold-further, fold-multiples}
+use Rattle.numbers.specs.Folds.{Monoid, foldTo, only, only-off, fold-by, fold-both, fold-same, fold-further}
+use Rattle.numbers.specs.Folds.{fold-multiples}
 
 -- p e divides n p where e divides n
 pub divides-times : (p e n : ℕ) → 0 < p → divides (p * e) (n * p) ≡ divides e n
 divides-times p e n l =
     rw (mul-comm n p)
     (same (test-divides (p * e) (p * n)) (test-divides e n) (dvd-of-mul-dvd-mul-left e l) (mul-dvd-mul-left e p))
+
+-- two folds over divisors: of things that are equal at each divisor, and of two factors
+module _ {A : Type 0} (M : Monoid A) (n : ℕ) (g h : ℕ → A) where
+  pub divisors-same :
+      ((d : ℕ) → 0 < d → d ∣ n → g d ≡ h d) → (k : ℕ)
+      → foldTo M (only M (λ d. divides d n) g) k ≡ foldTo M (only M (λ d. divides d n) h) k
+  divisors-same e k = fold-same M k (λ d l u. go (divides d n) (λ t. e d l (yes-divides d n t)))
+    where
+      go : {x y : A} (b : Bool) → (b ≡ true → x ≡ y) → cond b x (M .unit) ≡ cond b y (M .unit)
+      go true e = e refl
+      go false e = refl
+
+  pub divisors-both :
+      (k : ℕ)
+      → foldTo M (only M (λ d. divides d n) (λ d. M .op (g d) (h d))) k
+      ≡ M .op (foldTo M (only M (λ d. divides d n) g) k) (foldTo M (only M (λ d. divides d n) h) k)
+  divisors-both k = fold-same M k (λ d l u. go (divides d n) (g d) (h d)) ∙ fold-both M _ _ k
+    where
+      go : (b : Bool) (x y : A) → cond b (M .op x y) (M .unit) ≡ M .op (cond b x (M .unit)) (cond b y (M .unit))
+      go true x y = refl
+      go false x y = sym (M .unit-left (M .unit))
 
 module _ {A : Type 0} (M : Monoid A) (g : ℕ → A) {p : ℕ} (P : Prime p) (n : ℕ) (pos : 0 < n) where
   those-of-n :

@@ -1,2 +1,4 @@
 -- That OVER is never met at the largest working limit: how far the steps of an index can carry a value.
 pub mod Scales
+pub mod Stops
+pub mod Sizes
