@@ -16,3 +16,5 @@ pub mod HowMany
 pub mod AtMostFive
 pub mod Lists
 pub mod Below
+pub mod PrimeLists
+pub mod Fives

@@ -16,7 +16,7 @@ use Rattle.numbers.specs.Primes.{Prime, prime-pos, prime-same, euclid, d
 abbrev pub Squarefree : ℕ → Type 0
 Squarefree a = (p : ℕ) → Prime p → ¬ (p * p ∣ a)
 
-prime-not-one : {p : ℕ} → Prime p → ¬ (p ∣ 1)
+pub prime-not-one : {p : ℕ} → Prime p → ¬ (p ∣ 1)
 prime-not-one P d = omega (arith, eq-one-of-dvd-one d, P .above)
 
 -- times one prime more, which does not divide it yet
