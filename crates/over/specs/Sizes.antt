@@ -6,7 +6,8 @@ use Prim.Native.Nat.{ℕ, zero, suc, _+_, _*_, _/_, _^_, _<_, _≤_, _∣_}
 use mathlib.Core.Path.{_≡_, refl, sym, _∙_, ap, ap₂}
 use mathlib.Core.Bool.{Bool, true, false, cond, not}
 use mathlib.Core.Logic.{_≢_, _⊎_, inl, inr}
-use native.Mathlib.Nat.{pow-zero, pow-suc, one-mul, mul-one, mul-assoc, mul-comm, mul-left-comm, mul-mul-mul-comm, two-pow-succ}
+use native.Mathlib.Nat.{pow-zero, pow-suc, one-mul, mul-one, mul-assoc, mul-comm, mul-left-comm, mul-mul-mul-comm}
+use native.Mathlib.Nat.{mul-right-comm, two-pow-succ}
 use native.Mathlib.Numerals.{add-one}
 use native.Mathlib.Omega.{arith}
 use lib.Pow.{pow-add}
@@ -16,7 +17,7 @@ use Rattle.numbers.specs.Counts.{sums, products}
 use Rattle.numbers.specs.Primes.{Prime, prime-pos, quotient-pos}
 use Rattle.numbers.specs.Divisors.{split-new, divisors-same, divisors-both, quotient-old, quotient-new, quotient-free}
 use Rattle.numbers.specs.HowMany.{mu-times, k-times, k-one}
-use Rattle.numbers.specs.Apart.{OddSquarefree, by-odd-primes}
+use Rattle.numbers.specs.Apart.{OddSquarefree, odd-squarefree-one, by-odd-primes}
 
 -- whether a step is a comb: of F where mu(r/d) is +1, of I the other way round
 abbrev pub combs : Bool → Bool → Bool
@@ -72,3 +73,110 @@ module _ (first : Bool) (r p : ℕ) (O : OddSquarefree r) (P : Prime p) (new : �
       go true false q = rw (pow-zero p) refl
       go false true q = rw (pow-zero p) refl
       go false false q = rw (pow-one) refl
+
+  count-turned : (d : ℕ) → d ∣ r → accumulates first (r * p / d) ≡ accumulates (not first) (r / d)
+  unfolding accumulates
+  count-turned d h =
+      rw (quotient-old r p d h, mu-times (r / d) p (quotient-pos d r (O .pos) h) P (quotient-free r p d new h))
+      (go first (muIsPlus (r / d)))
+    where
+      go : (f m : Bool) → _≡_ {A = ℕ} (cond (combs f (not m)) 0 1) (cond (combs (not f) m) 0 1)
+      go true true = refl
+      go true false = refl
+      go false true = refl
+      go false false = refl
+
+  -- p e stays as e was
+  pub sizes-times : sizes first (r * p) ≡ sizes (not first) r * p ^ howMany (not first) r * sizes first r
+  unfolding sizes howMany
+  sizes-times =
+      split-new products (λ d. sizeOf first (r * p / d)) P r (O .pos) new
+      ∙ ap₂ _*_
+      (divisors-same products r _ _ (λ d l h. size-turned d h) r
+      ∙ divisors-both products r (λ d. sizeOf (not first) (r / d)) (λ d. p ^ accumulates (not first) (r / d)) r
+      ∙ ap (λ e. foldTo products (only products (λ d. divides d r) (λ d. sizeOf (not first) (r / d))) r * e)
+      (pow-fold p r (λ d. accumulates (not first) (r / d)) r))
+      (divisors-same products r _ _ (λ d l h. ap (sizeOf first) (quotient-new r p d (prime-pos P))) r)
+
+  pub how-many-times : howMany first (r * p) ≡ howMany (not first) r + howMany first r
+  unfolding howMany
+  how-many-times =
+      split-new sums (λ d. accumulates first (r * p / d)) P r (O .pos) new
+      ∙ ap₂ _+_ (divisors-same sums r _ _ (λ d l h. count-turned d h) r)
+      (divisors-same sums r _ _ (λ d l h. ap (accumulates first) (quotient-new r p d (prime-pos P))) r)
+
+-- ---- in closed form
+one-size : (first : Bool) → (sizes first 1 ≡ cond first 2 1) × (howMany first 1 ≡ cond first 0 1)
+unfolding sizes howMany sizeOf accumulates foldTo divides muIsPlus primesOf countTo isPrime
+one-size true = (refl, refl)
+one-size false = (refl, refl)
+
+-- with one prime, and with e + 2
+pub record One (r : ℕ) : Type 0 where
+  pub primes : kOf r ≡ 1
+  pub size : (first : Bool) → sizes first r ≡ cond first (2 * r) 2
+  pub many : (first : Bool) → howMany first r ≡ 1
+
+pub record More (e r : ℕ) : Type 0 where
+  pub primes : kOf r ≡ e + 2
+  pub size : (first : Bool) → sizes first r ≡ (4 * r) ^ (2 ^ e)
+  pub many : (first : Bool) → howMany first r ≡ 2 ^ suc e
+
+pub data Closed : ℕ → Type 0 where
+  none : Closed 1
+  one : {r : ℕ} → One r → Closed r
+  more : {e r : ℕ} → More e r → Closed r
+
+module _ (r p : ℕ) (O : OddSquarefree r) (P : Prime p) (odd : p ≢ 2) (new : ¬ (p ∣ r)) where
+  from-one : One r → More 0 (r * p)
+  from-one h =
+      record {
+        primes = rw (k-times r p (O .pos) P odd new, h .primes) refl;
+        size = λ f. sizes-times f r p O P new
+            ∙ rw (h .size f, h .size (not f), h .many (not f), pow-one {a = p}, pow-one {a = 4 * (r * p)}) (go f);
+        many = λ f. how-many-times f r p O P new ∙ rw (h .many f, h .many (not f)) refl;
+      }
+    where
+      go : (f : Bool) → cond (not f) (2 * r) 2 * p * cond f (2 * r) 2 ≡ 4 * (r * p)
+      go true = rw (mul-mul-mul-comm 2 p 2 r, mul-comm p r) refl
+      go false = omega (arith, mul-assoc 2 r p)
+
+  from-more : {e : ℕ} → More e r → More (suc e) (r * p)
+  from-more {e} h =
+      record {
+        primes = omega (arith, k-times r p (O .pos) P odd new, h .primes);
+        size = λ f. sizes-times f r p O P new ∙ rw (h .size f, h .size (not f), h .many (not f)) squared;
+        many = λ f. how-many-times f r p O P new ∙ rw (h .many f, h .many (not f)) (sym (two-pow-succ (suc e)));
+      }
+    where
+      squared : (4 * r) ^ (2 ^ e) * p ^ (2 ^ suc e) * (4 * r) ^ (2 ^ e) ≡ (4 * (r * p)) ^ (2 ^ suc e)
+      squared =
+          mul-right-comm ((4 * r) ^ (2 ^ e)) (p ^ (2 ^ suc e)) ((4 * r) ^ (2 ^ e))
+          ∙ ap (λ x. x * p ^ (2 ^ suc e))
+          (sym (pow-add (4 * r) (2 ^ e) (2 ^ e)) ∙ ap (λ x. (4 * r) ^ x) (sym (two-pow-succ e)))
+          ∙ sym (mul-pow (4 * r) p (2 ^ suc e)) ∙ ap (λ x. x ^ (2 ^ suc e)) (mul-assoc 4 r p)
+
+first-prime : (p : ℕ) → Prime p → p ≢ 2 → ¬ (p ∣ 1) → One (1 * p)
+first-prime p P odd new =
+    record {
+      primes = rw (k-times 1 p (omega arith) P odd new, k-one) refl;
+      size = λ f. sizes-times f 1 p odd-squarefree-one P new
+          ∙ rw (one-size f .0, one-size (not f) .0, one-size (not f) .1) (go f);
+      many = λ f. how-many-times f 1 p odd-squarefree-one P new ∙ rw (one-size f .1, one-size (not f) .1) (both f);
+    }
+  where
+    go : (f : Bool) → cond (not f) 2 1 * p ^ cond (not f) 0 1 * cond f 2 1 ≡ cond f (2 * (1 * p)) 2
+    go true = rw (pow-one {a = p}) (omega (arith, one-mul p))
+    go false = rw (pow-zero p) refl
+
+    both : (f : Bool) → _≡_ {A = ℕ} (cond (not f) 0 1 + cond f 0 1) 1
+    both true = refl
+    both false = refl
+
+pub closed : (r : ℕ) → OddSquarefree r → Closed r
+closed = by-odd-primes Closed none (λ r p O P odd new. next O P odd new)
+  where
+    next : {r p : ℕ} → OddSquarefree r → Prime p → p ≢ 2 → ¬ (p ∣ r) → Closed r → Closed (r * p)
+    next {p = p} O P odd new none = one (first-prime p P odd new)
+    next {r = r} {p = p} O P odd new (one h) = more (from-one r p O P odd new h)
+    next {r = r} {p = p} O P odd new (more h) = more (from-more r p O P odd new h)
