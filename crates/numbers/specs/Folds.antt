@@ -7,6 +7,8 @@ use mathlib.Core.Logic.{_≢_}
 use native.Mathlib.Nat.{add-zero, add-suc, suc-mul, zero-mul, dvd-mul-left, dvd-add-iff-right, le-of-dvd, add-sub-of-le}
 use native.Mathlib.Nat.{le-refl, le-antisymm}
 use native.Mathlib.Omega.{arith}
+use borrow.Author.Tests.{eq-eqb, ne-eqb}
+use lib.Dec.{eqb}
 
 pub record Monoid (A : Type 0) : Type 0 where
   pub op : A → A → A
@@ -83,6 +85,19 @@ module _ {A : Type 0} (M : Monoid A) where
   fold-one g (suc p) k l u e =
       fold-further g (suc p) k u (λ d a b. e d (omega arith) b (omega arith))
       ∙ (ap (λ x. M .op x (g (suc p))) (fold-units p (λ d a b. e d a (omega arith) (omega arith))) ∙ M .unit-left _)
+
+  -- one of them taken out
+  pub fold-apart :
+      (g : ℕ → A) (p k : ℕ) → 0 < p → p ≤ k → foldTo g k ≡ M .op (g p) (foldTo (λ d. cond (eqb d p) (M .unit) (g d)) k)
+  fold-apart g p k l u =
+      fold-same k (λ d a b. go (eqb d p) (g d)) ∙ fold-both (λ d. cond (eqb d p) (g d) (M .unit)) _ k
+      ∙ ap (λ x. M .op x (foldTo (λ d. cond (eqb d p) (M .unit) (g d)) k))
+      (fold-one _ p k l u (λ d a b n. ap (λ c. cond c (g d) (M .unit)) (ne-eqb d p n))
+      ∙ ap (λ c. cond c (g p) (M .unit)) (eq-eqb p p refl))
+    where
+      go : (b : Bool) (x : A) → x ≡ M .op (cond b x (M .unit)) (cond b (M .unit) x)
+      go true x = sym (unit-right x)
+      go false x = sym (M .unit-left x)
 
   -- by a test: those where it is true, and those where it is false
   only-by : (b c : Bool) (x : A) → cond b x (M .unit)

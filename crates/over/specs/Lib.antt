@@ -2,3 +2,4 @@
 pub mod Scales
 pub mod Stops
 pub mod Sizes
+pub mod Closed

@@ -11,7 +11,7 @@ use native.Mathlib.Nat.{mul-le-mul-left, mul-le-mul-right, le-trans, le-div-iff-
 use native.Mathlib.Omega.{arith}
 use lib.IntN.{natAbs}
 use Rattle.definitions.specs.Integers.{_⊕_, ⊖, 0ℤ, 1ℤ}
-use Rattle.definitions.specs.Series.{Series, 𝟙, _+ˢ_, -ˢ, _·_, z^}
+use Rattle.definitions.specs.Series.{Series, constant, 𝟙, _+ˢ_, -ˢ, _·_, z^}
 use Rattle.definitions.specs.Numbers.{divides}
 use Rattle.definitions.specs.Polynomials.{productTo}
 use Rattle.definitions.specs.Steps.{comb, accumulate, stepped, accumulated}
@@ -148,3 +148,8 @@ module _ (n : ℕ) where
       go : (b : Bool) → natAbs (cond b 1ℤ 0ℤ) * 1 ≤ 1
       go true = omega arith
       go false = omega arith
+
+  pub under-one : Under n 1 (λ i. 1) 𝟙
+  unfolding constant
+  under-one zero l = omega arith
+  under-one (suc i) l = omega arith

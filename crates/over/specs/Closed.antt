@@ -1,0 +1,167 @@
+-- No stop of r has a value above a closed bound. The step of d scales by its size (`scales-term`), so the product of the
+-- terms up to any m scales by the product of their sizes; and one accumulate, on 1, 0, 0, .., makes only 0 and 1, so its
+-- size counts for nothing (`held-without`). With the sizes in closed form (`Sizes`): for r with k primes, k above 1, no
+-- value is above w where d (4 r)^(2^(k-2)) is at most w r, or 2 w r for F, d being 1 or a prime of r, whichever accumulates
+-- (`held-closed`).
+use Prim.Native.Nat.{ℕ, zero, suc, _+_, _*_, _-_, _/_, _%_, _^_, _<_, _≤_, _∣_}
+use mathlib.Core.Path.{_≡_, refl, sym, _∙_, ap, ap₂}
+use mathlib.Core.Bool.{Bool, true, false, cond, not}
+use mathlib.Core.Logic.{_≢_}
+use native.Mathlib.Nat.{mul-one, one-mul, mul-comm, mul-assoc, le-trans, le-refl, mul-le-mul, le-of-mul-le-mul-right}
+use native.Mathlib.Nat.{div-mul-cancel, div-self, mul-pos, le-of-dvd, lt-of-not-le, le-mul-of-pos-right, mul-le-mul-left}
+use native.Mathlib.Nat.{div-lt-iff-lt-mul, mul-left-comm, add-zero, add-suc, add-sub-of-le}
+use native.Mathlib.Decide.{decLe}
+use native.Mathlib.Omega.{arith}
+use borrow.Author.Tests.{ne-eqb}
+use lib.Dec.{eqb}
+use lib.IntN.{natAbs}
+use Rattle.definitions.specs.Series.{Series, 𝟙, _·_}
+use Rattle.definitions.specs.Numbers.{divides, phi, muIsPlus, primesOf, kOf}
+use Rattle.definitions.specs.Polynomials.{productTo, atDivisors, degree}
+use Rattle.definitions.specs.Steps.{Sort, comb, accumulate}
+use Rattle.definitions.specs.KeptHalf.{halfDegree, sortOf, termOf, term}
+use Rattle.series.specs.Laws.{·-comm, ·-one}
+use Rattle.numbers.specs.Tests.{yes-divides, divides-yes}
+use Rattle.numbers.specs.Folds.{foldTo, only, fold-zero, fold-suc, fold-same, fold-apart}
+use Rattle.numbers.specs.Counts.{products}
+use Rattle.numbers.specs.Phi.{phi-lt, phi-pos}
+use Rattle.numbers.specs.Primes.{Prime, quotient-pos}
+use Rattle.numbers.specs.Apart.{OddSquarefree}
+use Rattle.cyclotomic.specs.Family.{times, product-fold, product-same}
+use Rattle.over.specs.Scales.{Under, Climbs, Scales, scales-one, scales-more, scales-comb, scales-accumulate}
+use Rattle.over.specs.Scales.{scales-product, under-accumulate, under-one}
+use Rattle.over.specs.Stops.{upTo}
+use Rattle.over.specs.Sizes.{combs, sizeOf, sizes}
+
+-- the kept half has fewer than r entries
+pub fewer-entries : (kind r : ℕ) → 1 < r → halfDegree kind r + 1 < r
+unfolding halfDegree degree
+fewer-entries kind r l = go (eqb kind 1)
+  where
+    go : (b : Bool) → cond b (phi r) (r - phi r) / 2 + 1 < r
+    go true = omega (arith, phi-lt r l)
+    go false = omega (arith, phi-pos r (omega arith))
+
+-- more factors above 0 make a product no smaller
+grows : (b : ℕ → ℕ) → ((d : ℕ) → 0 < b d) → (m k : ℕ) → m ≤ k → foldTo products b m ≤ foldTo products b k
+grows b pos m k l = rw (add-sub-of-le l) at (further (k - m))
+  where
+    further : (j : ℕ) → foldTo products b m ≤ foldTo products b (m + j)
+    further zero = rw (add-zero m) (le-refl (foldTo products b m))
+    further (suc j) =
+        rw (add-suc m j, fold-suc products b (m + j))
+        (le-trans (further j) (le-mul-of-pos-right (foldTo products b (m + j)) (pos (suc (m + j)))))
+
+module _ (kind r : ℕ) (above : 1 < r) where
+  abbrev first : Bool
+  first = eqb kind 1
+
+  abbrev n : ℕ
+  n = halfDegree kind r + 1
+
+  -- a divisor's step scales by its size
+  scales-term : (d : ℕ) → 0 < d → d ∣ r → d < r → Scales n (sizeOf first (r / d)) (term kind r d)
+  unfolding term sortOf sizeOf
+  scales-term d l h u = go (combs first (muIsPlus (r / d)))
+    where
+      turns : n / d + 1 ≤ r / d
+      turns =
+          omega (
+            arith,
+            div-lt-iff-lt-mul {x = n} {y = r / d} l .1 (rw (div-mul-cancel d h) (fewer-entries kind r above)),
+          )
+
+      go : (b : Bool) → Scales n (cond b 2 (r / d)) (termOf (cond b comb accumulate) d)
+      go true = scales-comb n d
+      go false = scales-more n (n / d + 1) (r / d) (termOf accumulate d) turns (scales-accumulate n d l)
+
+  -- the size of d's step, 1 where d is no divisor
+  abbrev size : ℕ → ℕ
+  size d = cond (divides d r) (sizeOf first (r / d)) 1
+
+  size-pos : (d : ℕ) → 0 < size d
+  unfolding sizeOf
+  size-pos d = go (divides d r) refl (combs first (muIsPlus (r / d)))
+    where
+      go : (b : Bool) → divides d r ≡ b → (c : Bool) → 0 < cond b (cond c 2 (r / d)) 1
+      go true t true = omega arith
+      go true t false = quotient-pos d r (omega arith) (yes-divides d r t)
+      go false t c = omega arith
+
+  -- one divisor left out: e, which accumulates unless it is r itself
+  module _ (e : ℕ) (pos : 0 < e) (in-r : e ∣ r) (acc : e < r → term kind r e ≡ termOf accumulate e) where
+    abbrev sizeBut : ℕ → ℕ
+    sizeBut d = cond (eqb d e) 1 (size d)
+
+    abbrev termBut : ℕ → Series
+    termBut d = cond (eqb d e) 𝟙 (atDivisors r (term kind r) d)
+
+    but-pos : (d : ℕ) → 0 < sizeBut d
+    but-pos d = go (eqb d e)
+      where
+        go : (b : Bool) → 0 < cond b 1 (size d)
+        go true = omega arith
+        go false = size-pos d
+
+    scales-but : (m : ℕ) → m < r → Scales n (foldTo products sizeBut m) (productTo m termBut)
+    unfolding atDivisors
+    scales-but m u =
+        scales-product n sizeBut termBut m
+        (λ d l v. go (eqb d e) (divides d r) (λ t. scales-term d l (yes-divides d r t) (omega arith)))
+      where
+        go : {x : ℕ} {q : Series} (b c : Bool) → (c ≡ true → Scales n x q) → Scales n (cond b 1 (cond c x 1)) (cond b 𝟙 (cond c q 𝟙))
+        go true c s = scales-one n
+        go false true s = s refl
+        go false false s = scales-one n
+
+    -- what was left out makes only 0 and 1
+    split : (m : ℕ) → m < r → (h : Series) × Under n 1 (λ i. 1) h × (upTo kind r m ≡ productTo m termBut · h)
+    unfolding upTo atDivisors
+    split m u = go (decLe e m)
+      where
+        terms : ℕ → Series
+        terms = atDivisors r (term kind r)
+
+        at-e : e < r → terms e ≡ termOf accumulate e
+        at-e v = ap (λ b. cond b (term kind r e) 𝟙) (divides-yes e r in-r) ∙ acc v
+
+        go : Dec (e ≤ m) → (h : Series) × Under n 1 (λ i. 1) h × (upTo kind r m ≡ productTo m termBut · h)
+        go (yes v) =
+            (
+              termOf accumulate e,
+              under-accumulate n e,
+              product-fold m terms ∙ fold-apart times terms e m pos v
+                  ∙ ap₂ _·_ (at-e (omega arith)) (sym (product-fold m termBut)) ∙ ·-comm (termOf accumulate e) (productTo m termBut),
+            )
+        go (no v) =
+            (
+              𝟙,
+              under-one n,
+              product-same m (λ d l k. ap (λ b. cond b 𝟙 (terms d)) (sym (ne-eqb d e (λ (x : d ≡ e). v (omega arith)))))
+                  ∙ sym (·-one (productTo m termBut)),
+            )
+
+    pub held-but : (m : ℕ) → m < r → (i : ℕ) → i < n → natAbs (upTo kind r m i) ≤ foldTo products sizeBut (r - 1)
+    held-but m u i l =
+        let (h, unit, e) = split m u in
+        rw e
+        (le-trans (omega (arith, scales-but m u .scaled h 1 (λ i. 1) (omega arith) (λ k i b. omega arith) unit i l))
+        (grows sizeBut but-pos m (r - 1) (omega arith)))
+
+    -- all sizes together are those, that of e, and that of r
+    all-sizes : sizes first r ≡ size e * (foldTo products sizeBut (r - 1) * sizeBut r)
+    unfolding sizes
+    all-sizes =
+        fold-apart products size e r pos (le-of-dvd (omega arith) in-r)
+        ∙ ap (λ x. size e * x) (ap (foldTo products sizeBut) whole ∙ fold-suc products sizeBut (r - 1) ∙ ap (λ x. foldTo products sizeBut (r - 1) * sizeBut x) (sym whole))
+      where
+        whole : r ≡ suc (r - 1)
+        whole = omega arith
+
+    pub held-without : (w : ℕ) → sizes first r ≤ w * (size e * sizeBut r) → (m : ℕ) → m < r → (i : ℕ) → i < n
+        → natAbs (upTo kind r m i) ≤ w
+    held-without w h m u i l =
+        le-trans (held-but m u i l)
+        (le-of-mul-le-mul-right {k = size e * sizeBut r}
+        (le-trans (omega (arith, all-sizes, mul-left-comm (size e) (foldTo products sizeBut (r - 1)) (sizeBut r))) h)
+        (mul-pos (size-pos e) (but-pos r)))
