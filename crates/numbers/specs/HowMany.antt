@@ -12,7 +12,8 @@ use Rattle.definitions.specs.Numbers.{countTo, isPrime, divides, oddPrimeOf, rO
 use Rattle.numbers.specs.Tests.{Tests, same, denies, test-true, test-and, test-not, test-eq, test-divides}
 use Rattle.numbers.specs.Primes.{Prime, prime-pos, prime-same, test-prime, euclid}
 use Rattle.numbers.specs.Counts.{count-same, count-further, count-by, count-one}
-use Rattle.numbers.specs.Apart.{test-odd-prime, r-prime, prime-r, r-divides, r-pos}
+use Rattle.numbers.specs.Apart.{OddSquarefree, by-odd-primes, test-odd-prime, r-prime, prime-r, r-divides}
+use Rattle.numbers.specs.Apart.{r-pos}
 
 -- a prime of n that S lets through
 abbrev chosen : (ℕ → Bool) → ℕ → ℕ → Bool
@@ -98,3 +99,13 @@ module _ (n : ℕ) (l : 0 < n) where
   k-of-r =
       count-same (rOf n) (λ x a b. r-same-primes x)
       ∙ sym (count-further (oddPrimeOf n) (rOf n) n (le-of-dvd l (r-divides n)) (λ d a b. r-none-above d a))
+
+-- an odd number has no other primes, so mu goes by k
+pub mu-k : (r : ℕ) → OddSquarefree r → muIsPlus r ≡ eqb (kOf r % 2) 0
+unfolding muIsPlus
+mu-k r O = ap (λ c. eqb (c % 2) 0) (primes-k r O)
+  where
+    primes-k : (r : ℕ) → OddSquarefree r → primesOf r ≡ kOf r
+    primes-k =
+        by-odd-primes (λ r. primesOf r ≡ kOf r) (primes-one ∙ sym k-one)
+        (λ r p O P u n ih. omega (arith, primes-times r p (O .pos) P n, k-times r p (O .pos) P u n))

@@ -3,3 +3,4 @@ pub mod Scales
 pub mod Stops
 pub mod Sizes
 pub mod Closed
+pub mod FourPrimes

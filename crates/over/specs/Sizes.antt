@@ -180,3 +180,8 @@ closed = by-odd-primes Closed none (λ r p O P odd new. next O P odd new)
     next {p = p} O P odd new none = one (first-prime p P odd new)
     next {r = r} {p = p} O P odd new (one h) = more (from-one r p O P odd new h)
     next {r = r} {p = p} O P odd new (more h) = more (from-more r p O P odd new h)
+
+pub by-closed : {r : ℕ} {A : Type 0} → Closed r → (r ≡ 1 → A) → (One r → A) → ((e : ℕ) → More e r → A) → A
+by-closed none f g h = f refl
+by-closed (one c) f g h = g c
+by-closed (more {e = e} c) f g h = h e c
