@@ -4,3 +4,5 @@ pub mod Stops
 pub mod Sizes
 pub mod Closed
 pub mod FourPrimes
+pub mod Weights
+pub mod Pairs
