@@ -6,3 +6,6 @@ pub mod Closed
 pub mod FourPrimes
 pub mod Weights
 pub mod Pairs
+pub mod Listed
+pub mod FivePrimes
+pub mod Promise

@@ -158,7 +158,7 @@ moved a b f = ringˢ (a ∷ b ∷ f ∷ []) (x :* y :* z) (y :* (x :* z)) refl
 abbrev pub dueTo : ℕ → ℕ × Sort → Series
 dueTo m x = cond (leb (x .0) m) (termOf (x .1) (x .0)) 𝟙
 
-later : (d m : ℕ) → m < d → leb d m ≡ false
+pub later : (d m : ℕ) → m < d → leb d m ≡ false
 later d m l = denies (test-le d m) (λ u. omega arith)
 
 module _ (w n : ℕ) where

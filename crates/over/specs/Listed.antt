@@ -1,0 +1,126 @@
+-- The divisors of a product of listed primes, listed with their mu: a new prime p turns mu(r/d) round for the divisors d
+-- there were, and p d has the mu that d had. So a product over all divisors is one over this list (`over-listed`), in
+-- ascending order too (`over-ascending`), and what the steps of r have made of the start at a stop is a product over it
+-- (`stop-listed`).
+use Prim.Native.Nat.{ℕ, _*_, _/_, _<_, _≤_, _∣_}
+use mathlib.Core.Path.{_≡_, refl, sym, _∙_, ap, ap₂}
+use mathlib.Core.Bool.{Bool, true, false, cond, not}
+use mathlib.Core.List.{List, [], _∷_, _++_, map, map-append, map-map}
+use native.Mathlib.Nat.{le-refl}
+use native.Mathlib.Omega.{arith}
+use borrow.Author.Tests.{le-leb}
+use lib.Dec.{eqb, leb}
+use Rattle.definitions.specs.Series.{Series, 𝟙, _·_}
+use Rattle.definitions.specs.Numbers.{divides, muIsPlus, primesOf, countTo, isPrime}
+use Rattle.definitions.specs.Polynomials.{productTo, atDivisors, overDivisors}
+use Rattle.definitions.specs.Steps.{Sort, comb, accumulate}
+use Rattle.definitions.specs.KeptHalf.{sortOf, term, termOf, productOf}
+use Rattle.integers.specs.Solver.{_:*_, x, y, z}
+use Rattle.series.specs.Laws.{·-comm, ringˢ}
+use Rattle.numbers.specs.Folds.{foldTo, only, fold-same, fold-further}
+use Rattle.numbers.specs.Primes.{Prime, prime-pos, quotient-pos}
+use Rattle.numbers.specs.Divisors.{split-new, divisors-same, quotient-old, quotient-new, quotient-free}
+use Rattle.numbers.specs.HowMany.{mu-times}
+use Rattle.numbers.specs.PrimeLists.{productOfList, Rising, none, more, rising-pos, rising-new}
+use Rattle.cyclotomic.specs.Family.{times, product-fold}
+use Rattle.cyclotomic.specs.Kept.{product-append}
+use Rattle.over.specs.Stops.{upTo}
+use Rattle.over.specs.Sizes.{combs}
+use Rattle.over.specs.Pairs.{dueTo, later}
+
+swapped : (a b f : Series) → a · (b · f) ≡ b · (a · f)
+swapped a b f = ringˢ (a ∷ b ∷ f ∷ []) (x :* (y :* z)) (y :* (x :* z)) refl
+
+-- a divisor d of r, and whether mu(r/d) is +1
+abbrev pub Divisor : Type 0
+Divisor = ℕ × Bool
+
+unfoldable pub listed : List ℕ → List Divisor
+listed [] = (1, true) ∷ []
+listed (p ∷ ps) = map (λ x. (x .0, not (x .1))) (listed ps) ++ map (λ x. (p * x .0, x .1)) (listed ps)
+
+-- the product over the divisors of n, as a fold
+abbrev overAll : ℕ → (ℕ → Series) → Series
+overAll n g = foldTo times (only times (λ d. divides d n) g) n
+
+one-listed : (h : ℕ → Bool → Series) → overAll 1 (λ d. h d (muIsPlus (1 / d))) ≡ productOf (h 1 true ∷ [])
+unfolding foldTo divides muIsPlus primesOf countTo isPrime productOf
+one-listed h = ·-comm 𝟙 (h 1 true)
+
+over-listed : {low : ℕ} {ps : List ℕ} → Rising low ps → (h : ℕ → Bool → Series)
+    → overAll (productOfList ps) (λ d. h d (muIsPlus (productOfList ps / d)))
+    ≡ productOf (map (λ x. h (x .0) (x .1)) (listed ps))
+unfolding productOfList listed
+over-listed none h = one-listed h
+over-listed (more {p} {ps} P l R) h =
+    let r = productOfList ps in
+    let each : Divisor → Series = λ x. h (x .0) (x .1) in
+    split-new times (λ d. h d (muIsPlus (r * p / d))) P r (rising-pos R) (rising-new P (le-refl p) R)
+    ∙ ap₂ _·_
+    (divisors-same times r (λ d. h d (muIsPlus (r * p / d))) (λ d. h d (not (muIsPlus (r / d)))) (λ d l k. ap (h d) (turned d k)) r
+    ∙ over-listed R (λ d b. h d (not b)))
+    (divisors-same times r (λ d. h (p * d) (muIsPlus (r * p / (p * d)))) (λ d. h (p * d) (muIsPlus (r / d)))
+    (λ d l k. ap (λ q. h (p * d) (muIsPlus q)) (quotient-new r p d (prime-pos P))) r
+    ∙ over-listed R (λ d b. h (p * d) b))
+    ∙ sym
+    (ap productOf (map-append each (map (λ x. (x .0, not (x .1))) (listed ps)) (map (λ x. (p * x .0, x .1)) (listed ps)))
+    ∙ product-append (map each (map (λ x. (x .0, not (x .1))) (listed ps))) (map each (map (λ x. (p * x .0, x .1)) (listed ps)))
+    ∙ ap₂ (λ a b. productOf a · productOf b) (map-map each (λ x. (x .0, not (x .1))) (listed ps))
+    (map-map each (λ x. (p * x .0, x .1)) (listed ps)))
+  where
+    turned : (d : ℕ) → d ∣ productOfList ps → muIsPlus (productOfList ps * p / d) ≡ not (muIsPlus (productOfList ps / d))
+    turned d k =
+        ap muIsPlus (quotient-old (productOfList ps) p d k)
+        ∙ mu-times (productOfList ps / d) p (quotient-pos d (productOfList ps) (rising-pos R) k) P
+        (quotient-free (productOfList ps) p d (rising-new P (le-refl p) R) k)
+
+-- ---- in ascending order
+unfoldable pub inserted : Divisor → List Divisor → List Divisor
+inserted x [] = x ∷ []
+inserted x (y ∷ ys) = cond (leb (x .0) (y .0)) (x ∷ y ∷ ys) (y ∷ inserted x ys)
+
+unfoldable pub ascending : List Divisor → List Divisor
+ascending [] = []
+ascending (x ∷ xs) = inserted x (ascending xs)
+
+module _ (g : Divisor → Series) where
+  product-inserted : (x : Divisor) (ys : List Divisor) → productOf (map g (inserted x ys)) ≡ g x · productOf (map g ys)
+  unfolding inserted productOf
+  product-inserted x [] = refl
+  product-inserted x (y ∷ ys) = go (leb (x .0) (y .0)) (product-inserted x ys)
+    where
+      go : (b : Bool) → productOf (map g (inserted x ys)) ≡ g x · productOf (map g ys)
+          → productOf (map g (cond b (x ∷ y ∷ ys) (y ∷ inserted x ys))) ≡ g x · (g y · productOf (map g ys))
+      go true ih = refl
+      go false ih = ap (λ q. g y · q) ih ∙ swapped (g y) (g x) (productOf (map g ys))
+
+  product-ascending : (xs : List Divisor) → productOf (map g (ascending xs)) ≡ productOf (map g xs)
+  unfolding ascending productOf
+  product-ascending [] = refl
+  product-ascending (x ∷ xs) = product-inserted x (ascending xs) ∙ ap (λ q. g x · q) (product-ascending xs)
+
+-- ---- the stops
+-- a divisor's step, for F or for I
+unfoldable pub stepOf : Bool → Divisor → ℕ × Sort
+stepOf first x = (x .0, cond (combs first (x .1)) comb accumulate)
+
+-- the divisors above m leave no factor
+up-to-all : (kind r m : ℕ) → m ≤ r → upTo kind r m ≡ overAll r (λ d. cond (leb d m) (term kind r d) 𝟙)
+unfolding upTo atDivisors
+up-to-all kind r m l =
+    product-fold m (λ d. cond (divides d r) (term kind r d) 𝟙)
+    ∙ fold-same times m (λ d a b. ap (λ c. cond (divides d r) (cond c (term kind r d) 𝟙) 𝟙) (sym (le-leb d m b)))
+    ∙ sym (fold-further times _ m r l (λ d a b. ap (λ c. cond (divides d r) (cond c (term kind r d) 𝟙) 𝟙) (later d m a) ∙ both (divides d r)))
+  where
+    both : (b : Bool) → cond b 𝟙 𝟙 ≡ 𝟙
+    both true = refl
+    both false = refl
+
+pub stop-listed : {ps : List ℕ} → Rising 2 ps → (kind m : ℕ) → m ≤ productOfList ps
+    → upTo kind (productOfList ps) m ≡ productOf (map (dueTo m) (map (stepOf (eqb kind 1)) (ascending (listed ps))))
+unfolding stepOf term sortOf
+stop-listed {ps} R kind m l =
+    up-to-all kind (productOfList ps) m l
+    ∙ over-listed R (λ d b. cond (leb d m) (termOf (cond (combs (eqb kind 1) b) comb accumulate) d) 𝟙)
+    ∙ sym (product-ascending (λ x. dueTo m (stepOf (eqb kind 1) x)) (listed ps))
+    ∙ ap productOf (sym (map-map (dueTo m) (stepOf (eqb kind 1)) (ascending (listed ps))))
