@@ -9,3 +9,4 @@ pub mod Pairs
 pub mod Listed
 pub mod FivePrimes
 pub mod Promise
+pub mod Never
