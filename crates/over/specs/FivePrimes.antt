@@ -1,5 +1,5 @@
 -- Five odd primes: for each of the 36 products up to 65,535 the checker runs along the steps of F and of I and finds, at
--- every stop, that no value can be above `reachOfFive` (`all-tested`); what the run means is `runs-right` of `Pairs`.
+-- every stop, that no value can be above what is promised (`all-tested`); what the run means is `runs-right` of `Pairs`.
 use Prim.Native.Nat.{ℕ, zero, suc, _+_, _*_, _-_, _/_, _^_, _<_, _≤_}
 use mathlib.Core.Path.{_≡_, refl, sym, _∙_, ap}
 use mathlib.Core.Bool.{Bool, true, false, cond, _&&_}
@@ -17,34 +17,25 @@ use Rattle.numbers.specs.Tests.{test-and, test-true}
 use Rattle.numbers.specs.Apart.{OddSquarefree}
 use Rattle.numbers.specs.PrimeLists.{productOfList, phiOfList, Rising, rising-phi}
 use Rattle.numbers.specs.Fives.{fives, of-five}
+use Rattle.over.specs.Promised.{promisedOf, promised}
 use Rattle.over.specs.Scales.{under-one}
-use Rattle.over.specs.Stops.{upTo}
-use Rattle.over.specs.FourPrimes.{Held}
+use Rattle.over.specs.Stops.{Held}
 use Rattle.over.specs.Weights.{weight}
 use Rattle.over.specs.Pairs.{meet, behind, settled, next, enough, runs, at-start, dueTo, runs-right}
 use Rattle.over.specs.Listed.{listed, inserted, ascending, stepOf, stop-listed}
-
--- what a value of F, and of I, is shown not to pass
-unfoldable pub reachOfFive : Bool → ℕ
-reachOfFive first = cond first (2 ^ 52 - 1) (2 ^ 55 - 1)
-
-at-least-one : (first : Bool) → 1 ≤ reachOfFive first
-unfolding reachOfFive
-at-least-one true = omega arith
-at-least-one false = omega arith
 
 -- the steps of F or of I, tested at every stop
 unfoldable pub passes : Bool → List ℕ → Bool
 passes first ps =
     let degree = cond first (phiOfList ps) (productOfList ps - phiOfList ps) in
-    runs (reachOfFive first) (degree / 2 + 1) 0 (map (stepOf first) (ascending (listed ps))) (record { times = 1; unmet = [] })
+    runs (promised first 5) (degree / 2 + 1) 0 (map (stepOf first) (ascending (listed ps))) (record { times = 1; unmet = [] })
 
 unfoldable pub allPass : List (List ℕ) → Bool
 allPass [] = true
 allPass (ps ∷ rest) = passes true ps && (passes false ps && allPass rest)
 
 all-tested : allPass fives ≡ true
-unfolding allPass passes reachOfFive fives phiOfList productOfList divides stepOf ascending inserted listed
+unfolding allPass passes promised promisedOf fives phiOfList productOfList divides stepOf ascending inserted listed
     runs next settled meet behind enough weight
 all-tested = refl
 
@@ -61,19 +52,24 @@ member-passes {ps} (qs ∷ rest) m h first =
     both f i true = f
     both f i false = i
 
+at-least-one : (first : Bool) → 1 ≤ promised first 5
+unfolding promised promisedOf
+at-least-one true = omega arith
+at-least-one false = omega arith
+
 held-listed : {ps : List ℕ} → Rising 2 ps → (kind : ℕ) → passes (eqb kind 1) ps ≡ true
-    → Held (reachOfFive (eqb kind 1)) kind (productOfList ps)
+    → Held (promised (eqb kind 1) 5) kind (productOfList ps)
 unfolding passes halfDegree degree
 held-listed {ps} R kind h m below i l =
     let first = eqb kind 1 in
     let n = halfDegree kind (productOfList ps) + 1 in
-    let w = reachOfFive first in
+    let w = promised first 5 in
     let steps = map (stepOf first) (ascending (listed ps)) in
     let tested : runs w n 0 steps (record { times = 1; unmet = [] }) ≡ true = rw (rising-phi R) h in
     rw (stop-listed R kind m (omega arith), sym (·-one (productOf (map (dueTo m) steps))))
     (runs-right w n m 0 steps (record { times = 1; unmet = [] }) 𝟙 (at-start n) (λ k b. omega (arith, under-one n k b, at-least-one first)) tested i l)
 
-pub held-five : (r : ℕ) → OddSquarefree r → kOf r ≡ 5 → r ≤ 65535 → (kind : ℕ) → Held (reachOfFive (eqb kind 1)) kind r
+pub held-five : (r : ℕ) → OddSquarefree r → kOf r ≡ 5 → r ≤ 65535 → (kind : ℕ) → Held (promised (eqb kind 1) 5) kind r
 held-five r O five small kind =
     let (ps, listed, R, e) = of-five r O five small in
     rw e at (held-listed R kind (member-passes fives listed all-tested (eqb kind 1)))

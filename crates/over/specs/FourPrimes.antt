@@ -20,13 +20,9 @@ use Rattle.numbers.specs.Primes.{Prime, prime-pos, quotient-pos}
 use Rattle.numbers.specs.HowMany.{mu-times, mu-k, k-times, k-one}
 use Rattle.numbers.specs.Products.{prime-not-one}
 use Rattle.numbers.specs.Apart.{OddSquarefree}
-use Rattle.over.specs.Stops.{upTo}
+use Rattle.over.specs.Stops.{Held}
 use Rattle.over.specs.Sizes.{combs, sizeOf, sizes, mul-pow, One, More, Closed, none, one, more, closed, by-closed}
-use Rattle.over.specs.Closed.{held-without}
-
--- no step of r makes a value above w
-abbrev pub Held : ℕ → ℕ → ℕ → Type 0
-Held w kind r = (m : ℕ) → m < r → (i : ℕ) → i < halfDegree kind r + 1 → natAbs (upTo kind r m i) ≤ w
+use Rattle.over.specs.LeftOut.{held-without}
 
 -- the bound, by the number of primes
 unfoldable pub reach : Bool → ℕ → ℕ → ℕ → ℕ

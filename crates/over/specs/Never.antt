@@ -22,7 +22,8 @@ use Rattle.numbers.specs.Tests.{test-and, test-lt, test-le}
 use Rattle.answers.specs.Polynomial as Polynomial
 use Rattle.answers.specs.Partial as Partial
 use Rattle.step_laws.specs.Tests.{neither}
-use Rattle.over.specs.Promise.{promised, not-over, promised-fits}
+use Rattle.over.specs.Promised.{promised}
+use Rattle.over.specs.NotOver.{not-over, promised-fits}
 
 -- a code that is tested for before OVER, and is not it
 before : (b : Bool) (c : ℕ) {x : ℕ} → c ≢ OVER → (b ≡ false → x ≢ OVER) → cond b c x ≢ OVER

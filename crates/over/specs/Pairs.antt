@@ -88,16 +88,15 @@ meet-right e pos (some {d} {ds} p s) = go (divides d e) refl (meet e ds) (meet-r
   where
     further : (m : Met) → Right e ds m → Right e (d ∷ ds) (behind d m)
     further nothing r = tt
-    further (met t rest) r =
-        (
-          r .0,
-          r .1,
-          r .2,
-          r .3,
-          ap (λ q. termOf accumulate d · q) (r .4)
-              ∙ ringˢ (termOf accumulate d ∷ termOf accumulate (r .0) ∷ every rest ∷ []) (x :* (y :* z)) (y :* (x :* z)) refl,
-          some p (r .5),
-        )
+    further (met t rest) r = (
+      r .0,
+      r .1,
+      r .2,
+      r .3,
+      ap (λ q. termOf accumulate d · q) (r .4)
+          ∙ ringˢ (termOf accumulate d ∷ termOf accumulate (r .0) ∷ every rest ∷ []) (x :* (y :* z)) (y :* (x :* z)) refl,
+      some p (r .5),
+    )
 
     go : (b : Bool) → divides d e ≡ b → (m : Met) → Right e ds m → Right e (d ∷ ds) (cond b (met (e / d) ds) (behind d m))
     go true h m r =

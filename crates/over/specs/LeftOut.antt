@@ -126,20 +126,18 @@ module _ (kind r : ℕ) (above : 1 < r) where
         at-e v = ap (λ b. cond b (term kind r e) 𝟙) (divides-yes e r in-r) ∙ acc v
 
         go : Dec (e ≤ m) → (h : Series) × Under n 1 (λ i. 1) h × (upTo kind r m ≡ productTo m termBut · h)
-        go (yes v) =
-            (
-              termOf accumulate e,
-              under-accumulate n e,
-              product-fold m terms ∙ fold-apart times terms e m pos v
-                  ∙ ap₂ _·_ (at-e (omega arith)) (sym (product-fold m termBut)) ∙ ·-comm (termOf accumulate e) (productTo m termBut),
-            )
-        go (no v) =
-            (
-              𝟙,
-              under-one n,
-              product-same m (λ d l k. ap (λ b. cond b 𝟙 (terms d)) (sym (ne-eqb d e (λ (x : d ≡ e). v (omega arith)))))
-                  ∙ sym (·-one (productTo m termBut)),
-            )
+        go (yes v) = (
+          termOf accumulate e,
+          under-accumulate n e,
+          product-fold m terms ∙ fold-apart times terms e m pos v
+              ∙ ap₂ _·_ (at-e (omega arith)) (sym (product-fold m termBut)) ∙ ·-comm (termOf accumulate e) (productTo m termBut),
+        )
+        go (no v) = (
+          𝟙,
+          under-one n,
+          product-same m (λ d l k. ap (λ b. cond b 𝟙 (terms d)) (sym (ne-eqb d e (λ (x : d ≡ e). v (omega arith)))))
+              ∙ sym (·-one (productTo m termBut)),
+        )
 
     pub held-but : (m : ℕ) → m < r → (i : ℕ) → i < n → natAbs (upTo kind r m i) ≤ foldTo products sizeBut (r - 1)
     held-but m u i l =
