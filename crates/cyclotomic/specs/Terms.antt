@@ -23,9 +23,9 @@ use Rattle.series.specs.Maps.{off-z^, shift-below, shift-from, spread-add, spre
 use Rattle.series.specs.Maps.{spread-z^}
 use Rattle.numbers.specs.Tests.{same, test-divides, divides-yes, divides-no, yes-divides}
 use Rattle.numbers.specs.Folds.{fold-units}
-use Rattle.numbers.specs.Primes.{Prime, prime-pos, quotient-pos}
-use Rattle.numbers.specs.Divisors.{divisors-same, quotient-old, quotient-free}
-use Rattle.numbers.specs.HowMany.{primes-one, mu-times}
+use Rattle.numbers.specs.Primes.{Prime, prime-pos}
+use Rattle.numbers.specs.Divisors.{divisors-same}
+use Rattle.numbers.specs.HowMany.{primes-one, mu-turned}
 use Rattle.numbers.specs.Apart.{OddSquarefree, by-odd-primes}
 use Rattle.cyclotomic.specs.Family.{times, product-fold, product-same, F-one, unit-F, unit-divisors, last-divisor}
 use Rattle.cyclotomic.specs.OnePrime.{split-divisors, unlessDivides, over-both, spread-divisors, prime-new}
@@ -125,10 +125,7 @@ module _ (r p : ℕ) (O : OddSquarefree r) (P : Prime p) (new : ¬ (p ∣ r)) wh
   sort-turned : (d : ℕ) → d ∣ r → sortOf 1 (r * p) d ≡ other (sortOf 1 r d)
   unfolding sortOf
   sort-turned d h =
-      ap (λ q. cond (muIsPlus q) comb accumulate) (quotient-old r p d h)
-      ∙ ap (λ b. cond b comb accumulate)
-      (mu-times (r / d) p (quotient-pos d r (O .pos) h) P (quotient-free r p d new h))
-      ∙ flip (muIsPlus (r / d))
+      ap (λ b. cond b comb accumulate) (mu-turned r p d (O .pos) P new h) ∙ flip (muIsPlus (r / d))
 
   sort-kept : (e : ℕ) → sortOf 1 (r * p) (e * p) ≡ sortOf 1 r e
   unfolding sortOf

@@ -1,6 +1,6 @@
 -- How many primes a number has, of those that a test S lets through: a new prime makes it one more. So mu changes its
 -- sign with each new prime, and k, the number of odd primes, is that of r.
-use Prim.Native.Nat.{ℕ, _+_, _*_, _%_, _<_, _∣_}
+use Prim.Native.Nat.{ℕ, _+_, _*_, _/_, _%_, _<_, _∣_}
 use mathlib.Core.Path.{_≡_, refl, sym, ap, ap₂, _∙_}
 use mathlib.Core.Bool.{Bool, true, false, not, and-true, _&&_}
 use mathlib.Core.Logic.{_≢_, ⊎-elim}
@@ -10,7 +10,8 @@ use native.Mathlib.Omega.{arith}
 use lib.Dec.{eqb}
 use Rattle.definitions.specs.Numbers.{countTo, isPrime, divides, oddPrimeOf, rOf, kOf, primesOf, muIsPlus}
 use Rattle.numbers.specs.Tests.{Tests, same, denies, test-true, test-and, test-not, test-eq, test-divides}
-use Rattle.numbers.specs.Primes.{Prime, prime-pos, prime-same, test-prime, euclid}
+use Rattle.numbers.specs.Primes.{Prime, prime-pos, prime-same, test-prime, euclid, quotient-pos}
+use Rattle.numbers.specs.Divisors.{quotient-old, quotient-free}
 use Rattle.numbers.specs.Counts.{count-same, count-further, count-by, count-one}
 use Rattle.numbers.specs.Apart.{OddSquarefree, by-odd-primes, test-odd-prime, r-prime, prime-r, r-divides}
 use Rattle.numbers.specs.Apart.{r-pos}
@@ -72,6 +73,11 @@ mu-times q p l P no-p =
     rw (primes-times q p l P no-p)
     (same (test-eq ((primesOf q + 1) % 2) 0) (test-not (test-eq (primesOf q % 2) 0)) (λ e u. omega arith)
     (λ u. omega arith))
+
+-- so with a new prime mu(r/d) turns round for every divisor d of r
+pub mu-turned : (r p d : ℕ) → 0 < r → Prime p → ¬ (p ∣ r) → d ∣ r → muIsPlus (r * p / d) ≡ not (muIsPlus (r / d))
+mu-turned r p d l P no-p h =
+    rw (quotient-old r p d h) (mu-times (r / d) p (quotient-pos d r l h) P (quotient-free r p d no-p h))
 
 pub k-times : (q p : ℕ) → 0 < q → Prime p → p ≢ 2 → ¬ (p ∣ q) → kOf (q * p) ≡ kOf q + 1
 unfolding kOf oddPrimeOf

@@ -1,5 +1,7 @@
--- Five odd primes: for each of the 36 products up to 65,535 the checker runs along the steps of F and of I and finds, at
--- every stop, that no value can be above what is promised (`all-tested`); what the run means is `runs-right` of `Pairs`.
+-- Five odd primes: for each of the 36 products up to 65,535 the checker runs along the steps of F and of I and finds,
+-- at every stop, that no value can be above what is promised (`all-tested`). What a run means is `runs-right` of
+-- `Pairs`, that its list has the divisors is `stop-listed` of `Listed`, and that the 36 are all is `of-five` of crate
+-- `numbers`.
 use Prim.Native.Nat.{ℕ, zero, suc, _+_, _*_, _-_, _/_, _^_, _<_, _≤_}
 use mathlib.Core.Path.{_≡_, refl, sym, _∙_, ap}
 use mathlib.Core.Bool.{Bool, true, false, cond, _&&_}
@@ -21,14 +23,14 @@ use Rattle.over.specs.Promised.{promisedOf, promised}
 use Rattle.over.specs.Scales.{under-one}
 use Rattle.over.specs.Stops.{Held}
 use Rattle.over.specs.Weights.{weight}
-use Rattle.over.specs.Pairs.{meet, behind, settled, next, enough, runs, at-start, dueTo, runs-right}
+use Rattle.over.specs.Pairs.{meet, behind, settled, next, enough, runs, atStart, at-start, dueTo, runs-right}
 use Rattle.over.specs.Listed.{listed, inserted, ascending, stepOf, stop-listed}
 
 -- the steps of F or of I, tested at every stop
 unfoldable pub passes : Bool → List ℕ → Bool
 passes first ps =
     let degree = cond first (phiOfList ps) (productOfList ps - phiOfList ps) in
-    runs (promised first 5) (degree / 2 + 1) 0 (map (stepOf first) (ascending (listed ps))) (record { times = 1; unmet = [] })
+    runs (promised first 5) (degree / 2 + 1) 0 (map (stepOf first) (ascending (listed ps))) atStart
 
 unfoldable pub allPass : List (List ℕ) → Bool
 allPass [] = true
@@ -44,7 +46,8 @@ member-passes : {ps : List ℕ} (all : List (List ℕ)) → List·Memᴰ ps all 
 unfolding allPass
 member-passes [] m h first = absurd (List·Memᴰ·not-nil m)
 member-passes {ps} (qs ∷ rest) m h first =
-    let t = test-and (test-true (passes true qs)) (test-and (test-true (passes false qs)) (test-true (allPass rest))) .shows h in
+    let others = test-and (test-true (passes false qs)) (test-true (allPass rest)) in
+    let t = test-and (test-true (passes true qs)) others .shows h in
     ⊎-elim (λ e. rw e (both (t .0) (t .1 .0) first)) (λ k. member-passes rest k (t .1 .1) first)
     (List·Memᴰ·cases-cons m)
   where
@@ -65,9 +68,10 @@ held-listed {ps} R kind h m below i l =
     let n = halfDegree kind (productOfList ps) + 1 in
     let w = promised first 5 in
     let steps = map (stepOf first) (ascending (listed ps)) in
-    let tested : runs w n 0 steps (record { times = 1; unmet = [] }) ≡ true = rw (rising-phi R) h in
+    let tested : runs w n 0 steps atStart ≡ true = rw (rising-phi R) h in
     rw (stop-listed R kind m (omega arith), sym (·-one (productOf (map (dueTo m) steps))))
-    (runs-right w n m 0 steps (record { times = 1; unmet = [] }) 𝟙 (at-start n) (λ k b. omega (arith, under-one n k b, at-least-one first)) tested i l)
+    (runs-right w n m 0 steps atStart 𝟙 (at-start n) (λ k b. omega (arith, under-one n k b, at-least-one first)) tested
+    i l)
 
 pub held-five : (r : ℕ) → OddSquarefree r → kOf r ≡ 5 → r ≤ 65535 → (kind : ℕ) → Held (promised (eqb kind 1) 5) kind r
 held-five r O five small kind =

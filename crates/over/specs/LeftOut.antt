@@ -1,40 +1,36 @@
--- No stop of r has a value above a closed bound. The step of d scales by its size (`scales-term`), so the product of the
--- terms up to any m scales by the product of their sizes; and one accumulate, on 1, 0, 0, .., makes only 0 and 1, so its
--- size counts for nothing (`held-without`). With the sizes in closed form (`Sizes`): for r with k primes, k above 1, no
--- value is above w where d (4 r)^(2^(k-2)) is at most w r, or 2 w r for F, d being 1 or a prime of r, whichever accumulates
--- (`held-closed`).
-use Prim.Native.Nat.{ℕ, zero, suc, _+_, _*_, _-_, _/_, _%_, _^_, _<_, _≤_, _∣_}
+-- A bound on the values of every stop of r. The step of a divisor scales by its size (`scales-term`), so the product of
+-- the terms up to any m scales by the product of the sizes up to m; and one accumulate, on 1, 0, 0, .., makes only 0
+-- and 1, so its size may be left out (`held-without`). In which order steps are taken makes no difference to the
+-- product.
+use Prim.Native.Nat.{ℕ, zero, suc, _+_, _*_, _-_, _/_, _<_, _≤_, _∣_}
 use mathlib.Core.Path.{_≡_, refl, sym, _∙_, ap, ap₂}
-use mathlib.Core.Bool.{Bool, true, false, cond, not}
-use mathlib.Core.Logic.{_≢_}
-use native.Mathlib.Nat.{mul-one, one-mul, mul-comm, mul-assoc, le-trans, le-refl, mul-le-mul, le-of-mul-le-mul-right}
-use native.Mathlib.Nat.{div-mul-cancel, div-self, mul-pos, le-of-dvd, lt-of-not-le, le-mul-of-pos-right, mul-le-mul-left}
-use native.Mathlib.Nat.{div-lt-iff-lt-mul, mul-left-comm, add-zero, add-suc, add-sub-of-le}
+use mathlib.Core.Bool.{Bool, true, false, cond}
+use native.Mathlib.Nat.{le-trans, le-refl, le-of-mul-le-mul-right, div-mul-cancel, mul-pos, le-of-dvd, mul-left-comm}
+use native.Mathlib.Nat.{le-mul-of-pos-right, div-lt-iff-lt-mul, add-zero, add-suc, add-sub-of-le}
 use native.Mathlib.Decide.{decLe}
 use native.Mathlib.Omega.{arith}
 use borrow.Author.Tests.{ne-eqb}
 use lib.Dec.{eqb}
 use lib.IntN.{natAbs}
 use Rattle.definitions.specs.Series.{Series, 𝟙, _·_}
-use Rattle.definitions.specs.Numbers.{divides, phi, muIsPlus, primesOf, kOf}
+use Rattle.definitions.specs.Numbers.{divides, phi, muIsPlus}
 use Rattle.definitions.specs.Polynomials.{productTo, atDivisors, degree}
-use Rattle.definitions.specs.Steps.{Sort, comb, accumulate}
+use Rattle.definitions.specs.Steps.{comb, accumulate}
 use Rattle.definitions.specs.KeptHalf.{halfDegree, sortOf, termOf, term}
 use Rattle.series.specs.Laws.{·-comm, ·-one}
 use Rattle.numbers.specs.Tests.{yes-divides, divides-yes}
-use Rattle.numbers.specs.Folds.{foldTo, only, fold-zero, fold-suc, fold-same, fold-apart}
+use Rattle.numbers.specs.Folds.{foldTo, fold-suc, fold-apart}
 use Rattle.numbers.specs.Counts.{products}
 use Rattle.numbers.specs.Phi.{phi-lt, phi-pos}
-use Rattle.numbers.specs.Primes.{Prime, quotient-pos}
-use Rattle.numbers.specs.Apart.{OddSquarefree}
+use Rattle.numbers.specs.Primes.{quotient-pos}
 use Rattle.cyclotomic.specs.Family.{times, product-fold, product-same}
-use Rattle.over.specs.Scales.{Under, Climbs, Scales, scales-one, scales-more, scales-comb, scales-accumulate}
-use Rattle.over.specs.Scales.{scales-product, under-accumulate, under-one}
-use Rattle.over.specs.Stops.{upTo}
+use Rattle.over.specs.Scales.{Under, Scales, scales-one, scales-more, scales-comb, scales-accumulate}
+use Rattle.over.specs.Scales.{scales-product, under-one, under-accumulate}
+use Rattle.over.specs.Stops.{upTo, Held}
 use Rattle.over.specs.Sizes.{combs, sizeOf, sizes}
 
 -- the kept half has fewer than r entries
-pub fewer-entries : (kind r : ℕ) → 1 < r → halfDegree kind r + 1 < r
+fewer-entries : (kind r : ℕ) → 1 < r → halfDegree kind r + 1 < r
 unfolding halfDegree degree
 fewer-entries kind r l = go (eqb kind 1)
   where
@@ -64,19 +60,16 @@ module _ (kind r : ℕ) (above : 1 < r) where
   unfolding term sortOf sizeOf
   scales-term d l h u = go (combs first (muIsPlus (r / d)))
     where
-      turns : n / d + 1 ≤ r / d
-      turns =
-          omega (
-            arith,
-            div-lt-iff-lt-mul {x = n} {y = r / d} l .1 (rw (div-mul-cancel d h) (fewer-entries kind r above)),
-          )
+      turns : n / d < r / d
+      turns = div-lt-iff-lt-mul {x = n} {y = r / d} l .1 (rw (div-mul-cancel d h) (fewer-entries kind r above))
 
       go : (b : Bool) → Scales n (cond b 2 (r / d)) (termOf (cond b comb accumulate) d)
       go true = scales-comb n d
-      go false = scales-more n (n / d + 1) (r / d) (termOf accumulate d) turns (scales-accumulate n d l)
+      go false =
+          scales-more n (n / d + 1) (r / d) (termOf accumulate d) (omega (arith, turns)) (scales-accumulate n d l)
 
   -- the size of d's step, 1 where d is no divisor
-  abbrev size : ℕ → ℕ
+  abbrev pub size : ℕ → ℕ
   size d = cond (divides d r) (sizeOf first (r / d)) 1
 
   size-pos : (d : ℕ) → 0 < size d
@@ -90,7 +83,7 @@ module _ (kind r : ℕ) (above : 1 < r) where
 
   -- one divisor left out: e, which accumulates unless it is r itself
   module _ (e : ℕ) (pos : 0 < e) (in-r : e ∣ r) (acc : e < r → term kind r e ≡ termOf accumulate e) where
-    abbrev sizeBut : ℕ → ℕ
+    abbrev pub sizeBut : ℕ → ℕ
     sizeBut d = cond (eqb d e) 1 (size d)
 
     abbrev termBut : ℕ → Series
@@ -109,12 +102,13 @@ module _ (kind r : ℕ) (above : 1 < r) where
         scales-product n sizeBut termBut m
         (λ d l v. go (eqb d e) (divides d r) (λ t. scales-term d l (yes-divides d r t) (omega arith)))
       where
-        go : {x : ℕ} {q : Series} (b c : Bool) → (c ≡ true → Scales n x q) → Scales n (cond b 1 (cond c x 1)) (cond b 𝟙 (cond c q 𝟙))
+        go : {x : ℕ} {q : Series} (b c : Bool) → (c ≡ true → Scales n x q)
+            → Scales n (cond b 1 (cond c x 1)) (cond b 𝟙 (cond c q 𝟙))
         go true c s = scales-one n
         go false true s = s refl
         go false false s = scales-one n
 
-    -- what was left out makes only 0 and 1
+    -- what is left out has no values but 0 and 1
     split : (m : ℕ) → m < r → (h : Series) × Under n 1 (λ i. 1) h × (upTo kind r m ≡ productTo m termBut · h)
     unfolding upTo atDivisors
     split m u = go (decLe e m)
@@ -130,34 +124,35 @@ module _ (kind r : ℕ) (above : 1 < r) where
           termOf accumulate e,
           under-accumulate n e,
           product-fold m terms ∙ fold-apart times terms e m pos v
-              ∙ ap₂ _·_ (at-e (omega arith)) (sym (product-fold m termBut)) ∙ ·-comm (termOf accumulate e) (productTo m termBut),
+              ∙ ap₂ _·_ (at-e (omega arith)) (sym (product-fold m termBut))
+              ∙ ·-comm (termOf accumulate e) (productTo m termBut),
         )
         go (no v) = (
           𝟙,
           under-one n,
-          product-same m (λ d l k. ap (λ b. cond b 𝟙 (terms d)) (sym (ne-eqb d e (λ (x : d ≡ e). v (omega arith)))))
+          product-same m
+              (λ d l k. ap (λ b. cond b 𝟙 (terms d)) (sym (ne-eqb d e (λ (x : d ≡ e). v (omega arith)))))
               ∙ sym (·-one (productTo m termBut)),
         )
 
-    pub held-but : (m : ℕ) → m < r → (i : ℕ) → i < n → natAbs (upTo kind r m i) ≤ foldTo products sizeBut (r - 1)
+    held-but : Held (foldTo products sizeBut (r - 1)) kind r
     held-but m u i l =
         let (h, unit, e) = split m u in
         rw e
         (le-trans (omega (arith, scales-but m u .scaled h 1 (λ i. 1) (omega arith) (λ k i b. omega arith) unit i l))
         (grows sizeBut but-pos m (r - 1) (omega arith)))
 
-    -- all sizes together are those, that of e, and that of r
+    -- all sizes together are these, that of e, and that of r
     all-sizes : sizes first r ≡ size e * (foldTo products sizeBut (r - 1) * sizeBut r)
     unfolding sizes
     all-sizes =
         fold-apart products size e r pos (le-of-dvd (omega arith) in-r)
-        ∙ ap (λ x. size e * x) (ap (foldTo products sizeBut) whole ∙ fold-suc products sizeBut (r - 1) ∙ ap (λ x. foldTo products sizeBut (r - 1) * sizeBut x) (sym whole))
+        ∙ ap (λ x. size e * x) (rw whole at (fold-suc products sizeBut (r - 1)))
       where
-        whole : r ≡ suc (r - 1)
+        whole : suc (r - 1) ≡ r
         whole = omega arith
 
-    pub held-without : (w : ℕ) → sizes first r ≤ w * (size e * sizeBut r) → (m : ℕ) → m < r → (i : ℕ) → i < n
-        → natAbs (upTo kind r m i) ≤ w
+    pub held-without : (w : ℕ) → sizes first r ≤ w * (size e * sizeBut r) → Held w kind r
     held-without w h m u i l =
         le-trans (held-but m u i l)
         (le-of-mul-le-mul-right {k = size e * sizeBut r}

@@ -1,6 +1,6 @@
--- The divisors of a product of listed primes, listed with their mu: a new prime p turns mu(r/d) round for the divisors d
--- there were, and p d has the mu that d had. So a product over all divisors is one over this list (`over-listed`), in
--- ascending order too (`over-ascending`), and what the steps of r have made of the start at a stop is a product over it
+-- The divisors of a product of listed primes, listed with their mu: a new prime p turns mu(r/d) round for the divisors
+-- there were, and p d has the mu that d had. So a product over all divisors is one over this list (`over-listed`), put
+-- in ascending order (`product-ascending`), and every stop of r is the product over the part of it up to m
 -- (`stop-listed`).
 use Prim.Native.Nat.{ℕ, _*_, _/_, _<_, _≤_, _∣_}
 use mathlib.Core.Path.{_≡_, refl, sym, _∙_, ap, ap₂}
@@ -15,21 +15,17 @@ use Rattle.definitions.specs.Numbers.{divides, muIsPlus, primesOf, countTo, isP
 use Rattle.definitions.specs.Polynomials.{productTo, atDivisors, overDivisors}
 use Rattle.definitions.specs.Steps.{Sort, comb, accumulate}
 use Rattle.definitions.specs.KeptHalf.{sortOf, term, termOf, productOf}
-use Rattle.integers.specs.Solver.{_:*_, x, y, z}
-use Rattle.series.specs.Laws.{·-comm, ringˢ}
+use Rattle.series.specs.Laws.{·-comm, ·-left-comm}
 use Rattle.numbers.specs.Folds.{foldTo, only, fold-same, fold-further}
-use Rattle.numbers.specs.Primes.{Prime, prime-pos, quotient-pos}
-use Rattle.numbers.specs.Divisors.{split-new, divisors-same, quotient-old, quotient-new, quotient-free}
-use Rattle.numbers.specs.HowMany.{mu-times}
+use Rattle.numbers.specs.Primes.{prime-pos}
+use Rattle.numbers.specs.Divisors.{split-new, divisors-same, quotient-new}
+use Rattle.numbers.specs.HowMany.{mu-turned}
 use Rattle.numbers.specs.PrimeLists.{productOfList, Rising, none, more, rising-pos, rising-new}
 use Rattle.cyclotomic.specs.Family.{times, product-fold}
 use Rattle.cyclotomic.specs.Kept.{product-append}
 use Rattle.over.specs.Stops.{upTo}
 use Rattle.over.specs.Sizes.{combs}
 use Rattle.over.specs.Pairs.{dueTo, later}
-
-swapped : (a b f : Series) → a · (b · f) ≡ b · (a · f)
-swapped a b f = ringˢ (a ∷ b ∷ f ∷ []) (x :* (y :* z)) (y :* (x :* z)) refl
 
 -- a divisor d of r, and whether mu(r/d) is +1
 abbrev pub Divisor : Type 0
@@ -54,25 +50,20 @@ unfolding productOfList listed
 over-listed none h = one-listed h
 over-listed (more {p} {ps} P l R) h =
     let r = productOfList ps in
+    let new = rising-new P (le-refl p) R in
     let each : Divisor → Series = λ x. h (x .0) (x .1) in
-    split-new times (λ d. h d (muIsPlus (r * p / d))) P r (rising-pos R) (rising-new P (le-refl p) R)
+    let turn : Divisor → Divisor = λ x. (x .0, not (x .1)) in
+    let grow : Divisor → Divisor = λ x. (p * x .0, x .1) in
+    split-new times (λ d. h d (muIsPlus (r * p / d))) P r (rising-pos R) new
     ∙ ap₂ _·_
-    (divisors-same times r (λ d. h d (muIsPlus (r * p / d))) (λ d. h d (not (muIsPlus (r / d)))) (λ d l k. ap (h d) (turned d k)) r
+    (divisors-same times r _ _ (λ d l k. ap (h d) (mu-turned r p d (rising-pos R) P new k)) r
     ∙ over-listed R (λ d b. h d (not b)))
-    (divisors-same times r (λ d. h (p * d) (muIsPlus (r * p / (p * d)))) (λ d. h (p * d) (muIsPlus (r / d)))
-    (λ d l k. ap (λ q. h (p * d) (muIsPlus q)) (quotient-new r p d (prime-pos P))) r
+    (divisors-same times r _ _ (λ d l k. ap (λ q. h (p * d) (muIsPlus q)) (quotient-new r p d (prime-pos P))) r
     ∙ over-listed R (λ d b. h (p * d) b))
     ∙ sym
-    (ap productOf (map-append each (map (λ x. (x .0, not (x .1))) (listed ps)) (map (λ x. (p * x .0, x .1)) (listed ps)))
-    ∙ product-append (map each (map (λ x. (x .0, not (x .1))) (listed ps))) (map each (map (λ x. (p * x .0, x .1)) (listed ps)))
-    ∙ ap₂ (λ a b. productOf a · productOf b) (map-map each (λ x. (x .0, not (x .1))) (listed ps))
-    (map-map each (λ x. (p * x .0, x .1)) (listed ps)))
-  where
-    turned : (d : ℕ) → d ∣ productOfList ps → muIsPlus (productOfList ps * p / d) ≡ not (muIsPlus (productOfList ps / d))
-    turned d k =
-        ap muIsPlus (quotient-old (productOfList ps) p d k)
-        ∙ mu-times (productOfList ps / d) p (quotient-pos d (productOfList ps) (rising-pos R) k) P
-        (quotient-free (productOfList ps) p d (rising-new P (le-refl p) R) k)
+    (ap productOf (map-append each (map turn (listed ps)) (map grow (listed ps)))
+    ∙ product-append (map each (map turn (listed ps))) (map each (map grow (listed ps)))
+    ∙ ap₂ (λ a b. productOf a · productOf b) (map-map each turn (listed ps)) (map-map each grow (listed ps)))
 
 -- ---- in ascending order
 unfoldable pub inserted : Divisor → List Divisor → List Divisor
@@ -92,7 +83,7 @@ module _ (g : Divisor → Series) where
       go : (b : Bool) → productOf (map g (inserted x ys)) ≡ g x · productOf (map g ys)
           → productOf (map g (cond b (x ∷ y ∷ ys) (y ∷ inserted x ys))) ≡ g x · (g y · productOf (map g ys))
       go true ih = refl
-      go false ih = ap (λ q. g y · q) ih ∙ swapped (g y) (g x) (productOf (map g ys))
+      go false ih = ap (λ q. g y · q) ih ∙ ·-left-comm (g y) (g x) (productOf (map g ys))
 
   product-ascending : (xs : List Divisor) → productOf (map g (ascending xs)) ≡ productOf (map g xs)
   unfolding ascending productOf
@@ -110,7 +101,8 @@ unfolding upTo atDivisors
 up-to-all kind r m l =
     product-fold m (λ d. cond (divides d r) (term kind r d) 𝟙)
     ∙ fold-same times m (λ d a b. ap (λ c. cond (divides d r) (cond c (term kind r d) 𝟙) 𝟙) (sym (le-leb d m b)))
-    ∙ sym (fold-further times _ m r l (λ d a b. ap (λ c. cond (divides d r) (cond c (term kind r d) 𝟙) 𝟙) (later d m a) ∙ both (divides d r)))
+    ∙ sym (fold-further times _ m r l
+    (λ d a b. ap (λ c. cond (divides d r) (cond c (term kind r d) 𝟙) 𝟙) (later d m a) ∙ both (divides d r)))
   where
     both : (b : Bool) → cond b 𝟙 𝟙 ≡ 𝟙
     both true = refl

@@ -1,19 +1,18 @@
--- No step of any index is OVER under a working limit from `promised` on (`not-over`): up to four odd primes by the closed
--- bound, at the largest r and at the least prime p of r, whose k-th power is at most r (`four-not-over`); for five by what
--- the checker found (`five-not-over`); and where r is 1 there are no steps.
+-- No step of any index is OVER under a working limit from `promised` on (`not-over`): up to four odd primes by the
+-- closed bound, at the largest r and at the least prime p of r, whose k-th power is at most r (`four-not-over`); for
+-- five by what the checker found (`five-not-over`); and where r is 1 there are no steps.
 use Prim.Native.Nat.{ℕ, zero, suc, _+_, _*_, _-_, _^_, _<_, _≤_, _∣_}
 use mathlib.Core.Path.{_≡_, refl, sym, _∙_, ap}
-use mathlib.Core.Bool.{Bool, true, false, _&&_}
+use mathlib.Core.Bool.{Bool, true, false}
 use mathlib.Core.Logic.{⊎-elim}
-use mathlib.Core.List.{List, [], _∷_}
+use mathlib.Core.List.{List, _∷_}
 use native.Mathlib.Nat.{le-trans, mul-le-mul, mul-le-mul-left, pow-le-pow-left, le-of-dvd, eq-or-lt-of-le, dvd-mul-left}
 use native.Mathlib.Omega.{arith}
-use lib.Dec.{eqb, leb}
-use lib.ListN.{length, getD}
+use lib.Dec.{eqb}
+use lib.ListN.{length}
 use Rattle.definitions.specs.Numbers.{listTo, divisorsBelow, rOf, kOf}
 use Rattle.definitions.specs.Steps.{largest}
 use Rattle.definitions.specs.Requests.{divisorsDue, overAmong}
-use Rattle.numbers.specs.Tests.{test-and, test-le, test-true}
 use Rattle.numbers.specs.Primes.{Prime}
 use Rattle.numbers.specs.Apart.{OddSquarefree, r-odd-squarefree, r-divides}
 use Rattle.numbers.specs.HowMany.{k-of-r}
@@ -48,7 +47,8 @@ root : (q k p : ℕ) → 65535 < suc q ^ k → p ^ k ≤ 65535 → p ≤ q
 root q k p big h = by-order q p (λ l. absurd (omega (arith, pow-le-pow-left {n = suc q} {m = p} l k))) (λ l. l)
 
 -- the closed bound is within the promise
-reach-promised : (first : Bool) (k p r : ℕ) → 1 ≤ k → k ≤ 4 → p ^ k ≤ 65535 → r ≤ 65535 → reach first k p r ≤ promised first k
+reach-promised : (first : Bool) (k p r : ℕ) → 1 ≤ k → k ≤ 4 → p ^ k ≤ 65535 → r ≤ 65535
+    → reach first k p r ≤ promised first k
 unfolding reach promised promisedOf
 reach-promised first zero p r l u least small = absurd (omega arith)
 reach-promised true (suc zero) p r l u least small = omega arith
@@ -63,20 +63,22 @@ reach-promised true (suc (suc (suc (suc zero)))) p r l u least small =
 reach-promised false (suc (suc (suc (suc zero)))) p r l u least small = mul-le-mul-left 256 (pow-le-pow-left small 3)
 reach-promised first (suc (suc (suc (suc (suc k))))) p r l u least small = absurd (omega arith)
 
-module _ (kind r : ℕ) (O : OddSquarefree r) (small : r ≤ 65535) (w : ℕ) (enough : promised (eqb kind 1) (kOf r) ≤ w) where
-  from-held : {v : ℕ} → v ≤ w → Held v kind r → (j : ℕ) → j ≤ divisorsDue r → overAmong w kind r j ≡ false
-  from-held v h = never-over kind r (O .pos) w (λ m l i u. le-trans (h m l i u) v)
+module _ (kind r : ℕ) (O : OddSquarefree r) (small : r ≤ 65535)
+    (w : ℕ) (enough : promised (eqb kind 1) (kOf r) ≤ w)
+  where
+    from-held : {v : ℕ} → v ≤ w → Held v kind r → (j : ℕ) → j ≤ divisorsDue r → overAmong w kind r j ≡ false
+    from-held v h = never-over kind r (O .pos) w (λ m l i u. le-trans (h m l i u) v)
 
-  pub four-not-over : 1 < r → kOf r ≤ 4 → (j : ℕ) → j ≤ divisorsDue r → overAmong w kind r j ≡ false
-  four-not-over above few =
-      let (p, P, in-r, some, least) = least-prime r O above in
-      from-held
-      (le-trans (reach-promised (eqb kind 1) (kOf r) p r some few (le-trans least small) small) enough)
-      (held-to-reach kind r O above few p P in-r)
+    pub four-not-over : 1 < r → kOf r ≤ 4 → (j : ℕ) → j ≤ divisorsDue r → overAmong w kind r j ≡ false
+    four-not-over above few =
+        let (p, P, in-r, some, least) = least-prime r O above in
+        from-held
+        (le-trans (reach-promised (eqb kind 1) (kOf r) p r some few (le-trans least small) small) enough)
+        (held-to-reach kind r O above few p P in-r)
 
-  -- ---- five
-  pub five-not-over : kOf r ≡ 5 → (j : ℕ) → j ≤ divisorsDue r → overAmong w kind r j ≡ false
-  five-not-over five = from-held (rw five at enough) (held-five r O five small kind)
+    -- ---- five
+    pub five-not-over : kOf r ≡ 5 → (j : ℕ) → j ≤ divisorsDue r → overAmong w kind r j ≡ false
+    five-not-over five = from-held (rw five at enough) (held-five r O five small kind)
 
 -- ---- every index
 one-not-over : (kind w j : ℕ) → j ≤ divisorsDue 1 → overAmong w kind 1 j ≡ false
@@ -103,18 +105,16 @@ not-over kind n pos small w enough =
     enough′ = rw (k-of-r n pos) enough
 
 -- the largest working limit is above every promise
-allWithin : ℕ → List ℕ → Bool
-allWithin b [] = true
-allWithin b (x ∷ l) = leb x b && allWithin b l
-
-entry-within : (b : ℕ) (l : List ℕ) → allWithin b l ≡ true → (k : ℕ) → getD l k 0 ≤ b
-unfolding allWithin
-entry-within b [] h k = omega arith
-entry-within b (x ∷ l) h zero = test-and (test-le x b) (test-true (allWithin b l)) .shows h .0
-entry-within b (x ∷ l) h (suc k) =
-    entry-within b l (test-and (test-le x b) (test-true (allWithin b l)) .shows h .1) k
+both-fit : (k : ℕ) → (promised true k ≤ largest) × (promised false k ≤ largest)
+unfolding promised promisedOf
+both-fit zero = omega arith
+both-fit (suc zero) = omega arith
+both-fit (suc (suc zero)) = omega arith
+both-fit (suc (suc (suc zero))) = omega arith
+both-fit (suc (suc (suc (suc zero)))) = omega arith
+both-fit (suc (suc (suc (suc (suc zero))))) = omega arith
+both-fit (suc (suc (suc (suc (suc (suc k)))))) = omega arith
 
 pub promised-fits : (first : Bool) (k : ℕ) → promised first k ≤ largest
-unfolding promised promisedOf allWithin
-promised-fits true = entry-within largest (promisedOf true) refl
-promised-fits false = entry-within largest (promisedOf false) refl
+promised-fits true k = both-fit k .0
+promised-fits false k = both-fit k .1

@@ -1,28 +1,28 @@
--- A bound that the checker computes, for steps taken in any order: a product of terms is (q)(every), where `every` are
--- the accumulates that no comb has met, and q scales by b. A comb of size t d meets an accumulate of size d, and the two
--- together scale by t (`scales-both`); a comb that meets none scales by 2. Then the open accumulates are weighed
--- (`Weights`): no value is above w where b (n + shift)^power is at most w over (`enough-right`). A run along an ascending
--- list of steps tests this at every stop (`runs-right`).
+-- A bound that the checker computes. A product of terms is q times the terms of those accumulates that no comb has met,
+-- where q scales by `times`: a comb of size t d meets an accumulate of size d, and the two together scale by t
+-- (`scales-both`); a comb that meets none scales by 2. With the unmet ones weighed (`Weights`), no value is above w
+-- where times (n + shift)^power is at most w over (`enough-right`). A run along an ascending list of steps tests that
+-- at every stop (`runs-right`).
 use Prim.Native.Nat.{ℕ, zero, suc, _+_, _*_, _/_, _^_, _<_, _≤_, _∣_}
 use mathlib.Core.Path.{_≡_, refl, sym, _∙_, ap}
 use mathlib.Core.Bool.{Bool, true, false, cond, _&&_}
 use mathlib.Core.List.{List, [], _∷_, map}
-use native.Mathlib.Nat.{mul-comm, mul-assoc, mul-one, le-trans, mul-le-mul-left, mul-le-mul-right, le-of-mul-le-mul-right}
-use native.Mathlib.Nat.{div-mul-cancel, pos-of-dvd-of-pos, pow-le-pow-left}
+use native.Mathlib.Nat.{le-trans, mul-le-mul-left, le-of-mul-le-mul-right, div-mul-cancel}
 use native.Mathlib.Omega.{arith}
-use borrow.Author.Tests.{leb-true, le-leb, lt-leb, ltb-true}
+use borrow.Author.Tests.{leb-true, le-leb}
 use lib.Dec.{ltb, leb}
 use lib.IntN.{natAbs}
 use Rattle.definitions.specs.Series.{Series, 𝟙, _·_}
 use Rattle.definitions.specs.Numbers.{divides}
 use Rattle.definitions.specs.Steps.{Sort, comb, accumulate}
 use Rattle.definitions.specs.KeptHalf.{termOf, productOf}
-use Rattle.integers.specs.Solver.{_:*_, x, y, z, w}
-use Rattle.series.specs.Laws.{one-·, ·-one, ·-assoc, ringˢ}
+use Rattle.integers.specs.Solver.{_:*_}
+use Rattle.integers.specs.Solver as Solver
+use Rattle.series.specs.Laws.{one-·, ·-one, ·-assoc, ·-left-comm, ringˢ}
 use Rattle.numbers.specs.Tests.{denies, test-and, test-lt, test-le, test-true, yes-divides}
 use Rattle.numbers.specs.Primes.{quotient-pos}
-use Rattle.step_laws.specs.Tests.{by-order, by-test}
-use Rattle.over.specs.Scales.{Under, Scales, scales-one, scales-comb, scales-both, scales-mul}
+use Rattle.step_laws.specs.Tests.{by-order}
+use Rattle.over.specs.Scales.{Scales, scales-one, scales-comb, scales-both, scales-mul}
 use Rattle.over.specs.Weights.{every, Weight, weight, weighed, weight-climbs, over-pos, Positive, none, some}
 
 -- ---- the computation
@@ -43,6 +43,9 @@ meet e (d ∷ ds) = cond (divides d e) (met (e / d) ds) (behind d (meet e ds))
 pub record State : Type 0 where
   pub times : ℕ
   pub unmet : List ℕ
+
+abbrev pub atStart : State
+atStart = record { times = 1; unmet = [] }
 
 unfoldable pub settled : State → Met → State
 settled s nothing = record { times = 2 * s .times; unmet = s .unmet }
@@ -71,7 +74,7 @@ pub record Reached (n : ℕ) (s : State) (f : Series) : Type 0 where
   pub whole : f ≡ factor · every (s .unmet)
   pub sizes : Positive (s .unmet)
 
-pub at-start : (n : ℕ) → Reached n (record { times = 1; unmet = [] }) 𝟙
+pub at-start : (n : ℕ) → Reached n atStart 𝟙
 unfolding every productOf
 at-start n = record { factor = 𝟙; scales = scales-one n; whole = sym (·-one 𝟙); sizes = none }
 
@@ -94,11 +97,12 @@ meet-right e pos (some {d} {ds} p s) = go (divides d e) refl (meet e ds) (meet-r
       r .2,
       r .3,
       ap (λ q. termOf accumulate d · q) (r .4)
-          ∙ ringˢ (termOf accumulate d ∷ termOf accumulate (r .0) ∷ every rest ∷ []) (x :* (y :* z)) (y :* (x :* z)) refl,
+          ∙ ·-left-comm (termOf accumulate d) (termOf accumulate (r .0)) (every rest),
       some p (r .5),
     )
 
-    go : (b : Bool) → divides d e ≡ b → (m : Met) → Right e ds m → Right e (d ∷ ds) (cond b (met (e / d) ds) (behind d m))
+    go : (b : Bool) → divides d e ≡ b → (m : Met) → Right e ds m
+        → Right e (d ∷ ds) (cond b (met (e / d) ds) (behind d m))
     go true h m r =
         (d, p, quotient-pos d e pos (yes-divides d e h), sym (div-mul-cancel d (yes-divides d e h)), refl, s)
     go false h m r = further m r
@@ -116,12 +120,14 @@ module _ (n : ℕ) (s : State) (f : Series) (r : Reached n s f) where
   settled-right e (met zero rest) u = absurd (omega (arith, u .2))
   settled-right e (met (suc t) rest) u =
       let d = u .0 in
+      let down = termOf comb (suc t * d) in
+      let up = termOf accumulate d in
       record {
-        factor = termOf comb (suc t * d) · termOf accumulate d · r .factor;
-        scales = scales-mul n (suc t) (s .times) (termOf comb (suc t * d) · termOf accumulate d) (r .factor)
-            (scales-both n d (u .1) t) (r .scales);
-        whole = ap (λ q. termOf comb q · f) (u .3) ∙ ap (λ q. termOf comb (suc t * d) · q) (r .whole ∙ ap (λ q. r .factor · q) (u .4))
-            ∙ ringˢ (termOf comb (suc t * d) ∷ r .factor ∷ termOf accumulate d ∷ every rest ∷ []) (x :* (y :* (z :* w))) (x :* z :* y :* w) refl;
+        factor = down · up · r .factor;
+        scales = scales-mul n (suc t) (s .times) (down · up) (r .factor) (scales-both n d (u .1) t) (r .scales);
+        whole = ap (λ q. termOf comb q · f) (u .3) ∙ ap (λ q. down · q) (r .whole ∙ ap (λ q. r .factor · q) (u .4))
+            ∙ ringˢ (down ∷ r .factor ∷ up ∷ every rest ∷ [])
+            (Solver.x :* (Solver.y :* (Solver.z :* Solver.w))) (Solver.x :* Solver.z :* Solver.y :* Solver.w) refl;
         sizes = u .5;
       }
 
@@ -133,7 +139,7 @@ module _ (n : ℕ) (s : State) (f : Series) (r : Reached n s f) where
         factor = r .factor;
         scales = r .scales;
         whole = ap (λ q. termOf accumulate d · q) (r .whole)
-            ∙ ringˢ (termOf accumulate d ∷ r .factor ∷ every (s .unmet) ∷ []) (x :* (y :* z)) (y :* (x :* z)) refl;
+            ∙ ·-left-comm (termOf accumulate d) (r .factor) (every (s .unmet));
         sizes = some p (r .sizes);
       }
 
@@ -149,9 +155,6 @@ module _ (n : ℕ) (s : State) (f : Series) (r : Reached n s f) where
       (le-trans (mul-le-mul-left (s .times) (weight-climbs (g .shift) (g .power) i n (omega arith))) (leb-true _ _ h))))
       (over-pos (r .sizes))
 
-moved : (a b f : Series) → a · b · f ≡ b · (a · f)
-moved a b f = ringˢ (a ∷ b ∷ f ∷ []) (x :* y :* z) (y :* (x :* z)) refl
-
 -- ---- along a list of steps
 -- the term of a step that is due up to m, and 1 of one that comes later
 abbrev pub dueTo : ℕ → ℕ × Sort → Series
@@ -166,7 +169,8 @@ module _ (w n : ℕ) where
   unfolding runs
   parts low x xs s h =
       let t = next (x .1) (x .0) s in
-      let u = test-and (test-lt low (x .0)) (test-and (test-true (enough w n t)) (test-true (runs w n (x .0) xs t))) .shows h in
+      let rest = test-and (test-true (enough w n t)) (test-true (runs w n (x .0) xs t)) in
+      let u = test-and (test-lt low (x .0)) rest .shows h in
       (u .0, u .1 .0, u .1 .1)
 
   -- none is due up to m where m is not above low
@@ -179,6 +183,7 @@ module _ (w n : ℕ) where
       ap (λ b. cond b (termOf (x .1) (x .0)) 𝟙 · productOf (map (dueTo m) xs)) (later (x .0) m (omega (arith, p .0)))
       ∙ one-· (productOf (map (dueTo m) xs)) ∙ none-due m (x .0) (omega arith) xs (next (x .1) (x .0) s) (p .2)
 
+  -- up to m, in order, the run goes with the product; the first that is not due finds it as it was tested last
   pub runs-right : (m low : ℕ) (xs : List (ℕ × Sort)) (s : State) (f : Series) → Reached n s f
       → ((i : ℕ) → i < n → natAbs (f i) ≤ w) → runs w n low xs s ≡ true
       → (i : ℕ) → i < n → natAbs ((productOf (map (dueTo m) xs) · f) i) ≤ w
@@ -192,5 +197,5 @@ module _ (w n : ℕ) where
       let reached = next-right n s f r (x .1) (x .0) (omega (arith, p .0)) in
       by-order m (x .0)
       (λ u. rw (later (x .0) m u, none-due m (x .0) (omega arith) xs t (p .2), one-· 𝟙, one-· f) (now i l))
-      (λ u. rw (le-leb (x .0) m u, moved on rest f)
+      (λ u. rw (le-leb (x .0) m u, ·-assoc on rest f, ·-left-comm on rest f)
       (runs-right m (x .0) xs t (on · f) reached (enough-right n t (on · f) reached w (p .1)) (p .2) i l))

@@ -1,5 +1,6 @@
--- What is promised of the values that the steps of an index make: by its number of odd primes, 0 to 5, none is larger in
--- magnitude, at any stop. `NotOver` proves it for every index up to 65,535; docs/OVER.md has what runs met beside it.
+-- What is promised of the values that the steps of an index make: by its number of odd primes, 0 to 5, none is larger
+-- in magnitude, at any stop. `NotOver` proves it for every index up to 65,535; docs/OVER.md has what runs met beside
+-- it.
 use Prim.Native.Nat.{ℕ, _*_, _-_, _^_}
 use mathlib.Core.Bool.{Bool, cond}
 use mathlib.Core.List.{List, [], _∷_}

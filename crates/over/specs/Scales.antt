@@ -1,16 +1,16 @@
 -- How much larger a factor can make a series. `Scales n b q`: whatever climbing weight the first n values of f are held
--- under, those of q f are held under b times that weight. Such bounds multiply with the factors and add up with their
--- sums; so 1 scales by 1, z^d by 1, a comb by 2, an accumulate of size d by its turns, n / d + 1, which is the growth law
--- of crate `step_laws`, and an accumulate of size d with a comb of size t d, which is 1 + z^d + .. + z^((t-1) d), by t.
+-- under, those of q f are held under b times that weight. Such bounds multiply with the factors and add up with sums.
+-- So 1 and z^d scale by 1, a comb by 2, an accumulate of size d by its turns, n / d + 1, which is the growth law of
+-- crate `step_laws`, and an accumulate of size d with a comb of size t d, which is 1 + z^d + .. + z^((t-1) d), by t.
 use Prim.Native.Nat.{ℕ, zero, suc, _+_, _*_, _-_, _/_, _<_, _≤_}
 use mathlib.Core.Path.{_≡_, refl, sym, _∙_, ap}
 use mathlib.Core.Bool.{Bool, true, false, cond}
 use mathlib.Core.List.{[], _∷_}
-use native.Mathlib.Nat.{one-mul, mul-one, zero-mul, mul-assoc, mul-comm, mul-left-comm, mul-add, add-mul, suc-mul}
-use native.Mathlib.Nat.{mul-le-mul-left, mul-le-mul-right, le-trans, le-div-iff-mul-le, div-mul-le-self}
+use native.Mathlib.Nat.{one-mul, zero-mul, mul-assoc, mul-comm, add-mul, suc-mul, mul-le-mul-left, mul-le-mul-right}
+use native.Mathlib.Nat.{le-trans, le-div-iff-mul-le, div-mul-le-self}
 use native.Mathlib.Omega.{arith}
 use lib.IntN.{natAbs}
-use Rattle.definitions.specs.Integers.{_⊕_, ⊖, 0ℤ, 1ℤ}
+use Rattle.definitions.specs.Integers.{0ℤ, 1ℤ}
 use Rattle.definitions.specs.Series.{Series, constant, 𝟙, _+ˢ_, -ˢ, _·_, z^}
 use Rattle.definitions.specs.Numbers.{divides}
 use Rattle.definitions.specs.Polynomials.{productTo}
@@ -37,9 +37,6 @@ Climbs g = (k i : ℕ) → k ≤ i → g k ≤ g i
 pub record Scales (n b : ℕ) (q : Series) : Type 0 where
   pub scaled : (f : Series) (c : ℕ) (g : ℕ → ℕ) → 0 < c → Climbs g → Under n c g f → Under n c (λ i. b * g i) (q · f)
 
-pub climbs-times : (b : ℕ) (g : ℕ → ℕ) → Climbs g → Climbs (λ i. b * g i)
-climbs-times b g up k i l = mul-le-mul-left b (up k i l)
-
 module _ (n : ℕ) where
   pub scales-one : Scales n 1 𝟙
   scales-one = record { scaled = λ f c g pos up h i l. rw (one-· f, one-mul (g i)) (h i l) }
@@ -52,29 +49,30 @@ module _ (n : ℕ) where
   scales-mul a b p q s t =
       record {
         scaled = λ f c g pos up h i l. rw (·-assoc p q f, mul-assoc a b (g i))
-            (s .scaled (q · f) c (λ k. b * g k) pos (climbs-times b g up) (t .scaled f c g pos up h) i l);
+            (s .scaled (q · f) c (λ k. b * g k) pos (λ k m u. mul-le-mul-left b (up k m u)) (t .scaled f c g pos up h)
+            i l);
       }
 
   pub scales-add : (a b : ℕ) (p q : Series) → Scales n a p → Scales n b q → Scales n (a + b) (p +ˢ q)
   scales-add a b p q s t =
       record {
         scaled = λ f c g pos up h i l.
-            let v = (p · f) i in
-            let u = (q · f) i in
-            rw (ringˢ (p ∷ q ∷ f ∷ []) ((x :+ y) :* z) (x :* z :+ y :* z) refl, at-+ˢ (p · f) (q · f) i, add-mul a b (g i))
-            (le-trans (mul-le-mul-right c (abs-⊕ v u))
-            (omega (
-              arith,
-              add-mul (natAbs v) (natAbs u) c,
-              s .scaled f c g pos up h i l,
-              t .scaled f c g pos up h i l,
-            )));
+            let v = natAbs ((p · f) i) in
+            let u = natAbs ((q · f) i) in
+            rw (
+              ringˢ (p ∷ q ∷ f ∷ []) ((x :+ y) :* z) (x :* z :+ y :* z) refl,
+              at-+ˢ (p · f) (q · f) i,
+              add-mul a b (g i),
+            )
+            (le-trans (mul-le-mul-right c (abs-⊕ ((p · f) i) ((q · f) i)))
+            (omega (arith, add-mul v u c, s .scaled f c g pos up h i l, t .scaled f c g pos up h i l)));
       }
 
   pub scales-neg : (b : ℕ) (q : Series) → Scales n b q → Scales n b (-ˢ q)
   scales-neg b q s =
       record {
-        scaled = λ f c g pos up h i l. rw (ringˢ (q ∷ f ∷ []) (:- x :* y) (:- (x :* y)) refl, at--ˢ (q · f) i, abs-⊖ ((q · f) i))
+        scaled = λ f c g pos up h i l.
+            rw (ringˢ (q ∷ f ∷ []) (:- x :* y) (:- (x :* y)) refl, at--ˢ (q · f) i, abs-⊖ ((q · f) i))
             (s .scaled f c g pos up h i l);
       }
 
@@ -97,28 +95,24 @@ module _ (n : ℕ) where
       record {
         scaled = λ f c g pos up h i l.
             let b = g i / c in
+            let t = n / d + 1 in
             let grown : natAbs (accumulated d f i) ≤ b * (i / d + 1) =
             accumulated-bound d b f one i
             (λ k m. le-div-iff-mul-le {x = natAbs (f k)} {y = g i} pos .1 (le-trans (h k (omega arith)) (up k i m))) in
             rw (sym (step-term accumulate d one f))
             (le-trans (mul-le-mul-right c (le-trans grown (mul-le-mul-left b (fewer-turns d n i one l))))
-            (le-trans (rearranged b (n / d + 1) c) (mul-le-mul-left (n / d + 1) (div-mul-le-self (g i) c))));
+            (rw (mul-comm b t, mul-assoc t b c) (mul-le-mul-left t (div-mul-le-self (g i) c))));
       }
-    where
-      rearranged : (b t c : ℕ) → b * t * c ≤ t * (b * c)
-      rearranged b t c = rw (mul-comm b t, mul-assoc t b c) (omega arith)
 
   -- (1 - z^(t d)) / (1 - z^d) for t = 1, 2, ..: one more power of z^d each time
   one-more : (d : ℕ) → 0 < d → (s : ℕ) → termOf comb (s + d) · termOf accumulate d
       ≡ 𝟙 +ˢ z^ d · (termOf comb s · termOf accumulate d)
   unfolding termOf other
   one-more d pos s =
+      let every = termOf accumulate d in
       ap (λ q. (𝟙 +ˢ -ˢ q) · every) (sym (z^-add s d))
       ∙ ringˢ (z^ s ∷ z^ d ∷ every ∷ []) ((:1 :+ :- (x :* y)) :* z) ((:1 :+ :- y) :* z :+ y :* ((:1 :+ :- x) :* z)) refl
       ∙ ap (λ q. q +ˢ z^ d · (termOf comb s · every)) (inverse-terms accumulate d pos)
-    where
-      every : Series
-      every = termOf accumulate d
 
   pub scales-both : (d : ℕ) → 0 < d → (t : ℕ) → Scales n (suc t) (termOf comb (suc t * d) · termOf accumulate d)
   unfolding other
@@ -140,7 +134,12 @@ module _ (n : ℕ) where
       (scales-mul (foldTo products b m) (b (suc m)) (productTo m q) (q (suc m))
       (scales-product b q m (λ d l u. s d l (omega arith))) (s (suc m) (omega arith) (omega arith)))
 
-  -- an accumulate on 1, 0, 0, .. makes only 0 and 1
+  -- the start, and an accumulate on it, have no values but 0 and 1
+  pub under-one : Under n 1 (λ i. 1) 𝟙
+  unfolding constant
+  under-one zero l = omega arith
+  under-one (suc i) l = omega arith
+
   pub under-accumulate : (d : ℕ) → Under n 1 (λ i. 1) (termOf accumulate d)
   unfolding termOf
   under-accumulate d i l = go (divides d i)
@@ -148,8 +147,3 @@ module _ (n : ℕ) where
       go : (b : Bool) → natAbs (cond b 1ℤ 0ℤ) * 1 ≤ 1
       go true = omega arith
       go false = omega arith
-
-  pub under-one : Under n 1 (λ i. 1) 𝟙
-  unfolding constant
-  under-one zero l = omega arith
-  under-one (suc i) l = omega arith

@@ -1,22 +1,20 @@
 -- By how much all steps of r together can enlarge a value, in closed form. The step of d enlarges by 2 where it is a
 -- comb and by at most r/d where it is an accumulate. With a new prime p the divisors of r get the other sort and r/d
--- turns into p r/d, while those of p e stay as e was; so the product over all divisors, d = r included, is 2 r for F and
--- 2 for I where r is prime, and (4 r)^(2^(k-2)) for both kinds where r has k primes, k above 1 (`closed`).
-use Prim.Native.Nat.{ℕ, zero, suc, _+_, _*_, _/_, _^_, _<_, _≤_, _∣_}
+-- becomes p r/d, while p e is as e was; so the product over all divisors, d = r included, is 2 r for F and 2 for I
+-- where r is prime, and (4 r)^(2^(k-2)) for both kinds where r has k primes, k above 1 (`closed`).
+use Prim.Native.Nat.{ℕ, zero, suc, _+_, _*_, _/_, _^_, _∣_}
 use mathlib.Core.Path.{_≡_, refl, sym, _∙_, ap, ap₂}
 use mathlib.Core.Bool.{Bool, true, false, cond, not}
-use mathlib.Core.Logic.{_≢_, _⊎_, inl, inr}
-use native.Mathlib.Nat.{pow-zero, pow-suc, one-mul, mul-one, mul-assoc, mul-comm, mul-left-comm, mul-mul-mul-comm}
-use native.Mathlib.Nat.{mul-right-comm, two-pow-succ}
-use native.Mathlib.Numerals.{add-one}
+use mathlib.Core.Logic.{_≢_}
+use native.Mathlib.Nat.{pow-zero, pow-suc, one-mul, mul-assoc, mul-comm, mul-right-comm, mul-mul-mul-comm, two-pow-succ}
 use native.Mathlib.Omega.{arith}
 use lib.Pow.{pow-add}
 use Rattle.definitions.specs.Numbers.{divides, muIsPlus, primesOf, countTo, isPrime, kOf}
-use Rattle.numbers.specs.Folds.{Monoid, foldTo, only, fold-zero, fold-suc, fold-same, fold-both}
+use Rattle.numbers.specs.Folds.{foldTo, only, fold-zero, fold-suc}
 use Rattle.numbers.specs.Counts.{sums, products}
-use Rattle.numbers.specs.Primes.{Prime, prime-pos, quotient-pos}
-use Rattle.numbers.specs.Divisors.{split-new, divisors-same, divisors-both, quotient-old, quotient-new, quotient-free}
-use Rattle.numbers.specs.HowMany.{mu-times, k-times, k-one}
+use Rattle.numbers.specs.Primes.{Prime, prime-pos}
+use Rattle.numbers.specs.Divisors.{split-new, divisors-same, divisors-both, quotient-old, quotient-new}
+use Rattle.numbers.specs.HowMany.{mu-turned, k-times, k-one}
 use Rattle.numbers.specs.Apart.{OddSquarefree, odd-squarefree-one, by-odd-primes}
 
 -- whether a step is a comb: of F where mu(r/d) is +1, of I the other way round
@@ -43,13 +41,13 @@ mul-pow a b zero = rw (pow-zero (a * b), pow-zero a, pow-zero b) refl
 mul-pow a b (suc n) =
     rw (pow-suc (a * b) n, pow-suc a n, pow-suc b n, mul-pow a b n) (mul-mul-mul-comm (a ^ n) (b ^ n) a b)
 
-pow-one : {a : ℕ} → a ^ 1 ≡ a
-pow-one {a} = pow-suc a 0 ∙ ap (λ e. e * a) (pow-zero a) ∙ one-mul a
+pow-one : (a : ℕ) → a ^ 1 ≡ a
+pow-one a = pow-suc a 0 ∙ ap (λ e. e * a) (pow-zero a) ∙ one-mul a
 
 -- p to a sum is the product of the powers
 pow-fold : (p n : ℕ) (g : ℕ → ℕ) (k : ℕ) → foldTo products (only products (λ d. divides d n) (λ d. p ^ g d)) k
     ≡ p ^ foldTo sums (only sums (λ d. divides d n) g) k
-pow-fold p n g zero = rw (fold-zero products (only products (λ d. divides d n) (λ d. p ^ g d)), fold-zero sums (only sums (λ d. divides d n) g)) (sym (pow-zero p))
+pow-fold p n g zero = fold-zero products _ ∙ sym (pow-zero p) ∙ ap (λ e. p ^ e) (sym (fold-zero sums _))
 pow-fold p n g (suc k) =
     fold-suc products _ k ∙ ap₂ _*_ (pow-fold p n g k) (go (divides (suc k) n))
     ∙ sym (pow-add p _ _) ∙ ap (λ e. p ^ e) (sym (fold-suc sums _ k))
@@ -61,30 +59,22 @@ pow-fold p n g (suc k) =
 -- ---- one prime more
 module _ (first : Bool) (r p : ℕ) (O : OddSquarefree r) (P : Prime p) (new : ¬ (p ∣ r)) where
   -- a divisor of r gets the other sort
-  size-turned : (d : ℕ) → d ∣ r → sizeOf first (r * p / d) ≡ sizeOf (not first) (r / d) * p ^ accumulates (not first) (r / d)
-  unfolding sizeOf accumulates
-  size-turned d h =
-      rw (quotient-old r p d h, mu-times (r / d) p (quotient-pos d r (O .pos) h) P (quotient-free r p d new h))
-      (go first (muIsPlus (r / d)) (r / d))
+  turned : (d : ℕ) → d ∣ r → combs first (muIsPlus (r * p / d)) ≡ combs (not first) (muIsPlus (r / d))
+  turned d h = rw (mu-turned r p d (O .pos) P new h) (go first (muIsPlus (r / d)))
     where
-      go : (f m : Bool) (q : ℕ) → cond (combs f (not m)) 2 (q * p)
-          ≡ cond (combs (not f) m) 2 q * p ^ cond (combs (not f) m) 0 1
-      go true true q = rw (pow-one) refl
-      go true false q = rw (pow-zero p) refl
-      go false true q = rw (pow-zero p) refl
-      go false false q = rw (pow-one) refl
-
-  count-turned : (d : ℕ) → d ∣ r → accumulates first (r * p / d) ≡ accumulates (not first) (r / d)
-  unfolding accumulates
-  count-turned d h =
-      rw (quotient-old r p d h, mu-times (r / d) p (quotient-pos d r (O .pos) h) P (quotient-free r p d new h))
-      (go first (muIsPlus (r / d)))
-    where
-      go : (f m : Bool) → _≡_ {A = ℕ} (cond (combs f (not m)) 0 1) (cond (combs (not f) m) 0 1)
-      go true true = refl
-      go true false = refl
+      go : (f m : Bool) → combs f (not m) ≡ combs (not f) m
+      go true m = refl
       go false true = refl
       go false false = refl
+
+  size-turned : (d : ℕ) → d ∣ r
+      → sizeOf first (r * p / d) ≡ sizeOf (not first) (r / d) * p ^ accumulates (not first) (r / d)
+  unfolding sizeOf accumulates
+  size-turned d h = rw (turned d h, quotient-old r p d h) (go (combs (not first) (muIsPlus (r / d))))
+    where
+      go : (b : Bool) → cond b 2 (r / d * p) ≡ cond b 2 (r / d) * p ^ cond b 0 1
+      go true = rw (pow-zero p) refl
+      go false = rw (pow-one p) refl
 
   -- p e stays as e was
   pub sizes-times : sizes first (r * p) ≡ sizes (not first) r * p ^ howMany (not first) r * sizes first r
@@ -99,10 +89,10 @@ module _ (first : Bool) (r p : ℕ) (O : OddSquarefree r) (P : Prime p) (new : �
       (divisors-same products r _ _ (λ d l h. ap (sizeOf first) (quotient-new r p d (prime-pos P))) r)
 
   pub how-many-times : howMany first (r * p) ≡ howMany (not first) r + howMany first r
-  unfolding howMany
+  unfolding howMany accumulates
   how-many-times =
       split-new sums (λ d. accumulates first (r * p / d)) P r (O .pos) new
-      ∙ ap₂ _+_ (divisors-same sums r _ _ (λ d l h. count-turned d h) r)
+      ∙ ap₂ _+_ (divisors-same sums r _ _ (λ d l h. ap (λ b. cond b 0 1) (turned d h)) r)
       (divisors-same sums r _ _ (λ d l h. ap (accumulates first) (quotient-new r p d (prime-pos P))) r)
 
 -- ---- in closed form
@@ -127,13 +117,14 @@ pub data Closed : ℕ → Type 0 where
   one : {r : ℕ} → One r → Closed r
   more : {e r : ℕ} → More e r → Closed r
 
+-- with each prime more the two products multiply, and p joins r as often as there are accumulates
 module _ (r p : ℕ) (O : OddSquarefree r) (P : Prime p) (odd : p ≢ 2) (new : ¬ (p ∣ r)) where
   from-one : One r → More 0 (r * p)
   from-one h =
       record {
         primes = rw (k-times r p (O .pos) P odd new, h .primes) refl;
         size = λ f. sizes-times f r p O P new
-            ∙ rw (h .size f, h .size (not f), h .many (not f), pow-one {a = p}, pow-one {a = 4 * (r * p)}) (go f);
+            ∙ rw (h .size f, h .size (not f), h .many (not f), pow-one p, pow-one (4 * (r * p))) (go f);
         many = λ f. how-many-times f r p O P new ∙ rw (h .many f, h .many (not f)) refl;
       }
     where
@@ -166,7 +157,7 @@ first-prime p P odd new =
     }
   where
     go : (f : Bool) → cond (not f) 2 1 * p ^ cond (not f) 0 1 * cond f 2 1 ≡ cond f (2 * (1 * p)) 2
-    go true = rw (pow-one {a = p}) (omega (arith, one-mul p))
+    go true = rw (pow-one p) (omega (arith, one-mul p))
     go false = rw (pow-zero p) refl
 
     both : (f : Bool) → _≡_ {A = ℕ} (cond (not f) 0 1 + cond f 0 1) 1
@@ -181,6 +172,7 @@ closed = by-odd-primes Closed none (λ r p O P odd new. next O P odd new)
     next {r = r} {p = p} O P odd new (one h) = more (from-one r p O P odd new h)
     next {r = r} {p = p} O P odd new (more h) = more (from-more r p O P odd new h)
 
+-- by cases
 pub by-closed : {r : ℕ} {A : Type 0} → Closed r → (r ≡ 1 → A) → (One r → A) → ((e : ℕ) → More e r → A) → A
 by-closed none f g h = f refl
 by-closed (one c) f g h = g c

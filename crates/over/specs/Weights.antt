@@ -1,16 +1,15 @@
--- Accumulates of sizes d, .., one after the other, on 1, 0, 0, ..: the value at i counts the ways to write i as a sum of
--- these sizes. The first makes only 0 and 1; each further one turns a bound (i + s)^m / c into (i + s + d)^(m+1) / (c d
--- (m+1)), as the sum over a chain is at most that, since d (m+1) y^m + y^(m+1) is at most (y + d)^(m+1) (`power-step`).
--- So m + 1 of them make at most (i + their sum)^m / (m! their product), the first left out of both (`weighed`).
+-- Accumulates of several sizes, one after the other, on 1, 0, 0, ..: the value at i counts the ways to write i as a sum
+-- of these sizes. The first makes only 0 and 1; each further one, of size d, turns a bound (i + s)^m / c into (i + s +
+-- d)^(m+1) / (c d (m+1)), since d (m+1) y^m + y^(m+1) is at most (y + d)^(m+1) (`power-step`), chain by chain. So m + 1
+-- of them make at most (i + their sum)^m / (m! times their product), the first left out of both (`weighed`).
 use Prim.Native.Nat.{ℕ, zero, suc, _+_, _*_, _-_, _^_, _<_, _≤_}
-use mathlib.Core.Path.{_≡_, refl, sym, _∙_, ap}
+use mathlib.Core.Path.{_≡_, sym, ap}
 use mathlib.Core.List.{List, [], _∷_, map}
-use native.Mathlib.Nat.{pow-zero, pow-suc, one-mul, mul-one, mul-assoc, mul-comm, mul-add, add-mul, mul-suc, add-assoc}
-use native.Mathlib.Nat.{mul-pos, le-trans, mul-le-mul-right, not-suc-le-zero, pow-le-pow-left}
+use native.Mathlib.Nat.{pow-zero, pow-suc, one-mul, mul-assoc, mul-comm, mul-add, add-mul, mul-suc, add-assoc, mul-pos}
+use native.Mathlib.Nat.{le-trans, mul-le-mul-right, not-suc-le-zero, pow-le-pow-left}
 use native.Mathlib.Omega.{arith}
 use lib.IntN.{natAbs}
-use Rattle.definitions.specs.Integers.{_⊕_}
-use Rattle.definitions.specs.Series.{Series, 𝟙, _·_}
+use Rattle.definitions.specs.Series.{Series, _·_}
 use Rattle.definitions.specs.Steps.{accumulate, accumulated, stepped}
 use Rattle.definitions.specs.KeptHalf.{termOf, productOf}
 use Rattle.series.specs.Laws.{·-one}
@@ -42,7 +41,7 @@ power-step y d (suc m) =
 
 -- one accumulate more
 module _ (n c s m d : ℕ) (one : 1 ≤ d) (f : Series) (h : Under n c (λ i. (i + s) ^ m) f) where
-  -- the entry itself, with the new weight
+  -- the entry itself, under the new weight
   entry : (i : ℕ) → i < n → natAbs (f i) * (c * (d * suc m)) ≤ d * suc m * (i + s) ^ m
   entry i l =
       rw (sym (mul-assoc (natAbs (f i)) c (d * suc m)), mul-comm (d * suc m) ((i + s) ^ m))
@@ -76,7 +75,7 @@ module _ (n c s m d : ℕ) (one : 1 ≤ d) (f : Series) (h : Under n c (λ i. (i
 unfoldable pub every : List ℕ → Series
 every ds = productOf (map (termOf accumulate) ds)
 
--- the bound of several: (i + shift)^power / over
+-- the bound of several: (i + shift)^power / over; the last in the list is the first that was taken
 pub record Weight : Type 0 where
   pub over : ℕ
   pub shift : ℕ
@@ -99,13 +98,15 @@ over-pos none = omega arith
 over-pos (some p none) = omega arith
 over-pos (some p (some q s)) = mul-pos (over-pos (some q s)) (mul-pos p (omega arith))
 
-pub weighed : (n : ℕ) {ds : List ℕ} → Positive ds → Under n (weight ds .over) (λ i. (i + weight ds .shift) ^ weight ds .power) (every ds)
+pub weighed : (n : ℕ) {ds : List ℕ} → Positive ds
+    → Under n (weight ds .over) (λ i. (i + weight ds .shift) ^ weight ds .power) (every ds)
 unfolding weight every productOf
 weighed n none i l = rw (pow-zero (i + 0)) (under-one n i l)
 weighed n (some {d} p none) i l = rw (·-one (termOf accumulate d), pow-zero (i + 0)) (under-accumulate n d i l)
 weighed n (some {d} p (some {d = e} {ds} q s)) i l =
     let w = weight (e ∷ ds) in
-    rw (sym (add-assoc i (w .shift) d)) (accumulated-power n (w .over) (w .shift) (w .power) d p (every (e ∷ ds)) (weighed n (some q s)) i l)
+    rw (sym (add-assoc i (w .shift) d))
+    (accumulated-power n (w .over) (w .shift) (w .power) d p (every (e ∷ ds)) (weighed n (some q s)) i l)
 
 -- the weight climbs
 pub weight-climbs : (s m : ℕ) → Climbs (λ i. (i + s) ^ m)

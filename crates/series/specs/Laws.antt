@@ -164,6 +164,9 @@ pub ringˢ : (values : List Series) (a b : Expr) → normal a ≡ normal b → e
     ≡ eval series-ring values b
 ringˢ values a b e = ring series-ring values a b e
 
+pub ·-left-comm : (f g h : Series) → f · (g · h) ≡ g · (f · h)
+·-left-comm f g h = ringˢ (f ∷ g ∷ h ∷ []) (x :* (y :* z)) (y :* (x :* z)) refl
+
 -- ---- coefficients of sums and products
 pub at-+ˢ : (f g : Series) (i : ℕ) → (f +ˢ g) i ≡ f i ⊕ g i
 unfolding _+ˢ_
