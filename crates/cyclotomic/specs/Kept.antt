@@ -2,7 +2,7 @@
 -- above 1. All terms but that of r itself, 1 - z^r, are in it; so for F it agrees with F(r) below degree r, and for I,
 -- where each term is inverted and the start is -1, it is -(1 - z^r) / F(r) = I(r) itself. A step is a product with its
 -- term (`step-term`): so the kept half after j steps is the product of the first j terms (`step-kept`).
-use Prim.Native.Nat.{ℕ, zero, suc, _+_, _*_, _-_, _/_, _≤_, _<_}
+use Prim.Native.Nat.{ℕ, zero, suc, _+_, _-_, _/_, _≤_, _<_}
 use mathlib.Core.Path.{_≡_, refl, sym, _∙_, ap, ap₂, fun-ext}
 use mathlib.Core.Bool.{Bool, true, false, cond, not}
 use mathlib.Core.Logic.{_≢_}

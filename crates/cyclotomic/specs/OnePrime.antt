@@ -1,7 +1,7 @@
 -- One prime more. For p prime, F(n) with z^p for z is F(np), times F(n) where p does not divide n (`prime-more`). A
 -- divisor of np is p e with e a divisor of n, or a divisor of n that p does not divide (`split-divisors`); so both
 -- sides have the product z^(np) - 1 over the divisors of n, and `same-family` applies.
-use Prim.Native.Nat.{ℕ, zero, suc, _+_, _*_, _<_, _∣_}
+use Prim.Native.Nat.{ℕ, zero, suc, _*_, _<_, _∣_}
 use mathlib.Core.Path.{_≡_, refl, sym, _∙_, ap, ap₂}
 use mathlib.Core.Bool.{Bool, true, false, cond, not, and-true, _&&_}
 use native.Mathlib.Nat as NatL
@@ -11,7 +11,7 @@ use Rattle.definitions.specs.Numbers.{divides}
 use Rattle.definitions.specs.Polynomials.{productTo, atDivisors, overDivisors, z^-1, F}
 use Rattle.series.specs.Laws.{·-one}
 use Rattle.series.specs.Maps.{spread-mul, spread-add, spread-neg, spread-constant, spread-zero, spread-z^}
-use Rattle.numbers.specs.Folds.{foldTo, only, only-off, fold-same, fold-both, fold-by, fold-further}
+use Rattle.numbers.specs.Folds.{foldTo, only, only-off, fold-same, fold-by, fold-further}
 use Rattle.numbers.specs.Folds.{fold-multiples}
 use Rattle.numbers.specs.Tests.{same, denies, test-and, test-not, test-divides, divides-yes, divides-no}
 use Rattle.numbers.specs.Primes.{Prime, prime-pos, divides-without}

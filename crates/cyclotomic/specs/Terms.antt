@@ -1,7 +1,7 @@
 -- The terms of the divisors multiply to F(r) (`all-terms`), for odd squarefree r above 1. The terms of the two sorts
 -- are inverse to one another. With a new prime p, the terms of the divisors of r turn into their inverses, and those of
 -- p e are those of e with z^p for z; so the product over all divisors grows by F's law, and at r = 1 it is -F(1).
-use Prim.Native.Nat.{ℕ, zero, suc, _+_, _*_, _-_, _/_, _%_, _≤_, _<_, _∣_}
+use Prim.Native.Nat.{ℕ, zero, suc, _*_, _-_, _/_, _%_, _≤_, _<_, _∣_}
 use mathlib.Core.Path.{_≡_, refl, sym, _∙_, ap, ap₂, fun-ext}
 use mathlib.Core.Bool.{Bool, true, false, cond, not}
 use mathlib.Core.Logic.{_≢_}
@@ -21,13 +21,13 @@ use Rattle.integers.specs.Whole.{⊕-zero, ⊕-neg, ⊖-zero, ⊗-one}
 use Rattle.series.specs.Laws.{Unitˢ, at-+ˢ, at--ˢ, cancel, ·-comm, ·-one, one-·, ringˢ}
 use Rattle.series.specs.Maps.{off-z^, shift-below, shift-from, spread-add, spread-neg, spread-constant, spread-mul}
 use Rattle.series.specs.Maps.{spread-z^}
-use Rattle.numbers.specs.Tests.{same, test-divides, divides-yes, divides-no, yes-divides}
+use Rattle.numbers.specs.Tests.{same, test-divides, divides-yes, divides-no}
 use Rattle.numbers.specs.Folds.{fold-units}
 use Rattle.numbers.specs.Primes.{Prime, prime-pos}
 use Rattle.numbers.specs.Divisors.{divisors-same}
 use Rattle.numbers.specs.HowMany.{primes-one, mu-turned}
 use Rattle.numbers.specs.Apart.{OddSquarefree, by-odd-primes}
-use Rattle.cyclotomic.specs.Family.{times, product-fold, product-same, F-one, unit-F, unit-divisors, last-divisor}
+use Rattle.cyclotomic.specs.Family.{times, product-fold, F-one, unit-F, unit-divisors, last-divisor}
 use Rattle.cyclotomic.specs.OnePrime.{split-divisors, unlessDivides, over-both, spread-divisors, prime-new}
 use Rattle.cyclotomic.specs.Signs.{Signed, signed, unsigned, minus-one, sign-step}
 

@@ -2,16 +2,15 @@
 -- at every stop, that no value can be above what is promised (`all-tested`). What a run means is `runs-right` of
 -- `Pairs`, that its list has the divisors is `stop-listed` of `Listed`, and that the 36 are all is `of-five` of crate
 -- `numbers`.
-use Prim.Native.Nat.{ℕ, zero, suc, _+_, _*_, _-_, _/_, _^_, _<_, _≤_}
-use mathlib.Core.Path.{_≡_, refl, sym, _∙_, ap}
+use Prim.Native.Nat.{ℕ, _+_, _-_, _/_, _≤_}
+use mathlib.Core.Path.{_≡_, refl, sym}
 use mathlib.Core.Bool.{Bool, true, false, cond, _&&_}
 use mathlib.Core.Logic.{⊎-elim}
 use mathlib.Core.List.{List, [], _∷_, map, List·Memᴰ, List·Memᴰ·cases-cons, List·Memᴰ·not-nil}
 use native.Mathlib.Omega.{arith}
 use lib.Dec.{eqb}
-use lib.IntN.{natAbs}
-use Rattle.definitions.specs.Series.{Series, 𝟙, _·_}
-use Rattle.definitions.specs.Numbers.{divides, phi, kOf}
+use Rattle.definitions.specs.Series.{𝟙}
+use Rattle.definitions.specs.Numbers.{divides, kOf}
 use Rattle.definitions.specs.Polynomials.{degree}
 use Rattle.definitions.specs.KeptHalf.{halfDegree, productOf}
 use Rattle.series.specs.Laws.{·-one}

@@ -1,7 +1,7 @@
 -- Up to four odd primes, in closed form: no value that a step of r makes is above `reach`, by the number k of r's
 -- primes and any p of them (`held-to-reach`). Left out is the accumulate of 1 or, where 1 has a comb, that of p, whose
 -- mu is the other one; the sizes of all others are as `Sizes` has them.
-use Prim.Native.Nat.{ℕ, zero, suc, _+_, _*_, _/_, _%_, _^_, _<_, _≤_, _∣_}
+use Prim.Native.Nat.{ℕ, zero, suc, _*_, _/_, _%_, _^_, _<_, _≤_, _∣_}
 use mathlib.Core.Path.{_≡_, refl, sym, _∙_, ap}
 use mathlib.Core.Bool.{Bool, true, false, cond, not, Bool·not-not}
 use mathlib.Core.Logic.{⊎-elim}
@@ -11,7 +11,7 @@ use native.Mathlib.Nat.{mul-dvd-mul}
 use native.Mathlib.Omega.{arith}
 use borrow.Author.Tests.{ne-eqb, eq-eqb}
 use lib.Dec.{eqb}
-use Rattle.definitions.specs.Numbers.{divides, muIsPlus, kOf, primesOf, countTo, isPrime}
+use Rattle.definitions.specs.Numbers.{muIsPlus, kOf, primesOf, countTo, isPrime}
 use Rattle.definitions.specs.Steps.{accumulate}
 use Rattle.definitions.specs.KeptHalf.{sortOf, termOf, term}
 use Rattle.numbers.specs.Tests.{divides-yes}

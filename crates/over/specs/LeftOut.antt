@@ -11,7 +11,6 @@ use native.Mathlib.Decide.{decLe}
 use native.Mathlib.Omega.{arith}
 use borrow.Author.Tests.{ne-eqb}
 use lib.Dec.{eqb}
-use lib.IntN.{natAbs}
 use Rattle.definitions.specs.Series.{Series, 𝟙, _·_}
 use Rattle.definitions.specs.Numbers.{divides, phi, muIsPlus}
 use Rattle.definitions.specs.Polynomials.{productTo, atDivisors, degree}

@@ -2,17 +2,16 @@
 -- there were, and p d has the mu that d had. So a product over all divisors is one over this list (`over-listed`), put
 -- in ascending order (`product-ascending`), and every stop of r is the product over the part of it up to m
 -- (`stop-listed`).
-use Prim.Native.Nat.{ℕ, _*_, _/_, _<_, _≤_, _∣_}
+use Prim.Native.Nat.{ℕ, _*_, _/_, _≤_}
 use mathlib.Core.Path.{_≡_, refl, sym, _∙_, ap, ap₂}
 use mathlib.Core.Bool.{Bool, true, false, cond, not}
 use mathlib.Core.List.{List, [], _∷_, _++_, map, map-append, map-map}
 use native.Mathlib.Nat.{le-refl}
-use native.Mathlib.Omega.{arith}
 use borrow.Author.Tests.{le-leb}
 use lib.Dec.{eqb, leb}
 use Rattle.definitions.specs.Series.{Series, 𝟙, _·_}
 use Rattle.definitions.specs.Numbers.{divides, muIsPlus, primesOf, countTo, isPrime}
-use Rattle.definitions.specs.Polynomials.{productTo, atDivisors, overDivisors}
+use Rattle.definitions.specs.Polynomials.{atDivisors}
 use Rattle.definitions.specs.Steps.{Sort, comb, accumulate}
 use Rattle.definitions.specs.KeptHalf.{sortOf, term, termOf, productOf}
 use Rattle.series.specs.Laws.{·-comm, ·-left-comm}

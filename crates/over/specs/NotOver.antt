@@ -1,7 +1,7 @@
 -- No step of any index is OVER under a working limit from `promised` on (`not-over`): up to four odd primes by the
 -- closed bound, at the largest r and at the least prime p of r, whose k-th power is at most r (`four-not-over`); for
 -- five by what the checker found (`five-not-over`); and where r is 1 there are no steps.
-use Prim.Native.Nat.{ℕ, zero, suc, _+_, _*_, _-_, _^_, _<_, _≤_, _∣_}
+use Prim.Native.Nat.{ℕ, zero, suc, _-_, _^_, _<_, _≤_, _∣_}
 use mathlib.Core.Path.{_≡_, refl, sym, _∙_, ap}
 use mathlib.Core.Bool.{Bool, true, false}
 use mathlib.Core.Logic.{⊎-elim}

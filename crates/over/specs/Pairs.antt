@@ -3,7 +3,7 @@
 -- (`scales-both`); a comb that meets none scales by 2. With the unmet ones weighed (`Weights`), no value is above w
 -- where times (n + shift)^power is at most w over (`enough-right`). A run along an ascending list of steps tests that
 -- at every stop (`runs-right`).
-use Prim.Native.Nat.{ℕ, zero, suc, _+_, _*_, _/_, _^_, _<_, _≤_, _∣_}
+use Prim.Native.Nat.{ℕ, zero, suc, _+_, _*_, _/_, _^_, _<_, _≤_}
 use mathlib.Core.Path.{_≡_, refl, sym, _∙_, ap}
 use mathlib.Core.Bool.{Bool, true, false, cond, _&&_}
 use mathlib.Core.List.{List, [], _∷_, map}
@@ -23,7 +23,7 @@ use Rattle.numbers.specs.Tests.{denies, test-and, test-lt, test-le, test-true, 
 use Rattle.numbers.specs.Primes.{quotient-pos}
 use Rattle.step_laws.specs.Tests.{by-order}
 use Rattle.over.specs.Scales.{Scales, scales-one, scales-comb, scales-both, scales-mul}
-use Rattle.over.specs.Weights.{every, Weight, weight, weighed, weight-climbs, over-pos, Positive, none, some}
+use Rattle.over.specs.Weights.{every, weight, weighed, weight-climbs, over-pos, Positive, none, some}
 
 -- ---- the computation
 -- what a comb of size e meets: nothing, or an accumulate t times smaller, which the list then has no more

@@ -3,17 +3,17 @@
 -- above w in the kept half, no step of r is OVER (`never-over`).
 use Prim.Native.Nat.{ℕ, zero, suc, _+_, _-_, _<_, _≤_}
 use mathlib.Core.Path.{_≡_, refl, sym, _∙_, ap}
-use mathlib.Core.Bool.{Bool, true, false, cond, _||_}
+use mathlib.Core.Bool.{Bool, true, false, cond}
 use mathlib.Core.List.{[], _∷_, map}
 use native.Mathlib.Omega.{arith}
 use lib.Dec.{eqb}
 use lib.ListN.{length, take, getD}
 use lib.IntN.{natAbs}
 use Rattle.definitions.specs.Integers.{0ℤ}
-use Rattle.definitions.specs.Series.{Series, 𝟙, -ˢ, _·_, firsts}
+use Rattle.definitions.specs.Series.{Series, 𝟙, -ˢ, _·_}
 use Rattle.definitions.specs.Numbers.{divides, listTo, divisorsBelow}
 use Rattle.definitions.specs.Polynomials.{productTo, atDivisors}
-use Rattle.definitions.specs.Steps.{stepped, entries, stepList}
+use Rattle.definitions.specs.Steps.{stepped, entries}
 use Rattle.definitions.specs.KeptHalf.{halfDegree, sortOf, term, start, productOf, keptSeries, keptHalf}
 use Rattle.definitions.specs.Requests.{nextDivisor, divisorsDue, overAt, overAmong}
 use Rattle.integers.specs.Solver.{:1, _:*_, :-, x}
