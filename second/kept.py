@@ -30,7 +30,7 @@ def term(kind, r, d):
     return [1 if i % d == 0 else 0 for i in range(most + 1)]
 
 
-@lru_cache(None)
+@lru_cache(4)
 def stops(kind, r):
     """The kept half after 0, 1, 2, .. divisors."""
     most = half_degree(kind, r)

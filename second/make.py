@@ -9,6 +9,7 @@ import sys
 
 import choice
 import listing
+import over
 import refusals
 from lines import partial_line, polynomial_line
 from answers import polynomial
@@ -103,4 +104,5 @@ if __name__ == "__main__":
     store("trial_refusals/src/asked.rt", asked())
     store("trial_refusals/stdout", refused())
     store("trial_partial/stdout", partials())
+    store("trial_over/stdout", over.lines())
     store("trial_table/stdout", table())

@@ -35,9 +35,10 @@ def odd_part(n):
     return r
 
 
+@lru_cache(None)
 def divisors_below(r):
     """The divisors of r below r, ascending."""
-    return [d for d in range(1, r) if r % d == 0]
+    return tuple(d for d in range(1, r) if r % d == 0)
 
 
 def mu(m):
