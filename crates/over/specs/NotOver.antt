@@ -57,10 +57,10 @@ reach-promised true (suc (suc zero)) p r l u least small = omega (arith, root 25
 reach-promised false (suc (suc zero)) p r l u least small = omega arith
 reach-promised true (suc (suc (suc zero))) p r l u least small = omega arith
 reach-promised false (suc (suc (suc zero))) p r l u least small =
-    mul-le-mul (mul-le-mul-left 16 (root 40 3 p (omega arith) least)) small
+    omega (arith, mul-le-mul (mul-le-mul-left 16 (root 40 3 p (omega arith) least)) small)
 reach-promised true (suc (suc (suc (suc zero)))) p r l u least small =
-    mul-le-mul (mul-le-mul-left 128 (root 15 4 p (omega arith) least)) (pow-le-pow-left small 3)
-reach-promised false (suc (suc (suc (suc zero)))) p r l u least small = mul-le-mul-left 256 (pow-le-pow-left small 3)
+    omega (arith, mul-le-mul (mul-le-mul-left 128 (root 15 4 p (omega arith) least)) (pow-le-pow-left small 3))
+reach-promised false (suc (suc (suc (suc zero)))) p r l u least small = omega (arith, pow-le-pow-left small 3)
 reach-promised first (suc (suc (suc (suc (suc k))))) p r l u least small = absurd (omega arith)
 
 module _ (kind r : ℕ) (O : OddSquarefree r) (small : r ≤ 65535)
