@@ -138,7 +138,7 @@ unfolding atDivisors
 over-same n {g} {h} e k =
     product-fold k (atDivisors n g) ∙ divisors-same times n g h e k ∙ sym (product-fold k (atDivisors n h))
 
-cond-one : (b : Bool) → cond b 𝟙 𝟙 ≡ 𝟙
+pub cond-one : (b : Bool) → cond b 𝟙 𝟙 ≡ 𝟙
 cond-one true = refl
 cond-one false = refl
 

@@ -21,6 +21,7 @@ use Rattle.numbers.specs.Divisors.{split-new, divisors-same, quotient-new}
 use Rattle.numbers.specs.HowMany.{mu-turned}
 use Rattle.numbers.specs.PrimeLists.{productOfList, Rising, none, more, rising-pos, rising-new}
 use Rattle.cyclotomic.specs.Family.{times, product-fold}
+use Rattle.cyclotomic.specs.Terms.{cond-one}
 use Rattle.cyclotomic.specs.Kept.{product-append}
 use Rattle.over.specs.Stops.{upTo}
 use Rattle.over.specs.Sizes.{combs}
@@ -101,11 +102,7 @@ up-to-all kind r m l =
     product-fold m (λ d. cond (divides d r) (term kind r d) 𝟙)
     ∙ fold-same times m (λ d a b. ap (λ c. cond (divides d r) (cond c (term kind r d) 𝟙) 𝟙) (sym (le-leb d m b)))
     ∙ sym (fold-further times _ m r l
-    (λ d a b. ap (λ c. cond (divides d r) (cond c (term kind r d) 𝟙) 𝟙) (later d m a) ∙ both (divides d r)))
-  where
-    both : (b : Bool) → cond b 𝟙 𝟙 ≡ 𝟙
-    both true = refl
-    both false = refl
+    (λ d a b. ap (λ c. cond (divides d r) (cond c (term kind r d) 𝟙) 𝟙) (later d m a) ∙ cond-one (divides d r)))
 
 pub stop-listed : {ps : List ℕ} → Rising 2 ps → (kind m : ℕ) → m ≤ productOfList ps
     → upTo kind (productOfList ps) m ≡ productOf (map (dueTo m) (map (stepOf (eqb kind 1)) (ascending (listed ps))))

@@ -6,16 +6,15 @@ use Prim.Native.Nat.{ℕ, zero, suc, _+_, _*_, _-_, _^_, _<_, _≤_}
 use mathlib.Core.Path.{_≡_, sym, ap}
 use mathlib.Core.List.{List, [], _∷_, map}
 use native.Mathlib.Nat.{pow-zero, pow-suc, one-mul, mul-assoc, mul-comm, mul-add, add-mul, mul-suc, add-assoc, mul-pos}
-use native.Mathlib.Nat.{le-trans, mul-le-mul-right, not-suc-le-zero, pow-le-pow-left}
+use native.Mathlib.Nat.{le-trans, mul-le-mul-right, pow-le-pow-left}
 use native.Mathlib.Omega.{arith}
 use lib.IntN.{natAbs}
 use Rattle.definitions.specs.Series.{Series, _·_}
 use Rattle.definitions.specs.Steps.{accumulate, accumulated, stepped}
 use Rattle.definitions.specs.KeptHalf.{termOf, productOf}
 use Rattle.series.specs.Laws.{·-one}
-use Rattle.step_laws.specs.Tests.{by-order}
 use Rattle.step_laws.specs.Signed.{abs-⊕}
-use Rattle.step_laws.specs.Accumulated.{accumulated-from, accumulated-below}
+use Rattle.step_laws.specs.Accumulated.{accumulated-from, accumulated-below, by-chain}
 use Rattle.cyclotomic.specs.Kept.{step-term}
 use Rattle.over.specs.Scales.{Under, Climbs, under-one, under-accumulate}
 
@@ -47,15 +46,16 @@ module _ (n c s m d : ℕ) (one : 1 ≤ d) (f : Series) (h : Under n c (λ i. (i
       rw (sym (mul-assoc (natAbs (f i)) c (d * suc m)), mul-comm (d * suc m) ((i + s) ^ m))
       (mul-le-mul-right (d * suc m) (h i l))
 
-  up-to : (k i : ℕ) → i < k → i < n → natAbs (accumulated d f i) * (c * (d * suc m)) ≤ (i + s + d) ^ suc m
-  up-to zero i b l = absurd (not-suc-le-zero b)
-  up-to (suc k) i b l =
-      by-order i d
-      (λ o. rw (accumulated-below d f i o) (omega (arith, entry i l, power-step (i + s) d m)))
-      (λ o.
+  accumulated-power : Under n (c * (d * suc m)) (λ i. (i + s + d) ^ suc m) (termOf accumulate d · f)
+  unfolding stepped
+  accumulated-power =
+      rw (sym (step-term accumulate d one f))
+      (by-chain (λ i. i < n → natAbs (accumulated d f i) * (c * (d * suc m)) ≤ (i + s + d) ^ suc m) d one
+      (λ i o l. rw (accumulated-below d f i o) (omega (arith, entry i l, power-step (i + s) d m)))
+      (λ i o before l.
       let back : i - d + s + d ≡ i + s = omega arith in
       let rest : natAbs (accumulated d f (i - d)) * (c * (d * suc m)) ≤ (i + s) ^ suc m =
-      rw back at (up-to k (i - d) (omega arith) (omega arith)) in
+      rw back at (before (omega arith)) in
       rw (accumulated-from d f i one o)
       (le-trans (mul-le-mul-right (c * (d * suc m)) (abs-⊕ (f i) (accumulated d f (i - d))))
       (omega (
@@ -64,11 +64,7 @@ module _ (n c s m d : ℕ) (one : 1 ≤ d) (f : Series) (h : Under n c (λ i. (i
         entry i l,
         rest,
         power-step (i + s) d m,
-      ))))
-
-  accumulated-power : Under n (c * (d * suc m)) (λ i. (i + s + d) ^ suc m) (termOf accumulate d · f)
-  unfolding stepped
-  accumulated-power i l = rw (sym (step-term accumulate d one f)) (up-to (suc i) i (omega arith) l)
+      )))))
 
 -- ---- several
 -- the product of the terms of accumulates

@@ -1,4 +1,5 @@
--- An accumulate, entry by entry: below d an entry stays, and from d on it gets the new one d before it added.
+-- An accumulate, entry by entry: below d an entry stays, and from d on it gets the new one d before it added; and
+-- induction that goes so.
 use mathlib.Core.Path.{_≡_, refl, ap}
 use Prim.Native.Nat.{ℕ, zero, suc, _-_, _<_, _≤_}
 use native.Mathlib.Nat.{not-suc-le-zero, le-trans}
@@ -8,7 +9,7 @@ use lib.Dec.{ltb}
 use Rattle.definitions.specs.Integers.{_⊕_}
 use Rattle.definitions.specs.Series.{Series}
 use Rattle.definitions.specs.Steps.{accumulatedIn, accumulated}
-use Rattle.step_laws.specs.Tests.{by-test}
+use Rattle.step_laws.specs.Tests.{by-test, by-order}
 
 module _ (d : ℕ) (a : Series) where
   -- more turns than i change nothing
@@ -32,3 +33,12 @@ module _ (d : ℕ) (a : Series) where
   unfolding accumulated accumulatedIn
   accumulated-below zero h = refl
   accumulated-below (suc i) h = rw (lt-ltb (suc i) d h)
+
+-- what holds below d, and at i where it holds d before i, holds everywhere
+pub by-chain :
+    (P : ℕ → Type 0) (d : ℕ) → 1 ≤ d → ((i : ℕ) → i < d → P i) → ((i : ℕ) → d ≤ i → P (i - d) → P i) → (i : ℕ) → P i
+by-chain P d one start more i = go (suc i) i (omega arith)
+  where
+    go : (n i : ℕ) → i < n → P i
+    go zero i m = absurd (not-suc-le-zero m)
+    go (suc n) i m = by-order i d (start i) (λ l. more i l (go n (i - d) (omega arith)))

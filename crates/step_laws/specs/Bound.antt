@@ -3,8 +3,8 @@
 use mathlib.Core.Path.{_≡_}
 use mathlib.Core.Bool.{true, false}
 use mathlib.Core.List.{List}
-use Prim.Native.Nat.{ℕ, zero, suc, _+_, _*_, _-_, _/_, _<_, _≤_}
-use native.Mathlib.Nat.{not-suc-le-zero, le-trans, mul-add, mul-one, mul-le-mul-left, div-eq-of-lt, div-eq-sub-div}
+use Prim.Native.Nat.{ℕ, _+_, _*_, _-_, _/_, _<_, _≤_}
+use native.Mathlib.Nat.{le-trans, mul-add, mul-one, mul-le-mul-left, div-eq-of-lt, div-eq-sub-div}
 use native.Mathlib.Nat.{le-div-iff-mul-le, div-mul-le-self}
 use native.Mathlib.Omega.{arith}
 use lib.ListN.{length, List·getD-eq-default}
@@ -15,7 +15,7 @@ use Rattle.definitions.specs.Steps.{Sort, comb, accumulate, combed, accumulated
 use Rattle.definitions.specs.Steps.{stepList}
 use Rattle.step_laws.specs.Tests.{by-order}
 use Rattle.step_laws.specs.Signed.{abs-⊕, abs-⊝, in-range, range-in}
-use Rattle.step_laws.specs.Accumulated.{accumulated-from, accumulated-below}
+use Rattle.step_laws.specs.Accumulated.{accumulated-from, accumulated-below, by-chain}
 use Rattle.step_laws.specs.Step.{combed-from, stepped-below, getD-stepList, getD-stepList-below, length-stepList}
 use Rattle.step_laws.specs.Step.{not-over-all, not-over-each}
 
@@ -47,17 +47,17 @@ module _ (d b : ℕ) (a : Series) where
       let e : b * (q + 1 + 1) ≡ b * (q + 1) + b * 1 = mul-add b (q + 1) 1 in
       rw (div-eq-sub-div one l) (omega (arith, e, mul-one b))
 
-  up-to : 1 ≤ d → (n i : ℕ) → i < n → BoundedTo i b a → natAbs (accumulated d a i) ≤ b * (i / d + 1)
-  up-to one zero i m h = absurd (not-suc-le-zero m)
-  up-to one (suc n) i m h =
-      by-order i d (λ l. rw (accumulated-below d a i l, div-eq-of-lt l) (omega (arith, h i (omega arith), mul-one b)))
-      (λ l.
-      let rest = up-to one n (i - d) (omega arith) (λ k m. h k (omega arith)) in
-      rw (accumulated-from d a i one l, ← turn one i l)
-      (omega (arith, abs-⊕ (a i) (accumulated d a (i - d)), h i (omega arith), rest)))
-
   pub accumulated-bound : 1 ≤ d → (i : ℕ) → BoundedTo i b a → natAbs (accumulated d a i) ≤ b * (i / d + 1)
-  accumulated-bound one i h = up-to one (suc i) i (omega arith) h
+  accumulated-bound one =
+      by-chain (λ i. BoundedTo i b a → natAbs (accumulated d a i) ≤ b * (i / d + 1)) d one
+      (λ i l h. rw (accumulated-below d a i l, div-eq-of-lt l) (omega (arith, h i (omega arith), mul-one b)))
+      (λ i l rest h. rw (accumulated-from d a i one l, ← turn one i l)
+      (omega (
+        arith,
+        abs-⊕ (a i) (accumulated d a (i - d)),
+        h i (omega arith),
+        rest (λ k m. h k (omega arith)),
+      )))
 
 -- no more turns of d go into i than into n
 pub fewer-turns : (d n i : ℕ) → 1 ≤ d → i < n → i / d + 1 ≤ n / d + 1
