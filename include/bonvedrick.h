@@ -124,8 +124,7 @@ typedef struct bv_record {
  *   BV_LIMIT  h is below 1, or w is                      0             untouched
  *   BV_SHORT  len is below degree + 1                    yes           untouched
  *   BV_OVER   a step on the way would pass w             yes           entries 0 to degree: 0
- *             (found by running them: no index gives
- *             this with BV_NO_LIMIT)
+ *             (proved: never with BV_NO_LIMIT)
  *   BV_TALL   the height is above h                      yes           entries 0 to degree: 0
  *
  * The order is that of the table. On refusal additions, height, peak and gain are 0. So a call with len 0 asks how many entries are
@@ -133,7 +132,8 @@ typedef struct bv_record {
  *
  * The steps are those that bv_partial tells of, for all divisors; the values they make are far larger than the coefficients at some
  * indices: I(15015) has height 11 and needs w = 1113164. An index that is 1 or a power of two takes no step. Found by running them:
- * every F is delivered with w = 32767, so in registers of 16 bits; every I with w = 16777215, of 25 bits.
+ * every F is delivered with w = 16383, so in registers of 15 bits; every I with w = 16777215, of 25 bits. Proved: every F and every I
+ * is, with any w from 2^59 - 1 on. docs/OVER.md has both by the number of odd primes.
  */
 bv_answer bv_polynomial(uint64_t kind, uint64_t n, int64_t h, int64_t w, int64_t *buf, size_t len);
 
@@ -152,7 +152,8 @@ bv_answer bv_polynomial(uint64_t kind, uint64_t n, int64_t h, int64_t w, int64_t
  *   BV_LIMIT  w is below 1                               0             untouched
  *   BV_SHORT  len is below D + 1                         D             untouched
  *   BV_OVER   one of the j steps would make a value      D             entries 0 to D: 0
- *             larger in magnitude than w
+ *             larger in magnitude than w (proved: never
+ *             with BV_NO_LIMIT, at any j)
  *
  * The order is that of the table. On refusal additions and due are 0. What later steps would make counts for nothing, so the least j that
  * is BV_OVER tells which step a register is too small for.
