@@ -2,7 +2,7 @@
 -- (`product-law`), and whatever family has that product law is F (`only-family`): two families with equal products over
 -- the divisors are equal, since all but the factor at n itself cancel (`same-family`). F(n) I(n) = z^n - 1
 -- (`pair-law`), and I(n) is the only such series (`only-inverse`).
-use Prim.Native.Nat.{ℕ, zero, suc, _+_, _*_, _≤_, _<_}
+use Prim.Native.Nat.{ℕ, zero, suc, _≤_, _<_, _∣_}
 use mathlib.Core.Path.{_≡_, refl, sym, _∙_, ap, ap₂}
 use mathlib.Core.Bool.{Bool, true, false, cond}
 use mathlib.Core.Logic.{_≢_}
@@ -12,7 +12,7 @@ use native.Mathlib.Nat as NatL
 use native.Mathlib.Decide.{ℕ-discrete}
 use borrow.Author.Tests.{eq-eqb, ne-eqb}
 use Rattle.definitions.specs.Integers.{_⊕_, _⊗_, ⊖, 1ℤ}
-use Rattle.definitions.specs.Series.{Series, constant, 𝟙, _+ˢ_, -ˢ, _·_, _÷_, z^}
+use Rattle.definitions.specs.Series.{Series, constant, 𝟙, -ˢ, _·_, _÷_, z^}
 use Rattle.definitions.specs.Numbers.{divides}
 use Rattle.definitions.specs.Polynomials.{productTo, atDivisors, overDivisors, z^-1, familyTo, F, I}
 use Rattle.integers.specs.Solver.{:1, _:*_, :-}
@@ -21,6 +21,7 @@ use Rattle.series.specs.Laws.{Unitˢ, at-+ˢ, at--ˢ, div-mul, div-unique, canc
 use Rattle.series.specs.Laws.{·-comm, one-·, ·-one}
 use Rattle.series.specs.Maps.{off-z^}
 use Rattle.numbers.specs.Folds.{Monoid, foldTo, fold-same}
+use Rattle.numbers.specs.Divisors.{divisors-same}
 use Rattle.numbers.specs.Tests.{strong, divides-yes}
 
 -- ---- products of series are folds
@@ -51,10 +52,11 @@ pub unit-divisors : (n : ℕ) (g : ℕ → Series) (k : ℕ) → ((d : ℕ) → 
 unfolding atDivisors
 unit-divisors n g k u = unit-product (atDivisors n g) k (λ d l h. unit-cond (divides d n) (g d) (u d l h))
 
-divisors-same : {g h : ℕ → Series} (n k : ℕ) → ((d : ℕ) → 0 < d → d ≤ k → g d ≡ h d) → productTo k (atDivisors n g)
-    ≡ productTo k (atDivisors n h)
+pub over-same : {g h : ℕ → Series} (n k : ℕ) → ((d : ℕ) → 0 < d → d ≤ k → d ∣ n → g d ≡ h d)
+    → productTo k (atDivisors n g) ≡ productTo k (atDivisors n h)
 unfolding atDivisors
-divisors-same n k e = product-same k (λ d l h. ap (λ f. cond (divides d n) f 𝟙) (e d l h))
+over-same {g} {h} n k e =
+    product-fold k (atDivisors n g) ∙ divisors-same times n g h k e ∙ sym (product-fold k (atDivisors n h))
 
 -- the factor at n itself stands last
 pub last-divisor : (k : ℕ) (g : ℕ → Series) → overDivisors (suc k) g ≡ productTo k (atDivisors (suc k) g) · g (suc k)
@@ -98,7 +100,7 @@ F-zero = refl
 pub F-suc : (k : ℕ) → F (suc k) ≡ z^-1 (suc k) ÷ productTo k (atDivisors (suc k) F)
 F-suc k =
     sym (kept (suc k) (suc k) (NatL.le-refl (suc k))) ∙ made k
-    ∙ ap (λ q. z^-1 (suc k) ÷ q) (divisors-same (suc k) k (λ d l h. kept k d h))
+    ∙ ap (λ q. z^-1 (suc k) ÷ q) (over-same (suc k) k (λ d l h v. kept k d h))
 
 pub F-one : F 1 ≡ z^-1 1
 unfolding productTo
@@ -135,7 +137,7 @@ same-family G H u e = strong (λ n. 0 < n → G n ≡ H n) step
     step (suc k) ih h =
         cancel (G (suc k)) (H (suc k)) (productTo k (atDivisors (suc k) H)) (unit-divisors (suc k) H k (λ d l b. u d l))
         (·-comm (G (suc k)) (productTo k (atDivisors (suc k) H))
-        ∙ ap (λ q. q · G (suc k)) (sym (divisors-same (suc k) k (λ d l b. ih d (omega arith) l)))
+        ∙ ap (λ q. q · G (suc k)) (sym (over-same (suc k) k (λ d l b v. ih d (omega arith) l)))
         ∙ sym (last-divisor k G) ∙ e (suc k) h ∙ last-divisor k H
         ∙ ·-comm (productTo k (atDivisors (suc k) H)) (H (suc k)))
 

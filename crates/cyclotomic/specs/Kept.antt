@@ -28,11 +28,11 @@ use Rattle.step_laws.specs.Firsts.{length-firsts, getD-firsts, firsts-same}
 use Rattle.step_laws.specs.Signed.{add-sub}
 use Rattle.step_laws.specs.Step.{combed-from, stepped-below}
 use Rattle.step_laws.specs.Accumulated.{accumulated-from, accumulated-below}
-use Rattle.cyclotomic.specs.Family.{last-divisor, only-inverse}
+use Rattle.cyclotomic.specs.Family.{over-same, last-divisor, only-inverse}
 use Rattle.cyclotomic.specs.Degrees.{half-below}
 use Rattle.cyclotomic.specs.OnePrime.{divisors-both}
 use Rattle.cyclotomic.specs.Terms.{other, comb-below, comb-from, inverse-terms, terms, all-terms}
-use Rattle.cyclotomic.specs.Terms.{last-comb, over-same, over-ones}
+use Rattle.cyclotomic.specs.Terms.{last-comb, over-ones}
 
 -- ---- products over a list
 pub product-append : (fs gs : List Series) → productOf (fs ++ gs) ≡ productOf fs · productOf gs
@@ -82,7 +82,7 @@ below-both : (kind k : ℕ) → eqb kind 1 ≡ false → below kind k · below 1
 unfolding below term sortOf other
 below-both kind k e =
     divisors-both (suc k) (term kind (suc k)) (term 1 (suc k)) k
-    ∙ over-same (suc k) (λ d l h. inverts (muIsPlus (suc k / d)) d l) k
+    ∙ over-same (suc k) k (λ d l u h. inverts (muIsPlus (suc k / d)) d l)
     ∙ over-ones (suc k) k
   where
     inverts : (b : Bool) (d : ℕ) → 0 < d → termOf (cond (cond (eqb kind 1) b (not b)) comb accumulate) d

@@ -24,10 +24,9 @@ use Rattle.series.specs.Maps.{spread-z^}
 use Rattle.numbers.specs.Tests.{same, test-divides, divides-yes, divides-no}
 use Rattle.numbers.specs.Folds.{fold-units}
 use Rattle.numbers.specs.Primes.{Prime, prime-pos}
-use Rattle.numbers.specs.Divisors.{divisors-same}
 use Rattle.numbers.specs.HowMany.{primes-one, mu-turned}
 use Rattle.numbers.specs.Apart.{OddSquarefree, by-odd-primes}
-use Rattle.cyclotomic.specs.Family.{times, product-fold, F-one, unit-F, unit-divisors, last-divisor}
+use Rattle.cyclotomic.specs.Family.{times, product-fold, over-same, F-one, unit-F, unit-divisors, last-divisor}
 use Rattle.cyclotomic.specs.OnePrime.{split-divisors, unlessDivides, over-both, spread-divisors, prime-new}
 use Rattle.cyclotomic.specs.Signs.{Signed, signed, unsigned, minus-one, sign-step}
 
@@ -132,12 +131,6 @@ module _ (r p : ℕ) (O : OddSquarefree r) (P : Prime p) (new : ¬ (p ∣ r)) wh
   sort-kept e = ap (λ q. cond (muIsPlus q) comb accumulate) (NatL.mul-div-mul-right r e (prime-pos P))
 
 -- ---- products over divisors
-pub over-same : (n : ℕ) {g h : ℕ → Series} → ((d : ℕ) → 0 < d → d ∣ n → g d ≡ h d) → (k : ℕ)
-    → productTo k (atDivisors n g) ≡ productTo k (atDivisors n h)
-unfolding atDivisors
-over-same n {g} {h} e k =
-    product-fold k (atDivisors n g) ∙ divisors-same times n g h e k ∙ sym (product-fold k (atDivisors n h))
-
 pub cond-one : (b : Bool) → cond b 𝟙 𝟙 ≡ 𝟙
 cond-one true = refl
 cond-one false = refl
@@ -158,19 +151,19 @@ module _ (r p : ℕ) (O : OddSquarefree r) (P : Prime p) (new : ¬ (p ∣ r)) wh
   kept : overDivisors r (λ e. term 1 (r * p) (e * p)) ≡ spread p (terms r)
   unfolding terms overDivisors term
   kept =
-      over-same r
-      (λ e l h. ap (λ s. termOf s (e * p)) (sort-kept r p O P new e)
-      ∙ sym (spread-term p (prime-pos P) (sortOf 1 r e) e l)) r
+      over-same r r
+      (λ e l u h. ap (λ s. termOf s (e * p)) (sort-kept r p O P new e)
+      ∙ sym (spread-term p (prime-pos P) (sortOf 1 r e) e l))
       ∙ sym (spread-divisors p (prime-pos P) r (term 1 r) r)
 
   turned : overDivisors r (unlessDivides p (term 1 (r * p))) · terms r ≡ 𝟙
   unfolding terms overDivisors term unlessDivides
   turned =
       sym (over-both r (unlessDivides p (term 1 (r * p))) (term 1 r))
-      ∙ over-same r
-      (λ d l h.
+      ∙ over-same r r
+      (λ d l u h.
       ap (λ b. cond b 𝟙 (term 1 (r * p) d) · term 1 r d) (divides-no p d (λ e. new (NatL.dvd-trans p e h)))
-      ∙ ap (λ s. termOf s d · term 1 r d) (sort-turned r p O P new d h) ∙ inverse-terms (sortOf 1 r d) d l) r
+      ∙ ap (λ s. termOf s d · term 1 r d) (sort-turned r p O P new d h) ∙ inverse-terms (sortOf 1 r d) d l)
       ∙ over-ones r r
 
   terms-more : terms (r * p) · terms r ≡ spread p (terms r)

@@ -1,6 +1,6 @@
 -- The divisors of n p, for a prime p: those of n, and the p e with e a divisor of n where p e is none. Said of a fold
 -- over the divisors, in any commutative monoid: it carries the number theory of F, I and phi.
-use Prim.Native.Nat.{ℕ, _*_, _/_, _<_, _∣_}
+use Prim.Native.Nat.{ℕ, _*_, _/_, _<_, _≤_, _∣_}
 use mathlib.Core.Path.{_≡_, refl, sym, ap, ap₂, _∙_}
 use mathlib.Core.Bool.{Bool, true, false, cond, not, and-true, _&&_}
 use native.Mathlib.Nat.{dvd-trans, mul-div-assoc, mul-div-mul-left, dvd-mul-right, dvd-mul-right-of-dvd}
@@ -21,9 +21,9 @@ divides-times p e n l =
 -- two folds over divisors: of things that are equal at each divisor, and of two factors
 module _ {A : Type 0} (M : Monoid A) (n : ℕ) (g h : ℕ → A) where
   pub divisors-same :
-      ((d : ℕ) → 0 < d → d ∣ n → g d ≡ h d) → (k : ℕ)
+      (k : ℕ) → ((d : ℕ) → 0 < d → d ≤ k → d ∣ n → g d ≡ h d)
       → foldTo M (only M (λ d. divides d n) g) k ≡ foldTo M (only M (λ d. divides d n) h) k
-  divisors-same e k = fold-same M k (λ d l u. go (divides d n) (λ t. e d l (yes-divides d n t)))
+  divisors-same k e = fold-same M k (λ d l u. go (divides d n) (λ t. e d l u (yes-divides d n t)))
     where
       go : {x y : A} (b : Bool) → (b ≡ true → x ≡ y) → cond b x (M .unit) ≡ cond b y (M .unit)
       go true e = e refl

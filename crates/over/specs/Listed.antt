@@ -56,9 +56,9 @@ over-listed (more {p} {ps} P l R) h =
     let grow : Divisor → Divisor = λ x. (p * x .0, x .1) in
     split-new times (λ d. h d (muIsPlus (r * p / d))) P r (rising-pos R) new
     ∙ ap₂ _·_
-    (divisors-same times r _ _ (λ d l k. ap (h d) (mu-turned r p d (rising-pos R) P new k)) r
+    (divisors-same times r _ _ r (λ d l u k. ap (h d) (mu-turned r p d (rising-pos R) P new k))
     ∙ over-listed R (λ d b. h d (not b)))
-    (divisors-same times r _ _ (λ d l k. ap (λ q. h (p * d) (muIsPlus q)) (quotient-new r p d (prime-pos P))) r
+    (divisors-same times r _ _ r (λ d l u k. ap (λ q. h (p * d) (muIsPlus q)) (quotient-new r p d (prime-pos P)))
     ∙ over-listed R (λ d b. h (p * d) b))
     ∙ sym
     (ap productOf (map-append each (map turn (listed ps)) (map grow (listed ps)))

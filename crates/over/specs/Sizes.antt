@@ -82,18 +82,18 @@ module _ (first : Bool) (r p : ℕ) (O : OddSquarefree r) (P : Prime p) (new : �
   sizes-times =
       split-new products (λ d. sizeOf first (r * p / d)) P r (O .pos) new
       ∙ ap₂ _*_
-      (divisors-same products r _ _ (λ d l h. size-turned d h) r
+      (divisors-same products r _ _ r (λ d l u h. size-turned d h)
       ∙ divisors-both products r (λ d. sizeOf (not first) (r / d)) (λ d. p ^ accumulates (not first) (r / d)) r
       ∙ ap (λ e. foldTo products (only products (λ d. divides d r) (λ d. sizeOf (not first) (r / d))) r * e)
       (pow-fold p r (λ d. accumulates (not first) (r / d)) r))
-      (divisors-same products r _ _ (λ d l h. ap (sizeOf first) (quotient-new r p d (prime-pos P))) r)
+      (divisors-same products r _ _ r (λ d l u h. ap (sizeOf first) (quotient-new r p d (prime-pos P))))
 
   pub how-many-times : howMany first (r * p) ≡ howMany (not first) r + howMany first r
   unfolding howMany accumulates
   how-many-times =
       split-new sums (λ d. accumulates first (r * p / d)) P r (O .pos) new
-      ∙ ap₂ _+_ (divisors-same sums r _ _ (λ d l h. ap (λ b. cond b 0 1) (turned d h)) r)
-      (divisors-same sums r _ _ (λ d l h. ap (accumulates first) (quotient-new r p d (prime-pos P))) r)
+      ∙ ap₂ _+_ (divisors-same sums r _ _ r (λ d l u h. ap (λ b. cond b 0 1) (turned d h)))
+      (divisors-same sums r _ _ r (λ d l u h. ap (accumulates first) (quotient-new r p d (prime-pos P))))
 
 -- ---- in closed form
 one-size : (first : Bool) → (sizes first 1 ≡ cond first 2 1) × (howMany first 1 ≡ cond first 0 1)
