@@ -8,7 +8,7 @@ use mathlib.Core.List.{List, [], _∷_, map, map-append}
 use native.Mathlib.Omega.{arith}
 use native.Mathlib.Nat as NatL
 use native.Mathlib.Numerals.{add-one}
-use lib.ListN.{length, getD, take, length-take, length-replicate, List·getD-eq-default}
+use lib.ListN.{length, getD, take, length-take, length-replicate}
 use lib.Seq.{take-suc}
 use lib.IntN.{ℤ, natAbs}
 use Rattle.definitions.specs.Integers.{0ℤ}
@@ -23,12 +23,13 @@ use Rattle.numbers.specs.Below.{divisors-below}
 use Rattle.numbers.specs.Lists.{sum-append, sum-at-most}
 use Rattle.cyclotomic.specs.Degrees.{half-below}
 use Rattle.cyclotomic.specs.Kept.{kept-start}
-use Rattle.step_laws.specs.Bound.{Bounded}
+use Rattle.step_laws.specs.Bound.{Bounded, firsts-bounded}
 use Rattle.step_laws.specs.WorkingLimit.{Workable}
-use Rattle.step_laws.specs.Tests.{by-order}
-use Rattle.step_laws.specs.Firsts.{length-firsts, getD-firsts}
 use Rattle.divisors.specs.Walks.{taken, walkAt}
 use Rattle.divisors.proofs.Walking.{taken-at, stands-at}
+use Rattle.outlines.specs.Outlines.{Told, outlined}
+use Rattle.outlines.specs.declared.Outline.{Outline}
+use Rattle.outlines.proofs.Outlining.{outlined-length, first-told}
 use Rattle.kept.specs.Halves.{KeptHalfAt, DivisorOutcomeIs, RunOutcomeIs, WalkAtStart, KeptHalfIs}
 use Rattle.divisors.specs.declared.Walk.{Walk}
 use Rattle.kept.specs.declared.run.DivisorOutcome.{DivisorOutcome}
@@ -68,17 +69,18 @@ module _ (kind r : ℕ) (O : OddSquarefree r) (small : r ≤ 65535) (above : r �
       NatL.le-trans b (NatL.mul-le-mul n d)
 
 -- ---- where a run stands
-pub record Running (limit kind r i additions bound : ℕ) (at : Walk) (a : List ℤ) : Type 0 where
+pub record Running (limit kind r i additions bound : ℕ) (at : Walk) (o : Outline) (a : List ℤ) : Type 0 where
   pub walk : at ≡ walkAt r i
-  pub half : a ≡ keptHalf kind r i
-  pub bounded : Bounded bound (entries a)
+  pub told : Told o a
+  pub half : outlined o a ≡ keptHalf kind r i
+  pub bounded : Bounded bound (entries (outlined o a))
   pub inside : bound ≤ limit
   pub good : Workable limit
   pub clear : overAmong limit kind r i ≡ false
   pub sum : additions ≡ additionsAfter kind r i
 
 module _ (limit kind r : ℕ) (O : OddSquarefree r) (small : r ≤ 65535) (above : r ≢ 1) {i additions bound : ℕ}
-    {at : Walk} {a : List ℤ} (s : Running limit kind r i additions bound at a) (h : i < divisorsDue r) where
+    {at : Walk} {o : Outline} {a : List ℤ} (s : Running limit kind r i additions bound at o a) (h : i < divisorsDue r) where
   of-r : at .r ≡ r
   unfolding walkAt
   of-r = ap (λ (w : Walk). w .r) (s .walk)
@@ -87,12 +89,13 @@ module _ (limit kind r : ℕ) (O : OddSquarefree r) (small : r ≤ 65535) (above
   unfolding divisorsDue
   at-i = ap taken (s .walk) ∙ taken-at r i (omega arith)
 
-  pub stands : KeptHalfAt limit kind at bound a
+  pub stands : KeptHalfAt limit kind at bound o a
   unfolding divisorsDue
   stands =
       record {
         walk = rw (s .walk) (stands-at r i O small (omega arith));
         above = rw of-r above;
+        told = s .told;
         half = s .half ∙ sym (ap₂ (keptHalf kind) of-r at-i);
         bounded = s .bounded;
         inside = s .inside;
@@ -110,17 +113,18 @@ module _ (limit kind r : ℕ) (O : OddSquarefree r) (small : r ≤ 65535) (above
     pub count-here : t .count ≡ halfDegree kind r + 1 - nextDivisor r i
     count-here = u .count ∙ ap₂ (λ x k. halfDegree kind x + 1 - nextDivisor x k) of-r at-i
 
-    pub runs-on : t .over ≡ false → Running limit kind r (i + 1) (additions + t .count) (t .bound) (t .walk) m
+    pub runs-on : t .over ≡ false → Running limit kind r (i + 1) (additions + t .count) (t .bound) (t .walk) (t .outline) m
     unfolding overAmong
-    runs-on o =
+    runs-on q =
         rw (add-one i)
         (record {
           walk = u .after ∙ ap₂ (λ x k. walkAt x (suc k)) of-r at-i;
-          half = u .half o ∙ ap₂ (λ x k. keptHalf kind x (suc k)) of-r at-i;
-          bounded = u .bounded o;
+          told = u .told q;
+          half = u .half q ∙ ap₂ (λ x k. keptHalf kind x (suc k)) of-r at-i;
+          bounded = u .bounded q;
           inside = u .inside;
           good = s .good;
-          clear = ap₂ _||_ (s .clear) (sym over-here ∙ o);
+          clear = ap₂ _||_ (s .clear) (sym over-here ∙ q);
           sum = ap₂ _+_ (s .sum) count-here ∙ sym (sum-next kind r i h);
         })
 
@@ -129,7 +133,7 @@ module _ (limit kind r : ℕ) (O : OddSquarefree r) (small : r ≤ 65535) (above
 
     pub stops : t .over ≡ true → overAmong limit kind r (suc i) ≡ true
     unfolding overAmong
-    stops o = ap₂ _||_ (s .clear) (sym over-here ∙ o)
+    stops q = ap₂ _||_ (s .clear) (sym over-here ∙ q)
 
 -- one of the first steps is one of more
 over-more : (w kind r i : ℕ) → overAmong w kind r i ≡ true → overAmong w kind r (suc i) ≡ true
@@ -145,16 +149,18 @@ pub over-among : (w kind r i j : ℕ) → i ≤ j → overAmong w kind r i ≡ t
 over-among w kind r i j h e = ap (overAmong w kind r) (sym (NatL.add-sub-of-le h)) ∙ over-later w kind r i (j - i) e
 
 -- ---- the start and the end
-pub standing-length : {limit kind bound : ℕ} {w : Walk} {l : List ℤ} → KeptHalfAt limit kind w bound l
-    → length l ≡ halfDegree kind (w .r) + 1
-standing-length {kind = kind} {w = w} s = ap length (s .half) ∙ kept-length kind (w .r) (taken w)
+pub standing-length : {limit kind bound : ℕ} {w : Walk} {o : Outline} {l : List ℤ}
+    → KeptHalfAt limit kind w bound o l → length l ≡ halfDegree kind (w .r) + 1
+standing-length {kind = kind} {w = w} {o} {l} s =
+    sym (outlined-length o l) ∙ ap length (s .half) ∙ kept-length kind (w .r) (taken w)
 
-pub run-start : (limit kind r : ℕ) (at : Walk) (a : List ℤ) → KeptHalfAt limit kind at 1 a → at ≡ walkAt r 0
-    → Running limit kind r 0 0 1 at a
+pub run-start : (limit kind r : ℕ) (at : Walk) (o : Outline) (a : List ℤ) → KeptHalfAt limit kind at 1 o a
+    → at ≡ walkAt r 0 → Running limit kind r 0 0 1 at o a
 unfolding overAmong additionsAfter sumOf walkAt divisorsDue
-run-start limit kind r at a s e =
+run-start limit kind r at o a s e =
     record {
       walk = e;
+      told = s .told;
       half = s .half ∙ ap₂ (keptHalf kind) (ap (λ (w : Walk). w .r) e) (ap taken e ∙ taken-at r 0 (omega arith));
       bounded = s .bounded;
       inside = s .inside;
@@ -165,57 +171,62 @@ run-start limit kind r at a s e =
 
 pub ran-over : (limit kind r i j : ℕ) (m : List ℤ) → i < j → overAmong limit kind r (suc i) ≡ true
     → length m ≡ halfDegree kind r + 1
-    → RunOutcomeIs limit kind r j m (record { over = true; additions = 0; due = 0 })
+    → RunOutcomeIs limit kind r j m (record { over = true; additions = 0; due = 0; bound = 0 })
 ran-over limit kind r i j m h e n =
     record {
       over = sym (over-among limit kind r (suc i) j h e);
       half = λ o. absurd (true≢false o);
       inside = λ o. absurd (true≢false o);
+      bounded = λ o. absurd (true≢false o);
       additions = λ o. absurd (true≢false o);
       due = λ o. absurd (true≢false o);
       len = n;
     }
 
-pub ran : (limit kind r j additions bound : ℕ) (at : Walk) (a : List ℤ) → Running limit kind r j additions bound at a
-    → RunOutcomeIs limit kind r j a (record { over = false; additions = additions; due = at .due })
+pub ran :
+    (limit kind r j additions bound : ℕ) (at : Walk) (o : Outline) (a m : List ℤ)
+    → Running limit kind r j additions bound at o a → m ≡ outlined o a
+    → RunOutcomeIs limit kind r j m (record { over = false; additions = additions; due = at .due; bound = bound })
 unfolding divisorsDue walkAt
-ran limit kind r j additions bound at a s =
+ran limit kind r j additions bound at o a m s e =
     record {
       over = sym (s .clear);
-      half = λ o. s .half;
-      inside = λ o k. NatL.le-trans (s .bounded k) (s .inside);
-      additions = λ o. s .sum;
-      due = λ o. ap (λ (w : Walk). w .due) (s .walk);
-      len = ap length (s .half) ∙ kept-length kind r j;
+      half = λ q. e ∙ s .half;
+      inside = λ q k. NatL.le-trans (small k) (s .inside);
+      bounded = λ q. small;
+      additions = λ q. s .sum;
+      due = λ q. ap (λ (w : Walk). w .due) (s .walk);
+      len = ap length (e ∙ s .half) ∙ kept-length kind r j;
     }
+  where
+    small : Bounded bound (entries m)
+    small = rw e (s .bounded)
 
 -- ---- a walk that has taken nothing, and the start of the kept half
 start-at-most : (kind k : ℕ) → natAbs (start kind k) ≤ 1
 start-at-most kind zero = rw (start-first kind) (omega arith)
 start-at-most kind (suc k) = rw (start-later kind k) (omega arith)
 
-pub start-bounded : (kind n : ℕ) → Bounded 1 (entries (firsts n (start kind)))
-unfolding entries
-start-bounded kind n k =
-    by-order k n (λ h. rw (getD-firsts n (start kind) k h) (start-at-most kind k))
-    (λ h. rw (List·getD-eq-default (firsts n (start kind)) 0ℤ {n = k} (omega (arith, length-firsts n (start kind))))
-    (omega arith))
-
+-- the first entry tells the start
 pub fresh-stands :
-    (limit kind : ℕ) (w : Walk) (l : List ℤ) (n : ℕ) → Workable limit → WalkAtStart w → n ≡ halfDegree kind (w .r) + 1
-    → l ≡ firsts n (start kind)
-    → KeptHalfAt limit kind w 1 l
+    (limit kind : ℕ) (w : Walk) (l : List ℤ) → Workable limit → WalkAtStart w → length l ≡ halfDegree kind (w .r) + 1
+    → entries l 0 ≡ start kind 0
+    → KeptHalfAt limit kind w 1 (record { told = 1; repeats = false }) l
 unfolding divisorsDue
-fresh-stands limit kind w l n good f len e =
+fresh-stands limit kind w l good f len e =
     record {
       walk = rw (f .here) (stands-at (w .r) 0 (f .squarefree) (f .small) (omega arith));
       above = f .above;
-      half = e ∙ ap (λ k. firsts k (start kind)) len ∙ sym (kept-start kind (w .r))
+      told = record { some = omega arith; room = omega arith };
+      half = started ∙ ap (λ k. firsts k (start kind)) len ∙ sym (kept-start kind (w .r))
           ∙ sym (ap (keptHalf kind (w .r)) (ap taken (f .here) ∙ taken-at (w .r) 0 (omega arith)));
-      bounded = rw e (start-bounded kind n);
+      bounded = rw started (firsts-bounded 1 (length l) (start kind) (λ k h. start-at-most kind k));
       inside = good .0;
       good = good;
     }
+  where
+    started : outlined (record { told = 1; repeats = false }) l ≡ firsts (length l) (start kind)
+    started = first-told l (start kind) e (start-later kind)
 
 pub made-zeros : (limit kind r j : ℕ) (m l : List ℤ) (h : RunOutcome) → RunOutcomeIs limit kind r j m h → h .over ≡ true
     → l ≡ zeros (length m)
@@ -228,6 +239,7 @@ made-zeros limit kind r j m l h t o e =
             over = t .over;
             half = λ q. absurd (both q);
             inside = λ q. absurd (both q);
+            bounded = λ q. absurd (both q);
             additions = λ q. absurd (both q);
             due = λ q. absurd (both q);
             len = ap length e ∙ length-replicate (length m) 0ℤ ∙ t .len;

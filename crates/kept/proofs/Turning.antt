@@ -10,7 +10,7 @@ use lib.ListN.{length}
 use lib.Dec.{eqb}
 use lib.IntN.{ℤ}
 use Rattle.definitions.specs.Numbers.{divides, divisorsBelow, muIsPlus}
-use Rattle.definitions.specs.Steps.{Sort, comb, accumulate, stepList}
+use Rattle.definitions.specs.Steps.{Sort, comb, accumulate, stepOver, stepList}
 use Rattle.definitions.specs.KeptHalf.{halfDegree, sortOf, keptSeries, keptHalf}
 use Rattle.definitions.specs.Requests.{divisorsDue, nextDivisor, overAt}
 use Rattle.numbers.specs.Lists.{entry-has}
@@ -18,14 +18,16 @@ use Rattle.step_laws.specs.Firsts.{length-firsts}
 use Rattle.cyclotomic.specs.Kept.{step-kept}
 use Rattle.divisors.specs.Walks.{taken, walkAt, nextOf, divisorAt}
 use Rattle.divisors.proofs.Walking.{next-more}
-use Rattle.bounded.specs.Outcome.{StepOutcomeIs}
-use Rattle.bounded.proofs.Outcomes.{outcome-length}
+use Rattle.outlines.specs.Outlines.{outlined}
+use Rattle.outlines.specs.Outcome.{StepDue, OutlinedOutcomeIs}
+use Rattle.outlines.proofs.Outlining.{outlined-length}
 use Rattle.kept.specs.Halves.{KeptHalfAt, DivisorOutcomeIs}
 use Rattle.divisors.specs.declared.Walk.{Walk}
 use Rattle.divisors.specs.declared.NextAndWalk.{NextAndWalk}
 use Rattle.divisors.specs.declared.Next.{Next}
 use Rattle.divisors.specs.declared.Next.the-variants.{Divisor, Nothing}
-use Rattle.bounded.specs.declared.StepOutcome.{StepOutcome}
+use Rattle.outlines.specs.declared.Outline.{Outline}
+use Rattle.outlines.specs.declared.OutlinedOutcome.{OutlinedOutcome}
 use Rattle.kept.specs.declared.run.DivisorOutcome.{DivisorOutcome}
 
 pub kept-length : (kind r j : ℕ) → length (keptHalf kind r j) ≡ halfDegree kind r + 1
@@ -37,7 +39,7 @@ pub divisor-in : (r j : ℕ) → j < divisorsDue r → (0 < nextDivisor r j) × 
 unfolding nextDivisor divisorsDue divisorsBelow
 divisor-in r j h = let e = entry-has (λ d. divides d r) (r - 1) j h in (e .0, e .1)
 
-module _ (limit kind : ℕ) (w : Walk) (bound : ℕ) (l : List ℤ) (st : KeptHalfAt limit kind w bound l)
+module _ (limit kind : ℕ) (w : Walk) (bound : ℕ) (o : Outline) (l : List ℤ) (st : KeptHalfAt limit kind w bound o l)
     (more : 0 < w .due) where
   r : ℕ
   r = w .r
@@ -85,31 +87,42 @@ module _ (limit kind : ℕ) (w : Walk) (bound : ℕ) (l : List ℤ) (st : KeptHa
       pub size-good : 1 ≤ size
       size-good = omega (arith, size-is, divisor-in (w .r) (taken w) still .0)
 
+      pub step-due : StepDue limit bound size o l
+      step-due =
+          record {
+            told = st .told;
+            size = size-good;
+            bounded = st .bounded;
+            inside = st .inside;
+            good = st .good;
+          }
+
       pub turned :
           (s : Sort) → s ≡ cond (cond (eqb kind 1) plus (not plus)) comb accumulate
-          → (m : List ℤ) (v : StepOutcome) (count : ℕ)
-          → StepOutcomeIs limit s size bound l m v → count ≡ length l - size
-          → DivisorOutcomeIs limit kind w m (record { over = v .over; count = count; bound = v .bound; walk = t .walk })
+          → (m : List ℤ) (v : OutlinedOutcome) (count : ℕ)
+          → OutlinedOutcomeIs limit s size (outlined o l) m v → count ≡ length l - size
+          → DivisorOutcomeIs limit kind w m
+          (record { over = v .over; count = count; bound = v .bound; outline = v .outline; walk = t .walk })
       unfolding overAt sortOf divisorsDue
       turned s es m v count a ec =
           record {
-            over = a .over ∙ ap₂ (λ x d. Rattle.definitions.specs.Steps.stepOver limit x d l) sort-is size-is
-                ∙ ap (λ x. Rattle.definitions.specs.Steps.stepOver limit (sortOf kind (w .r) d) d x) (st .half);
+            over = a .over ∙ ap₂ (λ x d. stepOver limit x d (outlined o l)) sort-is size-is
+                ∙ ap (λ x. stepOver limit (sortOf kind (w .r) d) d x) (st .half);
             after = ap (λ (x : NextAndWalk). x .walk) (e ∙ handed);
-            half = λ o. a .leaves ∙ ap (λ b. cond b l (stepList s size l)) o
-                ∙ ap₂ (λ x d. stepList x d l) sort-is size-is
+            told = a .told;
+            half = λ q. a .leaves q ∙ ap₂ (λ x d. stepList x d (outlined o l)) sort-is size-is
                 ∙ ap (stepList (sortOf kind (w .r) d) d) (st .half)
                 ∙ step-kept kind (w .r) (taken w) still (divisor-in (w .r) (taken w) still .0);
             bounded = a .bounded;
-            inside = a .inside (st .inside);
-            count = ec ∙ ap₂ (λ n d. n - d) l-length size-is;
-            len = outcome-length a ∙ l-length;
+            inside = a .inside;
+            count = ec ∙ ap₂ (λ n d. n - d) (sym (outlined-length o l) ∙ l-length) size-is;
+            len = a .len ∙ l-length;
           }
         where
           d : ℕ
           d = nextDivisor (w .r) (taken w)
 
-          l-length : length l ≡ halfDegree kind (w .r) + 1
+          l-length : length (outlined o l) ≡ halfDegree kind (w .r) + 1
           l-length = ap length (st .half) ∙ kept-length kind (w .r) (taken w)
 
           sort-is : s ≡ sortOf kind (w .r) d

@@ -17,16 +17,19 @@ use Rattle.index.specs.Parts.{partsOf}
 use Rattle.index.specs.declared.Parts.{Parts}
 use Rattle.divisors.specs.Walks.{Stands, taken, walkAt}
 use Rattle.divisors.specs.declared.Walk.{Walk}
+use Rattle.outlines.specs.Outlines.{Told, outlined}
+use Rattle.outlines.specs.declared.Outline.{Outline}
 use Rattle.kept.specs.declared.run.DivisorOutcome.{DivisorOutcome}
 use Rattle.kept.specs.declared.RunOutcome.{RunOutcome}
 
--- the walk over r's divisors stands at some place, and l is the kept half there, of magnitudes within the bound, which
--- is within the working limit
-pub record KeptHalfAt (limit kind : ℕ) (w : Walk) (bound : ℕ) (l : List ℤ) : Type 0 where
+-- the walk over r's divisors stands at some place, and o tells in l the kept half there, of magnitudes within the bound,
+-- which is within the working limit
+pub record KeptHalfAt (limit kind : ℕ) (w : Walk) (bound : ℕ) (o : Outline) (l : List ℤ) : Type 0 where
   pub walk : Stands w
   pub above : w .r ≢ 1
-  pub half : l ≡ keptHalf kind (w .r) (taken w)
-  pub bounded : Bounded bound (entries l)
+  pub told : Told o l
+  pub half : outlined o l ≡ keptHalf kind (w .r) (taken w)
+  pub bounded : Bounded bound (entries (outlined o l))
   pub inside : bound ≤ limit
   pub good : Workable limit
 
@@ -34,8 +37,9 @@ pub record KeptHalfAt (limit kind : ℕ) (w : Walk) (bound : ℕ) (l : List ℤ)
 pub record DivisorOutcomeIs (limit kind : ℕ) (w : Walk) (m : List ℤ) (r : DivisorOutcome) : Type 0 where
   pub over : r .over ≡ overAt limit kind (w .r) (taken w)
   pub after : r .walk ≡ walkAt (w .r) (suc (taken w))
-  pub half : r .over ≡ false → m ≡ keptHalf kind (w .r) (suc (taken w))
-  pub bounded : r .over ≡ false → Bounded (r .bound) (entries m)
+  pub told : r .over ≡ false → Told (r .outline) m
+  pub half : r .over ≡ false → outlined (r .outline) m ≡ keptHalf kind (w .r) (suc (taken w))
+  pub bounded : r .over ≡ false → Bounded (r .bound) (entries (outlined (r .outline) m))
   pub inside : r .bound ≤ limit
   pub count : r .count ≡ halfDegree kind (w .r) + 1 - nextDivisor (w .r) (taken w)
   pub len : length m ≡ halfDegree kind (w .r) + 1
@@ -45,6 +49,7 @@ pub record RunOutcomeIs (limit kind r j : ℕ) (m : List ℤ) (h : RunOutcome) :
   pub over : h .over ≡ overAmong limit kind r j
   pub half : h .over ≡ false → m ≡ keptHalf kind r j
   pub inside : h .over ≡ false → Bounded limit (entries m)
+  pub bounded : h .over ≡ false → Bounded (h .bound) (entries m)
   pub additions : h .over ≡ false → h .additions ≡ additionsAfter kind r j
   pub due : h .over ≡ false → h .due ≡ divisorsDue r - j
   pub len : length m ≡ halfDegree kind r + 1

@@ -17,11 +17,13 @@ ghost use Rattle.step_laws.specs.WorkingLimit.{Workable};
 ghost use Rattle.answers.specs.Partial as Partial;
 ghost use Rattle.kept.specs.Halves.{StepsDue, KeptHalfIs};
 
-// The outcome of a run of steps: a value that passes the working limit, or the additions and the divisors still due.
+// The outcome of a run of steps: a value that passes the working limit, or the additions, the divisors still due and a
+// bound of the magnitudes.
 pub struct RunOutcome {
     pub over: bool,
     pub additions: u64,
     pub due: u64,
+    pub bound: u64,
 }
 
 // The kept half for n's r after all its divisors' steps, in a slice of D + 1 entries; zeros where a value would pass w.

@@ -10,10 +10,11 @@ use native.Mathlib.Omega.{arith}
 use lib.ListN.{length, List·getD-eq-default}
 use lib.IntN.{ℤ, natAbs}
 use Rattle.definitions.specs.Integers.{0ℤ}
-use Rattle.definitions.specs.Series.{Series}
+use Rattle.definitions.specs.Series.{Series, firsts}
 use Rattle.definitions.specs.Steps.{Sort, comb, accumulate, combed, accumulated, stepped, inRange, entries, stepOver}
 use Rattle.definitions.specs.Steps.{stepList}
 use Rattle.step_laws.specs.Tests.{by-order}
+use Rattle.step_laws.specs.Firsts.{firsts-here, firsts-past}
 use Rattle.step_laws.specs.Signed.{abs-⊕, abs-⊝, in-range, range-in}
 use Rattle.step_laws.specs.Accumulated.{accumulated-from, accumulated-below, by-chain}
 use Rattle.step_laws.specs.Step.{combed-from, stepped-below, getD-stepList, getD-stepList-below, length-stepList}
@@ -96,3 +97,8 @@ stays-inside w s d l h t k =
     (λ low. rw (getD-stepList-below s d l k low in′) (h k))
     (λ high. rw (getD-stepList s d l k in′) (range-in w _ (not-over-each s d l w t k high in′))))
     (λ out. rw (List·getD-eq-default (stepList s d l) 0ℤ {n = k} (omega (arith, length-stepList s d l))) (omega arith))
+
+-- a list of first values is bounded where they are: past its end stand zeros
+pub firsts-bounded : (b n : ℕ) (f : Series) → ((i : ℕ) → i < n → natAbs (f i) ≤ b) → Bounded b (entries (firsts n f))
+firsts-bounded b n f h k =
+    by-order k n (λ l. rw (firsts-here n f k l) (h k l)) (λ l. rw (firsts-past n f k l) (omega arith))

@@ -2,10 +2,10 @@
 -- its entries. By induction on n.
 use mathlib.Core.Path.{_≡_, refl, sym, _∙_, ap}
 use mathlib.Core.List.{List}
-use Prim.Native.Nat.{ℕ, zero, suc, _<_}
+use Prim.Native.Nat.{ℕ, zero, suc, _<_, _≤_}
 use native.Mathlib.Nat.{not-suc-le-zero, le-of-suc-le-suc}
 use native.Mathlib.Omega.{arith}
-use lib.ListN.{length, getD}
+use lib.ListN.{length, getD, List·getD-eq-default}
 use lib.Seq.{ext-getD}
 use lib.IntN.{ℤ}
 use Rattle.definitions.specs.Integers.{0ℤ}
@@ -37,3 +37,17 @@ firsts-entries l = sym (is-firsts (length l) (entries l) l refl (λ k h. refl))
 -- only the first n entries count
 pub firsts-same : (n : ℕ) (f g : Series) → ((k : ℕ) → k < n → f k ≡ g k) → firsts n f ≡ firsts n g
 firsts-same n f g h = is-firsts n g (firsts n f) (length-firsts n f) (λ k b. getD-firsts n f k b ∙ h k b)
+
+-- past the end of a list stand zeros
+pub entries-past : (l : List ℤ) (k : ℕ) → length l ≤ k → entries l k ≡ 0ℤ
+unfolding entries
+entries-past l k h = List·getD-eq-default l 0ℤ {n = k} h
+
+-- the entries of the firsts
+module _ (n : ℕ) (f : Series) (k : ℕ) where
+  pub firsts-here : k < n → entries (firsts n f) k ≡ f k
+  unfolding entries
+  firsts-here h = getD-firsts n f k h
+
+  pub firsts-past : n ≤ k → entries (firsts n f) k ≡ 0ℤ
+  firsts-past h = entries-past (firsts n f) k (omega (arith, length-firsts n f))

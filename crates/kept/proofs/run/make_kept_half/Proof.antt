@@ -1,22 +1,33 @@
 -- `make_kept_half` meets its contract: the start, the run, and zeros where a value would pass the limit.
-use mathlib.Core.Path.{sym, _∙_}
+use mathlib.Core.Path.{sym, _∙_, ap}
 use mathlib.Core.Bool.{true≢false}
-use lib.ListN.{length}
+use native.Mathlib.Omega.{arith}
+use lib.ListN.{length, length-set}
+use lib.Seq.{getD-set-same}
+use Rattle.definitions.specs.Integers.{0ℤ}
+use Rattle.definitions.specs.Steps.{entries}
+use Rattle.step_laws.specs.Machine.{seen}
+use Rattle.kept.proofs.Starting.{start-seen}
 use Rattle.kept.proofs.Running.{fresh-stands, made-zeros}
 use borrow.Author.Needs.{needs}
 use Rattle.kept.proofs.run.make_kept_half.Statement.{statement}
 use Rattle.kept.proofs.run.make_kept_half.Tie as tie
 
-start-kept-half-requires : tie.Need-start-kept-half-requires
-start-kept-half-requires c κs = search needs
+first-of-requires : tie.Need-first-of-requires
+first-of-requires c κs = search needs
+
+slice-set-from-first : tie.Need-slice-set-from-first
+slice-set-from-first c = search needs
 
 take-divisors-requires : tie.Need-take-divisors-requires
+unfolding entries
 take-divisors-requires c κs =
-    let p = c .before .before .before .before in (
-      fresh-stands (p .args .w) (p .args .kind) (p .args .walk) _ _ (p .pre .1) (p .pre .0 .0) (p .pre .0 .1)
-          (c .before .before .start-kept-half .ensures),
-      p .pre .0 .0 .here,
-      p .pre .0 .2,
+    let p = c .before .before in (
+      fresh-stands (p .args .w) (p .args .kind) (p .args .walk) _ (p .pre .1) (p .pre .0 .0)
+          (length-set (p .args .a .now) 0 _ ∙ p .pre .0 .1)
+          (getD-set-same (p .args .a .now) 0 _ 0ℤ (omega arith)
+          ∙ ap seen (c .before .first-of .ensures) ∙ start-seen (p .args .kind)),
+      (p .pre .0 .0 .here, p .pre .0 .2),
     )
 
 clear-requires : tie.Need-clear-requires
@@ -40,7 +51,8 @@ pub make-kept-half-spec : {M : Type 1} → statement M
 make-kept-half-spec =
     tie.close
     (tie.spec
-    start-kept-half-requires
+    first-of-requires
+    slice-set-from-first
     take-divisors-requires
     clear-requires
     same-length

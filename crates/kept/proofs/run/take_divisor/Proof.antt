@@ -1,7 +1,7 @@
 -- `take_divisor` meets its contract: the walk hands out the divisor at its place, and the step on the kept half there
 -- is the next kept half (Turning).
 use Rattle.passes.specs.Sorts.{sortMeans}
-use Rattle.kept.proofs.Turning.{size-good, turned, not-nothing}
+use Rattle.kept.proofs.Turning.{step-due, turned, not-nothing}
 use borrow.Author.Needs.{needs}
 use Rattle.kept.proofs.run.take_divisor.Statement.{statement}
 use Rattle.kept.proofs.run.take_divisor.Tie as tie
@@ -15,15 +15,14 @@ enum-known-next c = search needs
 sort-for-requires : tie.Need-sort-for-requires
 sort-for-requires c κs = search needs
 
-take-step-requires : tie.Need-take-step-requires
-take-step-requires c κs =
+take-outlined-requires : tie.Need-take-outlined-requires
+take-outlined-requires c κs =
     let q = c .before .before .before in
     let p = q .before .before .before .before in
-    let g = size-good (p .args .w) (p .args .kind) (p .args .walk) (p .args .bound) (p .args .a .now) (p .pre .0)
-    (p .pre .1) _
+    step-due (p .args .w) (p .args .kind) (p .args .walk) (p .args .bound) (p .args .outline) (p .args .a .now)
+    (p .pre .0) (p .pre .1) _
     (q .before .before .before .next .ensures) (q .next2 .given .0 .0) (q .next2 .given .0 .1 .0)
-    (q .next2 .given .1) in
-    (g, p .pre .0 .bounded, p .pre .0 .good)
+    (q .next2 .given .1)
 
 count-of-requires : tie.Need-count-of-requires
 count-of-requires c κs = search needs
@@ -36,19 +35,19 @@ same-length c = search needs
 
 returns : tie.Need-returns
 returns c =
-    let q = c .before .before .before .before .before .before in
+    let q = c .before .before .before .before .before .before .before in
     let p = q .before .before .before .before in
-    turned (p .args .w) (p .args .kind) (p .args .walk) (p .args .bound) (p .args .a .now) (p .pre .0) (p .pre .1)
+    turned (p .args .w) (p .args .kind) (p .args .walk) (p .args .bound) (p .args .outline) (p .args .a .now) (p .pre .0) (p .pre .1)
     (q .before .before .before .next .result) (q .before .before .before .next .ensures) (q .next2 .given .0 .0)
-    (q .next2 .given .0 .1 .0) (q .next2 .given .1) (sortMeans (c .before .before .before .before .sort-for .result))
-    (c .before .before .before .before .sort-for .ensures) (c .before .before .take-step .last .0)
-    (c .before .before .take-step .result)
-    (c .count-of .result) (c .before .before .take-step .ensures) (c .count-of .ensures)
+    (q .next2 .given .0 .1 .0) (q .next2 .given .1) (sortMeans (c .before .before .before .before .before .sort-for .result))
+    (c .before .before .before .before .before .sort-for .ensures) (c .before .before .before .take-outlined .last .0)
+    (c .before .before .before .take-outlined .result)
+    (c .count-of .result) (c .before .before .before .take-outlined .ensures) (c .count-of .ensures)
 
 returns-2 : tie.Need-returns-2
 returns-2 c =
     let p = c .before .before .before .before in
-    absurd (not-nothing (p .args .w) (p .args .kind) (p .args .walk) (p .args .bound) (p .args .a .now) (p .pre .0)
+    absurd (not-nothing (p .args .w) (p .args .kind) (p .args .walk) (p .args .bound) (p .args .outline) (p .args .a .now) (p .pre .0)
     (p .pre .1) _
     (c .before .before .before .next .ensures) (c .enum-told .given .1))
 
@@ -59,7 +58,7 @@ take-divisor-spec =
     next-requires
     enum-known-next
     sort-for-requires
-    take-step-requires
+    take-outlined-requires
     count-of-requires
     enum-told
     same-length

@@ -10,17 +10,17 @@ use Rattle.kept.proofs.run.take_divisors.Statement.{statement}
 use Rattle.kept.proofs.run.take_divisors.Tie as tie
 
 abbrev Inv-loop : tie.InvT-loop
-Inv-loop a₀ kind j w at₀ additions₀ bound₀ i₀ a at additions bound i =
-    (i ≤ j) × Running w kind (at₀ .r) i additions bound at a
+Inv-loop a₀ kind j w at₀ outline₀ additions₀ bound₀ i₀ a at outline additions bound i =
+    (i ≤ j) × Running w kind (at₀ .r) i additions bound at outline a
 
 abbrev μ-loop : tie.MeasureT-loop
-μ-loop a₀ kind j w at₀ additions₀ bound₀ i₀ a at additions bound i = j - i
+μ-loop a₀ kind j w at₀ outline₀ additions₀ bound₀ i₀ a at outline additions bound i = j - i
 
 loop-holds : tie.Need-loop-holds Inv-loop μ-loop
 loop-holds c = (
   omega arith,
-  run-start (c .args .w) (c .args .kind) (c .args .walk .r) (c .args .walk) (c .args .a .now) (c .pre .0)
-      (c .pre .1),
+  run-start (c .args .w) (c .args .kind) (c .args .walk .r) (c .args .walk) _ (c .args .a .now) (c .pre .0)
+      (c .pre .1 .0),
 )
 
 take-divisor-requires : tie.Need-take-divisor-requires Inv-loop μ-loop
@@ -77,28 +77,33 @@ loop-less c = omega arith
 
 loop-again : tie.Need-loop-again Inv-loop μ-loop
 loop-again c =
-    let q = c .before .before .before .before .before .before .before in
+    let q = c .before .before .before .before .before .before .before .before in
     let p = q .before in (
       omega arith,
       runs-on (p .args .w) (p .args .kind) (p .args .walk .r) (p .pre .0 .walk .squarefree) (p .pre .0 .walk .small)
-          (p .pre .0 .above) (q .loop .inv .1) (omega arith) (c .before .before .before .before .take-divisor .ensures)
-          (c .before .if1 .left),
+          (p .pre .0 .above) (q .loop .inv .1) (omega arith)
+          (c .before .before .before .before .before .take-divisor .ensures) (c .before .before .if1 .left),
     )
+
+write-out-requires : tie.Need-write-out-requires Inv-loop μ-loop
+write-out-requires c κs = c .before .before .loop .inv .1 .told
 
 same-length-2 : tie.Need-same-length-2 Inv-loop μ-loop
 same-length-2 c =
-    let p = c .before .before in
-    ap length (c .before .loop .inv .1 .half) ∙ kept-length (p .args .kind) (p .args .walk .r) (c .before .loop .i)
+    let q = c .before .before .before .before in
+    let p = q .before in
+    ap length (c .before .write-out .ensures ∙ q .loop .inv .1 .half)
+    ∙ kept-length (p .args .kind) (p .args .walk .r) (q .loop .i)
     ∙ sym (standing-length (p .pre .0))
 
 returns-2 : tie.Need-returns-2 Inv-loop μ-loop
 returns-2 c =
-    let q = c .before in
+    let q = c .before .before .before .before in
     let p = q .before in
     let e : q .loop .i ≡ p .args .j = omega arith in
     ran (p .args .w) (p .args .kind) (p .args .walk .r) (p .args .j) (q .loop .additions) (q .loop .bound)
-    (q .loop .at) (q .loop .a)
-    (rw e at (q .loop .inv .1))
+    (q .loop .at) (q .loop .outline) (q .loop .a) _
+    (rw e at (q .loop .inv .1)) (c .before .write-out .ensures)
 
 pub take-divisors-spec : {M : Type 1} → statement M
 take-divisors-spec =
@@ -114,5 +119,6 @@ take-divisors-spec =
     add-i
     loop-less
     loop-again
+    write-out-requires
     same-length-2
     returns-2)

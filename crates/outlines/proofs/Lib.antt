@@ -1,0 +1,3 @@
+-- Laws that the functions' proofs share, and `kept`'s.
+pub mod Repeats
+pub mod Outlining

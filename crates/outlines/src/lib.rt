@@ -1,0 +1,173 @@
+// Inner: each `requires` is shown by the caller `kept`. Steps on entries that are told by the first few of them, after
+// which come zeros or the same again. The first steps of a run make such entries, so that most of them need not be
+// written one step after the other.
+mod again;
+
+use again::repeat;
+use bounded::take_step;
+use passes::Sort;
+ghost use Prim.Native.Nat.{_%_, _≤_, _<_, min};
+ghost use mathlib.Core.Path.{_≡_};
+ghost use mathlib.Core.Bool.{true, false};
+ghost use lib.ListN.{length};
+ghost use Rattle.definitions.specs.Steps.{comb, accumulate};
+ghost use Rattle.passes.specs.Sorts.{sortMeans};
+ghost use Rattle.outlines.specs.Outlines.{Told, outlined};
+ghost use Rattle.outlines.specs.Outcome.{StepDue, OutlinedOutcomeIs};
+
+// So many entries are told; after them come zeros, or they are repeated.
+pub struct Outline {
+    pub told: usize,
+    pub repeats: bool,
+}
+
+// The outcome of one step: a value that passes the working limit, or the bound of the magnitudes after it, and what
+// tells the entries.
+pub struct OutlinedOutcome {
+    pub over: bool,
+    pub bound: u64,
+    pub outline: Outline,
+}
+
+// All entries, written.
+pub fn write_out(a: &mut [i64], o: Outline)
+    requires { ⌜ Told o (now a) ⌝ }
+    ensures { λ _. ⌜ now (a .exit) ≡ outlined o (now (a .entry)) ⌝ }
+{
+    let told = o.told;
+    if o.repeats {
+        repeat(a, told);
+        return;
+    }
+    let n = a.len();
+    shapes::clear(&mut a[told..n]);
+}
+
+fn smaller(a: usize, b: usize) -> usize
+    ensures { λ r. ⌜ r ≡ min a b ⌝ }
+{
+    if a < b { a } else { b }
+}
+
+// A step on all entries.
+fn take_whole(a: &mut [i64], o: Outline, sort: Sort, d: u64, bound: u64, w: u64) -> OutlinedOutcome
+    requires { ⌜ StepDue w bound d o (now a) ⌝ }
+    ensures { λ r. ⌜ OutlinedOutcomeIs w (sortMeans sort) d (outlined o (now (a .entry))) (now (a .exit)) r ⌝ }
+{
+    write_out(a, o);
+    let outcome = take_step(a, sort, d, bound, w);
+    OutlinedOutcome {
+        over: outcome.over,
+        bound: outcome.bound,
+        outline: Outline {
+            told: a.len(),
+            repeats: false,
+        },
+    }
+}
+
+// A comb before zeros: it reaches d further, and there are zeros again.
+fn comb_before_zeros(a: &mut [i64], o: Outline, d: u64, bound: u64, w: u64) -> OutlinedOutcome
+    requires { ⌜ StepDue w bound d o (now a) × (o .repeats ≡ false) × (d < length (now a)) ⌝ }
+    ensures { λ r. ⌜ OutlinedOutcomeIs w comb d (outlined o (now (a .entry))) (now (a .exit)) r ⌝ }
+{
+    let told = o.told;
+    let to = smaller(told + d as usize, a.len());
+    shapes::clear(&mut a[told..to]);
+    let outcome = take_step(&mut a[..to], Sort::Comb, d, bound, w);
+    OutlinedOutcome {
+        over: outcome.over,
+        bound: outcome.bound,
+        outline: Outline {
+            told: to,
+            repeats: false,
+        },
+    }
+}
+
+// A comb whose size is a multiple of the period: what is repeated goes away, and the first d entries stay.
+fn comb_of_repeated(a: &mut [i64], o: Outline, d: u64, bound: u64, w: u64) -> OutlinedOutcome
+    requires { ⌜ StepDue w bound d o (now a) × (o .repeats ≡ true) × (d < length (now a)) × (d % (o .told) ≡ 0) ⌝ }
+    ensures { λ r. ⌜ OutlinedOutcomeIs w comb d (outlined o (now (a .entry))) (now (a .exit)) r ⌝ }
+{
+    let to = d as usize;
+    repeat(&mut a[..to], o.told);
+    OutlinedOutcome {
+        over: false,
+        bound,
+        outline: Outline {
+            told: to,
+            repeats: false,
+        },
+    }
+}
+
+// An accumulate before zeros that are no nearer than d: it repeats the first d entries.
+fn accumulate_before_zeros(a: &mut [i64], o: Outline, d: u64, bound: u64, w: u64) -> OutlinedOutcome
+    requires { ⌜ StepDue w bound d o (now a) × (o .repeats ≡ false) × (d < length (now a)) × (o .told ≤ d) ⌝ }
+    ensures { λ r. ⌜ OutlinedOutcomeIs w accumulate d (outlined o (now (a .entry))) (now (a .exit)) r ⌝ }
+{
+    let told = o.told;
+    let to = d as usize;
+    shapes::clear(&mut a[told..to]);
+    OutlinedOutcome {
+        over: false,
+        bound,
+        outline: Outline {
+            told: to,
+            repeats: true,
+        },
+    }
+}
+
+// A comb of size d, which is below the number of entries.
+fn take_comb(a: &mut [i64], o: Outline, d: u64, bound: u64, w: u64) -> OutlinedOutcome
+    requires { ⌜ StepDue w bound d o (now a) × (d < length (now a)) ⌝ }
+    ensures { λ r. ⌜ OutlinedOutcomeIs w comb d (outlined o (now (a .entry))) (now (a .exit)) r ⌝ }
+{
+    if !o.repeats {
+        return comb_before_zeros(a, o, d, bound, w);
+    }
+    if d % o.told as u64 == 0 {
+        return comb_of_repeated(a, o, d, bound, w);
+    }
+    take_whole(a, o, Sort::Comb, d, bound, w)
+}
+
+// An accumulate of such a size.
+fn take_accumulate(a: &mut [i64], o: Outline, d: u64, bound: u64, w: u64) -> OutlinedOutcome
+    requires { ⌜ StepDue w bound d o (now a) × (d < length (now a)) ⌝ }
+    ensures { λ r. ⌜ OutlinedOutcomeIs w accumulate d (outlined o (now (a .entry))) (now (a .exit)) r ⌝ }
+{
+    if !o.repeats {
+        if o.told as u64 <= d {
+            return accumulate_before_zeros(a, o, d, bound, w);
+        }
+    }
+    take_whole(a, o, Sort::Accumulate, d, bound, w)
+}
+
+// One step of a run.
+pub fn take_outlined(
+    a: &mut [i64],
+    o: Outline,
+    sort: Sort,
+    d: u64,
+    bound: u64,
+    w: u64,
+) -> OutlinedOutcome
+    requires { ⌜ StepDue w bound d o (now a) ⌝ }
+    ensures { λ r. ⌜ OutlinedOutcomeIs w (sortMeans sort) d (outlined o (now (a .entry))) (now (a .exit)) r ⌝ }
+{
+    if a.len() as u64 <= d {
+        return OutlinedOutcome {
+            over: false,
+            bound,
+            outline: o,
+        };
+    }
+    match sort {
+        Sort::Comb => take_comb(a, o, d, bound, w),
+        Sort::Accumulate => take_accumulate(a, o, d, bound, w),
+    }
+}
