@@ -11,6 +11,10 @@ use Rattle.heights.proofs.magnitude.Reads as magnitude-reads
 use Rattle.heights.proofs.larger as larger
 use Rattle.heights.proofs.larger.Kinds as larger-kinds
 use Rattle.heights.proofs.larger.Reads as larger-reads
+use Rattle.heights.proofs.Looks.{next-one}
+use Rattle.heights.proofs.above as above
+use Rattle.heights.proofs.above.Kinds as above-kinds
+use Rattle.heights.proofs.above.Reads as above-reads
 use Rattle.heights.proofs.peak as peak
 use Rattle.heights.proofs.peak.Kinds as peak-kinds
 use Rattle.heights.proofs.peak.Reads as peak-reads
@@ -26,6 +30,12 @@ pub larger-one :
     (e e′ : AtExit (endedOf 0 larger-kinds.ps larger-kinds.r) κs) →
     larger-reads.Post κs a z e → larger-reads.Post κs a z′ e′ → z ≡ z′
 larger-one κs a z z′ e e′ p p′ = p ∙ sym p′
+
+pub above-one :
+    (κs : Lfts 1) (a : ArgsD above.signature κs) (z z′ : ResD above.signature κs)
+    (e e′ : AtExit (endedOf 1 above-kinds.ps above-kinds.r) κs) →
+    above-reads.Post κs a z e → above-reads.Post κs a z′ e′ → z ≡ z′
+above-one κs a z z′ e e′ p p′ = next-one p p′
 
 pub peak-one :
     (κs : Lfts 1) (a : ArgsD peak.signature κs) (z z′ : ResD peak.signature κs)

@@ -1,11 +1,12 @@
 -- A signed number as its sign and what stands beside it, n for n and for -(n + 1): the tests and the casts of the
 -- leaves, at 64 bits. A number that was read is `toZ w64 (ofZ w64 x)`; all its bits turned round are 2^64 - 1 less its
 -- bits.
-use Prim.Native.Nat.{ℕ, suc, _+_, _-_, _<_, _^_}
+use Prim.Native.Nat.{ℕ, suc, _+_, _-_, _<_, _≤_, _^_}
 use mathlib.Core.Path.{_≡_, refl, sym, _∙_}
 use mathlib.Core.Bool.{Bool, true, false, not, true≢false}
 use native.Mathlib.Omega.{arith}
 use native.Mathlib.Numerals.{add-one}
+use lib.Bits.{bitOr, or-add-and, and-le-l, and-le-r}
 use lib.IntN.{ℤ, pos, negsuc, natAbs}
 use lib.Signed.{mag, ltZ, nonNeg}
 use lib.Dec.{T}
@@ -56,3 +57,7 @@ plain x fit e = go x fit (tested false x fit e)
 -- a signed number that a call gave, or that was handed to one
 pub passed : (x : ℤ) → mag x < 2 ^ 63 → toZ w64 (ofZ w64 x) ≡ x
 passed x small = toZ-ofZ (record { sfits = small })
+
+-- bits put together are no less than those that were put
+pub or-above : (a b : ℕ) → (a ≤ bitOr a b) × (b ≤ bitOr a b)
+or-above a b = (omega (arith, or-add-and a b, and-le-r a b), omega (arith, or-add-and a b, and-le-l a b))

@@ -1,3 +1,3 @@
--- The look over a slice, as the inner function's contract tells it; and heights and peaks of some slices.
-pub mod Looks
+-- The next place with a larger magnitude, as the contract of `above` tells it; and heights and peaks of some slices.
+pub mod Above
 mod Vectors

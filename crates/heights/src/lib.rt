@@ -1,13 +1,12 @@
 // The magnitude of a number, and of a slice the height, which is the largest magnitude among its entries, with the
 // lowest place where it stands; both are 0 for an empty one. Nothing is asked beforehand: -2^63, whose magnitude is no
-// i64, is measured too.
+// i64, is measured too. `above` is inner: the crate `peaks` uses it, and shows the `requires`.
 ghost use mathlib.Core.Path.{_≡_};
-ghost use Prim.Native.Nat.{ℕ, _≤_, _<_, max};
-ghost use lib.ListN.{length, getD, drop};
+ghost use Prim.Native.Nat.{_≤_, max};
+ghost use lib.ListN.{length};
 ghost use lib.IntN.{natAbs};
-ghost use Rattle.definitions.specs.Integers.{0ℤ};
 ghost use Rattle.definitions.specs.Answer.{heightOf, peakOf};
-ghost use Rattle.heights.specs.Looks.{look};
+ghost use Rattle.heights.specs.Above.{NextAbove};
 
 // A height and the lowest place where it stands.
 pub struct Top {
@@ -30,12 +29,9 @@ pub fn larger(a: u64, b: u64) -> u64
 
 // The first place from `from` on with a magnitude above h, or the end. A loop that can stop is not made one of vectors,
 // in which this processor's plain instructions compare 64-bit numbers slowly.
-fn above(coeffs: &[i64], from: usize, h: u64) -> usize
+pub fn above(coeffs: &[i64], from: usize, h: u64) -> usize
     requires { ⌜ from ≤ length (now coeffs) ⌝ }
-    ensures { λ r. ⌜ (from ≤ r) × (r ≤ length (now (coeffs .entry))) ⌝ }
-    ensures { λ r.
-        ⌜ ((p : ℕ) → look h p r (drop r (now (coeffs .entry))) ≡ look h p from (drop from (now (coeffs .entry)))) ⌝ }
-    ensures { λ r. ⌜ (r < length (now (coeffs .entry)) → h < natAbs (getD (now (coeffs .entry)) r 0ℤ)) ⌝ }
+    ensures { λ r. ⌜ NextAbove h (now (coeffs .entry)) from r ⌝ }
 {
     let mut i = from;
     while i < coeffs.len() {

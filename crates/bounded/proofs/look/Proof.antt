@@ -5,13 +5,13 @@ use mathlib.Core.List.{List}
 use native.Mathlib.Nat.{not-suc-le-zero, le-trans}
 use native.Mathlib.Omega.{arith}
 use borrow.Author.Needs.{needs}
-use lib.Bits.{bitOr, or-add-and, and-le-l, and-le-r}
+use lib.Bits.{bitOr}
 use lib.ListN.{length, getD, List·getD-eq-default}
 use lib.IntN.{ℤ, natAbs}
 use Rattle.definitions.specs.Integers.{0ℤ}
 use Rattle.definitions.specs.Steps.{entries}
 use Rattle.step_laws.specs.Tests.{by-order}
-use Rattle.heights.proofs.Signs.{passed}
+use Rattle.heights.proofs.Signs.{passed, or-above}
 use Rattle.bounded.proofs.look.Statement.{statement}
 use Rattle.bounded.proofs.look.Tie as tie
 
@@ -40,16 +40,13 @@ loop-less : tie.Need-loop-less Inv-loop μ-loop
 loop-less c = omega arith
 
 -- one more is upon the others
-either-way : (a b : ℕ) → (a ≤ bitOr a b) × (b ≤ bitOr a b)
-either-way a b = (omega (arith, or-add-and a b, and-le-r a b), omega (arith, or-add-and a b, and-le-l a b))
-
 and-this : (l : List ℤ) (i all m : ℕ) → ((k : ℕ) → k < i → natAbs (getD l k 0ℤ) ≤ all) → m ≡ natAbs (getD l i 0ℤ)
     → (k : ℕ) → k < i + 1 → natAbs (getD l k 0ℤ) ≤ bitOr all m
 and-this l i all m others this k h =
-    by-order k i (λ low. le-trans (others k low) (either-way all m .0))
+    by-order k i (λ low. le-trans (others k low) (or-above all m .0))
     (λ high.
     let e : k ≡ i = omega arith in
-    rw (ap (λ x. natAbs (getD l x 0ℤ)) e ∙ sym this) (either-way all m .1))
+    rw (ap (λ x. natAbs (getD l x 0ℤ)) e ∙ sym this) (or-above all m .1))
 
 loop-again : tie.Need-loop-again Inv-loop μ-loop
 loop-again c =

@@ -1,25 +1,25 @@
--- `above`: a look over the rest comes to the same with what is passed over and without it (Looks).
-use Prim.Native.Nat.{ℕ, _≤_, _-_, _<_}
-use mathlib.Core.Path.{_≡_, refl, _∙_, ap, subst}
+-- `above`: no entry that was passed over has a larger magnitude.
+use Prim.Native.Nat.{_≤_, _-_, _<_}
+use mathlib.Core.Path.{_≡_, _∙_, ap, subst}
 use native.Mathlib.Omega.{arith}
 use borrow.Author.Needs.{needs}
-use lib.ListN.{length, getD, drop}
+use lib.ListN.{length, getD}
 use lib.IntN.{pos, natAbs}
-use Rattle.heights.specs.Looks.{look}
-use Rattle.heights.proofs.Looks.{look-passed}
+use Rattle.heights.specs.Above.{NoneAbove}
+use Rattle.heights.proofs.Looks.{none-more}
 use Rattle.heights.proofs.Signs.{passed}
 use Rattle.heights.proofs.above.Statement.{statement}
 use Rattle.heights.proofs.above.Tie as tie
 
 abbrev Inv-loop : tie.InvT-loop
 Inv-loop coeffs from h i₀ i =
-    (from ≤ i) × (i ≤ length coeffs) × ((p : ℕ) → look h p i (drop i coeffs) ≡ look h p from (drop from coeffs))
+    (from ≤ i) × (i ≤ length coeffs) × NoneAbove h coeffs from i
 
 abbrev μ-loop : tie.MeasureT-loop
 μ-loop coeffs from h i₀ i = length coeffs - i
 
 loop-holds : tie.Need-loop-holds Inv-loop μ-loop
-loop-holds c = (omega arith, omega arith, λ p. refl)
+loop-holds c = (omega arith, omega arith, record { low = λ k a b. omega arith })
 
 mul-x : tie.Need-mul-x Inv-loop μ-loop
 mul-x c = omega arith
@@ -39,14 +39,13 @@ seen c =
 
 returns : tie.Need-returns Inv-loop μ-loop
 returns c =
-    let loop = c .before .before .before .before .loop in (
-      (loop .inv .0, loop .inv .1),
-      (
-        loop .inv .2,
-        λ _. subst (λ m. c .before .before .before .before .before .args .h < m) (seen (c .before))
-            (c .if1 .taken),
-      ),
-    )
+    let at = c .before .before .before .before in
+    let loop = at .loop in record {
+      later = loop .inv .0;
+      inside = loop .inv .1;
+      passed = loop .inv .2;
+      larger = λ _. subst (λ m. at .before .args .h < m) (seen (c .before)) (c .if1 .taken);
+    }
 
 add-i : tie.Need-add-i Inv-loop μ-loop
 add-i c = omega arith
@@ -57,20 +56,17 @@ loop-less c = omega arith
 loop-again : tie.Need-loop-again Inv-loop μ-loop
 loop-again c =
     let at = c .before .before .before .before in
-    let small = subst (λ m. m ≤ at .before .args .h) (seen (c .before)) (c .if1 .left) in (
-      omega arith,
-      omega arith,
-      λ p. look-passed _ _ _ p (c .before .before .before .loop-test .taken) small
-          ∙ at .loop .inv .2 p,
-    )
+    let small = subst (λ m. m ≤ at .before .args .h) (seen (c .before)) (c .if1 .left) in
+    (omega arith, omega arith, none-more (at .loop .inv .2) small)
 
 returns-2 : tie.Need-returns-2 Inv-loop μ-loop
 returns-2 c =
-    let loop = c .before .loop in
-    ((loop .inv .0, loop .inv .1), (loop .inv .2, λ l. absurd (never l (c .loop-test .left))))
-  where
-    never : {i n : ℕ} → i < n → n ≤ i → ⊥
-    never l g = omega arith
+    let loop = c .before .loop in record {
+      later = loop .inv .0;
+      inside = loop .inv .1;
+      passed = loop .inv .2;
+      larger = λ l. omega arith;
+    }
 
 pub above-spec : {M : Type 1} → statement M
 above-spec =

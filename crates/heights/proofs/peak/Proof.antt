@@ -1,21 +1,17 @@
--- `peak`: from what was found last, a look over the rest comes to what a look over all does (Looks); what comes next is
--- larger.
-use Prim.Native.Nat.{_+_, _≤_, _<_, _-_}
-use mathlib.Core.Path.{_≡_, sym, ap, _∙_}
+-- `peak`: from what was found last, a look over the rest comes to what a look over all does (`Reached`).
+use Prim.Native.Nat.{_-_}
+use mathlib.Core.Path.{ap, _∙_}
 use native.Mathlib.Omega.{arith}
 use borrow.Author.Needs.{needs}
-use lib.ListN.{length, getD, drop, drop-of-length-le}
+use lib.ListN.{length, getD}
 use lib.IntN.{pos, natAbs}
-use Rattle.heights.specs.Looks.{look}
-use Rattle.heights.proofs.Looks.{look-found, look-all}
+use Rattle.heights.proofs.Looks.{Reached, reached-first, reached-next, reached-end}
 use Rattle.heights.proofs.Signs.{passed}
 use Rattle.heights.proofs.peak.Statement.{statement}
 use Rattle.heights.proofs.peak.Tie as tie
 
 abbrev Inv-loop : tie.InvT-loop
-Inv-loop coeffs h₀ p₀ i₀ h p i =
-    (look h p i (drop i coeffs) ≡ look 0 0 0 coeffs) × (i ≤ length coeffs)
-    × (i < length coeffs → h < natAbs (getD coeffs i (pos 0)))
+Inv-loop coeffs h₀ p₀ i₀ h p i = Reached coeffs h p i
 
 abbrev μ-loop : tie.MeasureT-loop
 μ-loop coeffs h₀ p₀ i₀ h p i = length coeffs - i
@@ -24,7 +20,7 @@ above-requires : tie.Need-above-requires Inv-loop μ-loop
 above-requires c κs = omega arith
 
 loop-holds : tie.Need-loop-holds Inv-loop μ-loop
-loop-holds c = let f = c .above .ensures in (f .1 .0 0, f .0 .1, f .1 .1)
+loop-holds c = reached-first (c .above .ensures)
 
 mul-magnitude : tie.Need-mul-magnitude Inv-loop μ-loop
 mul-magnitude c = omega arith
@@ -47,23 +43,13 @@ loop-less c = omega arith
 loop-again : tie.Need-loop-again Inv-loop μ-loop
 loop-again c =
     let at = c .before .before .before .before in
-    let cs = at .before .before .args .coeffs .now in
-    let i = at .loop .i in
-    let more = c .before .before .before .loop-test .taken in
-    let seen : c .before .magnitude .result ≡ natAbs (getD cs i (pos 0)) =
-    c .before .magnitude .ensures ∙ ap natAbs (passed (getD cs i (pos 0)) (c .before .before .magnitude-arg .given)) in
-    let f = c .above2 .ensures in (
-      f .1 .0 i ∙ ap (λ m. look m i (i + 1) (drop (i + 1) cs)) seen
-          ∙ look-found cs i (at .loop .h) (at .loop .p) more (at .loop .inv .2 more) ∙ at .loop .inv .0,
-      f .0 .1,
-      f .1 .1,
-    )
+    let x = getD (at .before .before .args .coeffs .now) (at .loop .i) (pos 0) in
+    reached-next (at .loop .inv) (c .before .before .before .loop-test .taken)
+    (c .before .magnitude .ensures ∙ ap natAbs (passed x (c .before .before .magnitude-arg .given)))
+    (c .above2 .ensures)
 
 returns : tie.Need-returns Inv-loop μ-loop
-unfolding look
-returns c =
-    let cs = c .before .before .before .args .coeffs .now in
-    sym (ap (look _ _ _) (drop-of-length-le cs (c .loop-test .left))) ∙ c .before .loop .inv .0 ∙ look-all cs
+returns c = reached-end (c .before .loop .inv) (c .loop-test .left)
 
 pub peak-spec : {M : Type 1} → statement M
 peak-spec =
