@@ -6,29 +6,17 @@ use mathlib.Core.Path.{_≡_, sym}
 use native.Mathlib.Nat.{mul-le-mul}
 use native.Mathlib.Omega.{arith}
 use lib.IntN.{natAbs}
-use lib.ListN.{List·getD-eq-default}
-use Rattle.definitions.specs.Integers.{0ℤ}
-use Rattle.definitions.specs.Series.{Series, firsts}
 use Rattle.definitions.specs.Polynomials.{F, polynomial}
 use Rattle.definitions.specs.Steps.{entries}
 use Rattle.definitions.specs.KeptHalf.{halfDegree, keptHalf}
 use Rattle.definitions.specs.Requests.{divisorsDue}
 use Rattle.numbers.specs.Primes.{prime-pos, prime-coprime, coprime-swap}
 use Rattle.numbers.specs.Apart.{OddSquarefree}
-use Rattle.step_laws.specs.Tests.{by-order}
-use Rattle.step_laws.specs.Bound.{Bounded}
-use Rattle.step_laws.specs.Firsts.{length-firsts, getD-firsts}
+use Rattle.step_laws.specs.Bound.{Bounded, firsts-bounded}
 use Rattle.cyclotomic.specs.Degrees.{half-below}
 use Rattle.cyclotomic.specs.Kept.{kept-all}
 use Rattle.flat.specs.Sums.{sums-flat}
 use Rattle.flat.specs.TwoPrimes.{InTwo, in-two, F-below}
-
--- a list of first coefficients is bounded where they are: past its end stand zeros
-firsts-bounded : (b n : ℕ) (f : Series) → ((i : ℕ) → i < n → natAbs (f i) ≤ b) → Bounded b (entries (firsts n f))
-unfolding entries
-firsts-bounded b n f h k =
-    by-order k n (λ l. rw (getD-firsts n f k l) (h k l))
-    (λ l. rw (List·getD-eq-default (firsts n f) 0ℤ {n = k} (omega (arith, length-firsts n f))) (omega arith))
 
 -- F(p q) below degree p q
 F-flat : (r : ℕ) → InTwo r → (i : ℕ) → i < r → natAbs (F r i) ≤ 1

@@ -27,6 +27,7 @@ use Rattle.step_laws.specs.Bound.{Bounded, firsts-bounded}
 use Rattle.step_laws.specs.WorkingLimit.{Workable}
 use Rattle.divisors.specs.Walks.{taken, walkAt}
 use Rattle.divisors.proofs.Walking.{taken-at, stands-at}
+use Rattle.flat.specs.Flat.{two-flat}
 use Rattle.outlines.specs.Outlines.{Told, outlined}
 use Rattle.outlines.specs.declared.Outline.{Outline}
 use Rattle.outlines.proofs.Outlining.{outlined-length, first-told}
@@ -207,6 +208,9 @@ start-at-most : (kind k : ℕ) → natAbs (start kind k) ≤ 1
 start-at-most kind zero = rw (start-first kind) (omega arith)
 start-at-most kind (suc k) = rw (start-later kind k) (omega arith)
 
+pub start-bounded : (kind n : ℕ) → Bounded 1 (entries (firsts n (start kind)))
+start-bounded kind n = firsts-bounded 1 n (start kind) (λ k h. start-at-most kind k)
+
 -- the first entry tells the start
 pub fresh-stands :
     (limit kind : ℕ) (w : Walk) (l : List ℤ) → Workable limit → WalkAtStart w → length l ≡ halfDegree kind (w .r) + 1
@@ -220,7 +224,7 @@ fresh-stands limit kind w l good f len e =
       told = record { some = omega arith; room = omega arith };
       half = started ∙ ap (λ k. firsts k (start kind)) len ∙ sym (kept-start kind (w .r))
           ∙ sym (ap (keptHalf kind (w .r)) (ap taken (f .here) ∙ taken-at (w .r) 0 (omega arith)));
-      bounded = rw started (firsts-bounded 1 (length l) (start kind) (λ k h. start-at-most kind k));
+      bounded = rw started (start-bounded kind (length l));
       inside = good .0;
       good = good;
     }
@@ -249,3 +253,24 @@ made-zeros limit kind r j m l h t o e =
   where
     both : h .over ≡ false → ⊥
     both q = true≢false (sym o ∙ q)
+
+-- F of two primes has no magnitude above 1
+pub two-primes :
+    (limit kind r : ℕ) (m : List ℤ) (h : RunOutcome) → KeptHalfIs limit kind r (divisorsDue r) m h → OddSquarefree r
+    → kind ≡ 1 → divisorsDue r ≡ 3
+    → KeptHalfIs limit kind r (divisorsDue r) m
+    (record { over = h .over; additions = h .additions; due = h .due; bound = 1 })
+two-primes limit kind r m h t O k three =
+    record {
+      ran =
+          record {
+            over = t .ran .over;
+            half = t .ran .half;
+            inside = t .ran .inside;
+            bounded = λ q. rw (t .ran .half q, k) (two-flat r O three);
+            additions = t .ran .additions;
+            due = t .ran .due;
+            len = t .ran .len;
+          };
+      zeroed = t .zeroed;
+    }

@@ -26,6 +26,7 @@ use Rattle.numbers.specs.Apart.{r-odd-squarefree}
 use Rattle.numbers.specs.Below.{additions-all}
 use Rattle.cyclotomic.specs.Kept.{kept-all}
 use Rattle.cyclotomic.specs.Heights.{told-half, told-one, peak-inside}
+use Rattle.step_laws.specs.Bound.{Bounded}
 use Rattle.kept.specs.Halves.{StepsDue, KeptHalfIs}
 use Rattle.growth.specs.Growth.{Lower}
 use Rattle.laying.specs.Ready.{Ready}
@@ -42,7 +43,7 @@ steps-due R above = record { parts = R .parts; known = R .known; good = R .good;
 pub peak-room : {kind n : ℕ} {a : Parts} {l : List ℤ} → Ready kind n a l → peak kind n < length l
 peak-room {kind} {n} {a} {l} R = omega (arith, peak-inside kind n (above-zero kind n a l R), R .room)
 
--- what `heights::peak` tells
+-- what `peak_within` tells
 abbrev pub topOf : List ℤ → Top
 topOf cs = record { height = heightOf cs; place = peakOf cs }
 
@@ -53,6 +54,7 @@ pub record Halfway (w kind n : ℕ) (a : Parts) (l : List ℤ) (d : ℕ) (m : Li
   pub over : (lim : ℕ) (x : List ℤ) → h .over ≡ true → x ≡ zeros (length (m ++ drop (d + 1) l))
       → MakingOutcomeIs kind n lim w x (record { code = OVER; additions = 0; height = 0; peak = 0 })
   pub lower : h .over ≡ false → Lower kind (rOf n) (m ++ drop (d + 1) l)
+  pub bounded : h .over ≡ false → Bounded (h .bound) (entries (take (d + 1) (m ++ drop (d + 1) l)))
   pub top-is : h .over ≡ false → (x : Top) → x ≡ topOf (take (d + 1) (m ++ drop (d + 1) l))
       → (x .height ≡ height kind n) × (x .place * a .t ≡ peak kind n)
   pub tall : h .over ≡ false → (lim : ℕ) (x : List ℤ) → ltb lim (height kind n) ≡ true
@@ -117,10 +119,16 @@ module _ (kind n : ℕ) (a : Parts) (l : List ℤ) (R : Ready kind n a l) (above
                 (NatL.le-trans (made .ran .inside o i) range);
           }
 
+      m-there : take (d + 1) (m ++ drop (d + 1) l) ≡ m
+      m-there = take-at m (drop (d + 1) l) (d + 1) m-length
+
+      bounded : Bounded (h .bound) (entries (take (d + 1) (m ++ drop (d + 1) l)))
+      bounded = rw m-there (made .ran .bounded o)
+
       top-is : (x : Top) → x ≡ topOf (take (d + 1) (m ++ drop (d + 1) l))
           → (x .height ≡ height kind n) × (x .place * a .t ≡ peak kind n)
       top-is x e =
-          let is = e ∙ ap topOf (take-at m (drop (d + 1) l) (d + 1) m-length ∙ m-is) in
+          let is = e ∙ ap topOf (m-there ∙ m-is) in
           let half = told-half kind n (above-zero kind n a l R) above in (
             ap (λ y. y .height) is ∙ sym (half .0),
             ap₂ (λ y t. y .place * t) is (t-is kind n a l R) ∙ sym (half .1),
@@ -157,6 +165,7 @@ module _ (kind n : ℕ) (a : Parts) (l : List ℤ) (R : Ready kind n a l) (above
           ready = still-ready;
           over = laid-over;
           lower = lower;
+          bounded = bounded;
           top-is = top-is;
           tall = laid-tall;
           done = laid-done;

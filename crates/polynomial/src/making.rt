@@ -48,7 +48,7 @@ fn make_by_steps(b: &mut [i64], kind: u64, n: u64, parts: Parts, h: u64, w: u64)
         shapes::clear(b);
         return MakingOutcome::refused(answers::OVER);
     }
-    let top = heights::peak(&b[..half]);
+    let top = peaks::peak_within(&b[..half], run.bound);
     let height = top.height;
     if h < height {
         shapes::clear(b);

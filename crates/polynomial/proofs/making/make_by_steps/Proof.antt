@@ -55,7 +55,7 @@ module _ (c : tie.After-all-steps) where
   part-room = omega (arith, mid .rest-length, room at-start)
 
 -- after the height
-module _ (t : tie.After-peak) where
+module _ (t : tie.After-peak-within) where
   abbrev steps : tie.After-all-steps
   steps = t .before .before .before .before
 
@@ -65,11 +65,11 @@ module _ (t : tie.After-peak) where
   inside : steps .all-steps .result .over ≡ false
   inside = t .before .before .if1 .left
 
-  high : (t .peak .result .height ≡ height (begin .args .kind) (begin .args .n))
-      × (t .peak .result .place * begin .args .parts .t ≡ peak (begin .args .kind) (begin .args .n))
-  high = mid steps .top-is inside _ (t .peak .ensures)
+  high : (t .peak-within .result .height ≡ height (begin .args .kind) (begin .args .n))
+      × (t .peak-within .result .place * begin .args .parts .t ≡ peak (begin .args .kind) (begin .args .n))
+  high = mid steps .top-is inside _ (t .peak-within .ensures)
 
-  told : ltb (begin .args .h) (t .peak .result .height)
+  told : ltb (begin .args .h) (t .peak-within .result .height)
       ≡ ltb (begin .args .h) (height (begin .args .kind) (begin .args .n))
   told = ap (ltb (begin .args .h)) (high .0)
 
@@ -105,14 +105,15 @@ returns c =
     (mid (c .before .before .before .before .before .before) .over _ _ (c .before .before .before .before .if1 .taken)
     (c .before .before .clear .ensures))
 
-slice-reshare-prefix-peak : tie.Need-slice-reshare-prefix-peak
-slice-reshare-prefix-peak c = part-room (c .before .before)
+slice-reshare-prefix-peak-within : tie.Need-slice-reshare-prefix-peak-within
+slice-reshare-prefix-peak-within c = part-room (c .before .before)
 
-slice-aggregate-peak : tie.Need-slice-aggregate-peak
-slice-aggregate-peak c = sym (length-take-le _ _ (part-room (c .before .before .before)))
+slice-aggregate-peak-within : tie.Need-slice-aggregate-peak-within
+slice-aggregate-peak-within c = sym (length-take-le _ _ (part-room (c .before .before .before)))
 
-peak-requires : tie.Need-peak-requires
-peak-requires c κs = search needs
+peak-within-requires : tie.Need-peak-within-requires
+peak-within-requires c κs =
+    let s = c .before .before .before in mid s .bounded (c .before .if1 .left)
 
 clear-requires-2 : tie.Need-clear-requires-2
 clear-requires-2 c κs = search needs
@@ -162,9 +163,9 @@ make-by-steps-spec =
     refused-requires
     same-length
     returns
-    slice-reshare-prefix-peak
-    slice-aggregate-peak
-    peak-requires
+    slice-reshare-prefix-peak-within
+    slice-aggregate-peak-within
+    peak-within-requires
     clear-requires-2
     refused-requires-2
     same-length-2
