@@ -13,10 +13,10 @@ use Rattle.step_laws.specs.Tests.{by-order}
 use Rattle.step_laws.specs.Firsts.{is-firsts, firsts-entries}
 use Rattle.step_laws.specs.Signed.{sub-add}
 use Rattle.step_laws.specs.Step.{combed-from, stepped-below}
-use Rattle.passes.specs.Passes.{newEntry}
+use Rattle.passes.specs.Passes.{newEntry, setFour}
+use Rattle.passes.proofs.FourEntries.{moved-four-down}
 use Rattle.passes.proofs.Split.{moved-down, moved-up, all-firsts, all-below}
-use Rattle.combs.specs.Combs.{setFour, CombedTo}
-use Rattle.combs.proofs.FourEntries.{moved-four}
+use Rattle.combs.specs.Combs.{CombedTo}
 
 -- before the first place
 pub start : (d : ℕ) (l : List ℤ) → d ≤ length l → CombedTo d l l (length l)
@@ -51,7 +51,7 @@ module _ {d : ℕ} {l m : List ℤ} {i : ℕ} (p : CombedTo d l m i) where
         from = h;
         most = omega arith;
         split =
-            moved-four m k (newEntry comb d m) (p .split) e (p .most)
+            moved-four-down m k (newEntry comb d m) (p .split) e (p .most)
             (λ x low high. new-is x (omega arith) (omega arith));
       }
 

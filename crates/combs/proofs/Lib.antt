@@ -1,4 +1,3 @@
 -- Laws that the functions' proofs share.
-mod FourEntries
 mod CombedTo
 mod TestedTo

@@ -1,17 +1,12 @@
 -- A comb that has got down to some place: from there on stand the new values, below it the old entries.
-use Prim.Native.Nat.{ℕ, _+_, _<_, _≤_}
+use Prim.Native.Nat.{ℕ, _<_, _≤_}
 use mathlib.Core.Bool.{true}
 use mathlib.Core.Path.{_≡_}
 use mathlib.Core.List.{List}
-use lib.ListN.{length, set}
+use lib.ListN.{length}
 use lib.IntN.{ℤ}
-use Rattle.definitions.specs.Series.{Series}
 use Rattle.definitions.specs.Steps.{comb, stepped, inRange, entries}
 use Rattle.passes.specs.Passes.{Fit, Split}
-
--- four values v put into their places, from k on
-abbrev pub setFour : List ℤ → ℕ → Series → List ℤ
-setFour l k v = set (set (set (set l k (v k)) (k + 1) (v (k + 1))) (k + 2) (v (k + 2))) (k + 3) (v (k + 3))
 
 -- the comb of size d got down to the place i of l, which left m
 pub record CombedTo (d : ℕ) (l m : List ℤ) (i : ℕ) : Type 0 where

@@ -5,11 +5,11 @@ ghost use Prim.Native.Nat.{_+_, _≤_};
 ghost use mathlib.Core.Path.{_≡_};
 ghost use lib.ListN.{length};
 ghost use Rattle.definitions.specs.Steps.{comb, stepped, entries};
-ghost use Rattle.passes.specs.Passes.{newEntry, Fit};
-ghost use Rattle.combs.specs.Combs.{setFour, CombedTo};
+ghost use Rattle.passes.specs.Passes.{newEntry, setFour, Fit};
+ghost use Rattle.combs.specs.Combs.{CombedTo};
 use passes::Sort;
 use passes::new_entry;
-use passes::put;
+use passes::put_four;
 
 // The comb at the four places from k on, at once.
 fn step_four_entries(a: &mut [i64], k: usize, d: usize)
@@ -23,10 +23,7 @@ fn step_four_entries(a: &mut [i64], k: usize, d: usize)
     let v1 = new_entry(Sort::Comb, a, k1, d);
     let v2 = new_entry(Sort::Comb, a, k2, d);
     let v3 = new_entry(Sort::Comb, a, k3, d);
-    put(a, k, v0);
-    put(a, k1, v1);
-    put(a, k2, v2);
-    put(a, k3, v3);
+    put_four(a, k, v0, v1, v2, v3);
 }
 
 // Takes places by fours while there are four; answers the place down to which it took.

@@ -1,9 +1,9 @@
 -- What a step does at one place, what a tested step comes to, and a pass that has got to some place.
-use Prim.Native.Nat.{ℕ, _-_, _<_, _≤_}
+use Prim.Native.Nat.{ℕ, _+_, _-_, _<_, _≤_}
 use mathlib.Core.Bool.{Bool, cond, not}
 use mathlib.Core.Path.{_≡_}
 use mathlib.Core.List.{List}
-use lib.ListN.{length, getD}
+use lib.ListN.{length, getD, set}
 use lib.IntN.{ℤ}
 use mir.Syntax.{w64}
 use mir.Val.{SFits}
@@ -28,6 +28,13 @@ addable = 4611686018427387903
 pub record Narrow (w : ℕ) (l : List ℤ) : Type 0 where
   pub limit : w ≤ addable
   pub small : Bounded addable (entries l)
+
+-- four values put into the places from k on, and those that v has there
+abbrev pub putFour : List ℤ → ℕ → ℤ → ℤ → ℤ → ℤ → List ℤ
+putFour l k x₀ x₁ x₂ x₃ = set (set (set (set l k x₀) (k + 1) x₁) (k + 2) x₂) (k + 3) x₃
+
+abbrev pub setFour : List ℤ → ℕ → Series → List ℤ
+setFour l k v = putFour l k (v k) (v (k + 1)) (v (k + 2)) (v (k + 3))
 
 -- all the values of f from i on and below n fit a machine number
 abbrev pub Fit : ℕ → ℕ → Series → Type 0

@@ -2,7 +2,7 @@
 
 ghost use mathlib.Core.Path.{_≡_};
 ghost use mathlib.Core.Bool.{true, cond};
-ghost use Prim.Native.Nat.{_≤_, _<_};
+ghost use Prim.Native.Nat.{_+_, _≤_, _<_};
 ghost use lib.ListN.{length, set};
 ghost use lib.IntN.{natAbs};
 ghost use mir.Syntax.{w64};
@@ -11,7 +11,7 @@ ghost use Rattle.definitions.specs.Steps.{entries, inRange, largest};
 ghost use Rattle.step_laws.specs.Bound.{Bounded};
 ghost use Rattle.step_laws.specs.WorkingLimit.{Workable};
 ghost use Rattle.passes.specs.Sorts.{sortMeans};
-ghost use Rattle.passes.specs.Passes.{addable, newValue, newEntry};
+ghost use Rattle.passes.specs.Passes.{addable, newValue, newEntry, putFour};
 use crate::ADDABLE;
 use crate::Sort;
 use range::difference_fits;
@@ -85,6 +85,17 @@ pub fn put(a: &mut [i64], i: usize, v: i64)
     ensures { λ _. ⌜ now (a .exit) ≡ set (now (a .entry)) i v ⌝ }
 {
     a[i] = v;
+}
+
+// Four values, at the places from i on.
+pub fn put_four(a: &mut [i64], i: usize, v0: i64, v1: i64, v2: i64, v3: i64)
+    requires { ⌜ i + 4 ≤ length (now a) ⌝ }
+    ensures { λ _. ⌜ now (a .exit) ≡ putFour (now (a .entry)) i v0 v1 v2 v3 ⌝ }
+{
+    put(a, i, v0);
+    put(a, i + 1, v1);
+    put(a, i + 2, v2);
+    put(a, i + 3, v3);
 }
 
 // The step at one place.

@@ -7,6 +7,7 @@ pub use entry::new_entry;
 pub use entry::new_value;
 pub use entry::passes_test;
 pub use entry::put;
+pub use entry::put_four;
 pub use entry::read_entry;
 pub use entry::step_entry;
 pub use entry::step_entry_within;

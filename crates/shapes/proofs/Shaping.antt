@@ -14,9 +14,10 @@ use Rattle.definitions.specs.Series.{Series, tail, firsts, alternate}
 use Rattle.definitions.specs.Steps.{entries, largest}
 use Rattle.definitions.specs.Requests.{zeros}
 use Rattle.series.specs.Maps.{alternate-even, alternate-odd}
-use Rattle.passes.specs.Passes.{Split, All}
-use Rattle.passes.proofs.Split.{moved-up, all-firsts}
-use Rattle.shapes.specs.Shapes.{mirroredUp, negatedCopy}
+use Rattle.passes.specs.Passes.{Split, All, putFour, setFour}
+use Rattle.passes.proofs.Split.{moved-up, all-firsts, all-below}
+use Rattle.passes.proofs.FourEntries.{four-is, moved-four-up}
+use Rattle.shapes.specs.Shapes.{InRange, mirroredUp, MirroredTo, negatedCopy}
 
 -- ---- zeros
 none-firsts : (n : ℕ) → firsts n (λ k. 0ℤ) ≡ replicate n 0ℤ
@@ -67,6 +68,11 @@ module _ (negate : Bool) (n : ℕ) (f : Series) where
   unfolding mirroredUp
   mirrored-high i h = rw (le-ltb i ((n + 1) / 2) h)
 
+  -- what k holds, or its negative, where k mirrors i
+  mirrored-from : (i k : ℕ) → (n + 1) / 2 ≤ i → k ≡ n - 1 - i → {x : ℤ} → x ≡ cond negate (⊖ (f k)) (f k)
+      → x ≡ mirroredUp negate n f i
+  mirrored-from i k h e q = q ∙ ap (λ j. cond negate (⊖ (f j)) (f j)) e ∙ sym (mirrored-high i h)
+
 module _ (r : ℕ) (f : Series) where
   pub copied-low : (i : ℕ) → i < r → negatedCopy r f i ≡ f i
   unfolding negatedCopy
@@ -77,17 +83,70 @@ module _ (r : ℕ) (f : Series) where
   copied-high i h = rw (le-ltb i r h)
 
 -- ---- the turns
-module _ (negate : Bool) {n i : ℕ} {l : List ℤ} (e : Series) (s : Split l n i (mirroredUp negate n e) e)
-    (h : (n + 1) / 2 ≤ i) (b : i < n) where
-  pub mirror-read : entries l (n - 1 - i) ≡ e (n - 1 - i)
-  mirror-read = new-entry s (n - 1 - i) (omega arith) (omega arith) ∙ mirrored-low negate n e (n - 1 - i) (omega arith)
+-- four that were read from k down are those that the places from i up mirror
+module _ (negate : Bool) (l : List ℤ) (i k : ℕ) (h : (length l + 1) / 2 ≤ i) (e : k ≡ length l - 1 - i) where
+  abbrev signed : ℕ → ℤ
+  signed j = cond negate (⊖ (entries l j)) (entries l j)
 
-  pub mirror-turn : {m : List ℤ} → m ≡ set l i (cond negate (⊖ (entries l (n - 1 - i))) (entries l (n - 1 - i)))
-      → Split m n (i + 1) (mirroredUp negate n e) e
-  mirror-turn q =
-      rw q
-      (moved-up s i (i + 1) b refl refl _
-      (ap (λ v. cond negate (⊖ v) v) mirror-read ∙ sym (mirrored-high negate n e i h)))
+  pub mirrored-four : {m : List ℤ} {x₀ x₁ x₂ x₃ : ℤ} → m ≡ putFour l i x₀ x₁ x₂ x₃ → x₀ ≡ signed k
+      → x₁ ≡ signed (k - 1) → x₂ ≡ signed (k - 2) → x₃ ≡ signed (k - 3)
+      → m ≡ setFour l i (mirroredUp negate (length l) (entries l))
+  mirrored-four p e₀ e₁ e₂ e₃ =
+      four-is l i (mirroredUp negate (length l) (entries l)) p
+      (mirrored-from negate (length l) (entries l) i k h e e₀)
+      (mirrored-from negate (length l) (entries l) (i + 1) (k - 1) (omega arith) (omega arith) e₁)
+      (mirrored-from negate (length l) (entries l) (i + 2) (k - 2) (omega arith) (omega arith) e₂)
+      (mirrored-from negate (length l) (entries l) (i + 3) (k - 3) (omega arith) (omega arith) e₃)
+
+pub mirror-start : (negate : Bool) (l : List ℤ) (i : ℕ) → i ≡ (length l + 1) / 2 → MirroredTo negate l l i
+mirror-start negate l i e =
+    record {
+      from = omega arith;
+      most = omega arith;
+      split = starts l i (λ k h. mirrored-low negate (length l) (entries l) k (omega arith));
+    }
+
+module _ {negate : Bool} {l m : List ℤ} {i : ℕ} (p : MirroredTo negate l m i) where
+  -- what is read is still old, and with it what is to be put is the mirror of l
+  kept : (k : ℕ) → k < (length l + 1) / 2 → entries m k ≡ entries l k
+  kept k h =
+      new-entry (p .split) k (omega (arith, p .from)) (omega arith) ∙ mirrored-low negate (length l) (entries l) k h
+
+  next-value : (x k : ℕ) → i ≤ x → x < length l → k ≡ length l - 1 - x
+      → cond negate (⊖ (entries m k)) (entries m k) ≡ mirroredUp negate (length l) (entries l) x
+  next-value x k h b e =
+      mirrored-from negate (length l) (entries l) x k (omega (arith, p .from)) e
+      (ap (λ v. cond negate (⊖ v) v) (kept k (omega (arith, p .from))))
+
+  pub mirror-range : InRange ((length l + 1) / 2) l → InRange ((length m + 1) / 2) m
+  mirror-range r k h = let b : k < (length l + 1) / 2 = omega (arith, p .split .len) in rw (kept k b) (r k b)
+
+  pub mirror-next : {q : List ℤ} (k : ℕ) → i < length l → k ≡ length l - 1 - i
+      → q ≡ set m i (cond negate (⊖ (entries m k)) (entries m k)) → MirroredTo negate l q (i + 1)
+  mirror-next k b e q =
+      record {
+        from = omega (arith, p .from);
+        most = omega arith;
+        split = rw q (moved-up (p .split) i (i + 1) b refl refl _ (next-value i k (omega arith) b e));
+      }
+
+  pub mirror-next-four : {q : List ℤ} → i + 4 ≤ length l
+      → q ≡ setFour m i (mirroredUp negate (length m) (entries m)) → MirroredTo negate l q (i + 4)
+  mirror-next-four b q =
+      record {
+        from = omega (arith, p .from);
+        most = b;
+        split = rw q (moved-four-up m i _ (p .split) refl refl b same);
+      }
+    where
+      same : (x : ℕ) → i ≤ x → x < i + 4 → mirroredUp negate (length m) (entries m) x
+          ≡ mirroredUp negate (length l) (entries l) x
+      same x h u =
+          mirrored-high negate (length m) (entries m) x (omega (arith, p .from, p .split .len))
+          ∙ next-value x (length m - 1 - x) h (omega arith) (omega (arith, p .split .len))
+
+  pub mirror-end : length l ≤ i → m ≡ firsts (length l) (mirroredUp negate (length l) (entries l))
+  mirror-end h = all-firsts (all-below (p .split) h)
 
 module _ (r : ℕ) {n i : ℕ} {l : List ℤ} (e : Series) (s : Split l n i (negatedCopy r e) e) (h : r ≤ i) (b : i < n)
     (twice : n ≤ r + r) where

@@ -8,6 +8,7 @@ use lib.Dec.{eqb, ltb, leb}
 use Rattle.definitions.specs.Integers.{⊖, 0ℤ}
 use Rattle.definitions.specs.Series.{Series}
 use Rattle.definitions.specs.Steps.{entries, largest}
+use Rattle.passes.specs.Passes.{Split}
 
 -- each of the first n entries can be negated
 abbrev pub InRange : ℕ → List ℤ → Type 0
@@ -16,6 +17,12 @@ InRange n l = (i : ℕ) → i < n → natAbs (entries l i) ≤ largest
 -- the upper half of n entries mirrors the lower
 unfoldable pub mirroredUp : Bool → ℕ → Series → Series
 mirroredUp negate n f i = cond (ltb i ((n + 1) / 2)) (f i) (cond negate (⊖ (f (n - 1 - i))) (f (n - 1 - i)))
+
+-- the mirror got up to the place i of l, which left m
+pub record MirroredTo (negate : Bool) (l m : List ℤ) (i : ℕ) : Type 0 where
+  pub from : (length l + 1) / 2 ≤ i
+  pub most : i ≤ length l
+  pub split : Split m (length l) i (mirroredUp negate (length l) (entries l)) (entries l)
 
 -- the entries from r on are the negatives of those r before
 unfoldable pub negatedCopy : ℕ → Series → Series

@@ -1,16 +1,23 @@
 // Inner: each `requires` is shown by the callers `growth` and `laying`. The passes that give a polynomial its shape,
 // in place: clearing, the upper half, the signs and the second copy of an even index, and z^t for z. Each works on a
 // slice that is just as long as what it makes.
+
+mod fours;
+
 ghost use Prim.Native.Nat.{ℕ, _+_, _*_, _-_, _/_, _<_, _≤_};
 ghost use mathlib.Core.Path.{_≡_};
 ghost use mathlib.Core.Bool.{cond};
 ghost use lib.ListN.{length, set};
 ghost use lib.IntN.{natAbs};
+ghost use mir.Syntax.{w64};
+ghost use mir.Val.{SFits};
 ghost use Rattle.definitions.specs.Integers.{⊖};
 ghost use Rattle.definitions.specs.Series.{firsts, constant, alternate, spread};
 ghost use Rattle.definitions.specs.Steps.{entries, largest};
 ghost use Rattle.definitions.specs.Requests.{zeros};
 ghost use Rattle.shapes.specs.Shapes.{InRange, mirroredUp, negatedCopy, movedUp};
+use fours::mirror_fours;
+use passes::put;
 
 // All entries 0.
 pub fn clear(a: &mut [i64])
@@ -23,7 +30,7 @@ pub fn clear(a: &mut [i64])
     }
 }
 
-// The upper half from the lower: entry N - i is entry i, or its negative.
+// The upper half from the lower: entry N - i is entry i, or its negative. By fours, and one by one what they leave.
 pub fn mirror(a: &mut [i64], negate: bool)
     requires { ⌜ InRange ((length (now a) + 1) / 2) (now a) ⌝ }
     ensures { λ _.
@@ -31,7 +38,7 @@ pub fn mirror(a: &mut [i64], negate: bool)
         ≡ firsts (length (now (a .entry))) (mirroredUp negate (length (now (a .entry))) (entries (now (a .entry)))) ⌝ }
 {
     let n = a.len();
-    let mut i = (n + 1) / 2;
+    let mut i = mirror_fours(a, negate);
     while i < n {
         let k = n - 1 - i;
         put_signed(a, k, i, negate);
@@ -60,11 +67,19 @@ fn copy_to(a: &mut [i64], k: usize, i: usize)
     a[i] = a[k];
 }
 
+fn negated_entry(a: &[i64], k: usize) -> i64
+    requires { ⌜ (k < length (now a)) × (natAbs (entries (now a) k) ≤ largest) ⌝ }
+    ensures { λ r. ⌜ (r ≡ ⊖ (entries (now (a .entry)) k)) × SFits w64 (⊖ (entries (now (a .entry)) k)) ⌝ }
+{
+    -a[k]
+}
+
 fn negate_to(a: &mut [i64], k: usize, i: usize)
     requires { ⌜ (k < length (now a)) × (i < length (now a)) × (natAbs (entries (now a) k) ≤ largest) ⌝ }
     ensures { λ _. ⌜ now (a .exit) ≡ set (now (a .entry)) i (⊖ (entries (now (a .entry)) k)) ⌝ }
 {
-    a[i] = -a[k];
+    let v = negated_entry(a, k);
+    put(a, i, v);
 }
 
 // The entries at odd places negated.

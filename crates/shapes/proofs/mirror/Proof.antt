@@ -1,34 +1,33 @@
--- `mirror` meets its contract. The loop's invariant: the entries below i are the mirrored ones, the rest the old.
-use Prim.Native.Nat.{_+_, _-_, _/_, _≤_}
-use mathlib.Core.Path.{_≡_}
+-- `mirror` meets its contract: from where the fours got to, one by one. The loop's invariant: of whatever list the
+-- mirror got up to where the loop began, it got up to i.
+use Prim.Native.Nat.{_-_}
+use mathlib.Core.Path.{_≡_, sym, _∙_}
+use mathlib.Core.List.{List}
 use native.Mathlib.Omega.{arith}
 use lib.ListN.{length}
-use Rattle.definitions.specs.Steps.{entries}
-use Rattle.passes.specs.Passes.{Split}
-use Rattle.passes.proofs.Split.{all-below, all-firsts}
-use Rattle.shapes.specs.Shapes.{mirroredUp}
-use Rattle.shapes.proofs.Shaping.{starts, mirrored-low, mirror-read, mirror-turn}
+use lib.IntN.{ℤ}
+use Rattle.shapes.specs.Shapes.{MirroredTo}
+use Rattle.shapes.proofs.Shaping.{mirror-range, mirror-next, mirror-end}
 use Rattle.shapes.proofs.mirror.Statement.{statement}
 use Rattle.shapes.proofs.mirror.Tie as tie
 
 abbrev Inv-loop : tie.InvT-loop
-Inv-loop a₀ negate n i₀ a i = (n ≡ length a₀) × ((n + 1) / 2 ≤ i) × (i ≤ n)
-    × Split a (length a₀) i (mirroredUp negate (length a₀) (entries a₀)) (entries a₀)
+Inv-loop a₀ negate n i₀ a i = (l : List ℤ) → MirroredTo negate l a₀ i₀ → MirroredTo negate l a i
 
 abbrev μ-loop : tie.MeasureT-loop
 μ-loop a₀ negate n i₀ a i = n - i
 
-add-i : tie.Need-add-i Inv-loop μ-loop
-add-i c = omega arith
+mirror-fours-requires : tie.Need-mirror-fours-requires Inv-loop μ-loop
+mirror-fours-requires c κs = c .before .pre
 
 loop-holds : tie.Need-loop-holds Inv-loop μ-loop
-loop-holds c =
-    let l = c .args .a .now in (
-      omega arith,
-      omega arith,
-      omega arith,
-      starts l ((length l + 1) / 2) (λ k h. mirrored-low (c .args .negate) (length l) (entries l) k h),
-    )
+loop-holds c = λ l p. p
+
+-- of the list at entry
+known : (c : tie.At-loop Inv-loop μ-loop)
+    → MirroredTo (c .before .before .before .before .args .negate) (c .before .before .before .before .args .a .now)
+    (c .loop .a) (c .loop .i)
+known c = c .loop .inv (c .before .before .before .before .args .a .now) (c .before .before .mirror-fours .ensures)
 
 sub-k : tie.Need-sub-k Inv-loop μ-loop
 sub-k c = omega arith
@@ -38,34 +37,30 @@ sub-k-2 c = omega arith
 
 put-signed-requires : tie.Need-put-signed-requires Inv-loop μ-loop
 put-signed-requires c κs =
-    let q = c .before .before in (
-      omega arith,
-      omega arith,
-      rw (mirror-read (q .before .args .negate) (entries (q .before .args .a .now)) (q .loop .inv .3)
-          (q .loop .inv .1) (omega arith)) (q .before .pre _ (omega arith)),
-    )
+    let q = c .before .before in
+    let p = known q in
+    let len = p .split .len in
+    let from = p .from in
+    (omega arith, omega arith, mirror-range p (q .before .before .before .before .pre) _ (omega arith))
 
-add-i-2 : tie.Need-add-i-2 Inv-loop μ-loop
-add-i-2 c = omega arith
+add-i : tie.Need-add-i Inv-loop μ-loop
+add-i c = omega arith
 
 loop-less : tie.Need-loop-less Inv-loop μ-loop
 loop-less c = omega arith
 
 loop-again : tie.Need-loop-again Inv-loop μ-loop
-loop-again c =
-    let q = c .before .before .before .before in (
-      omega arith,
-      omega arith,
-      omega arith,
-      mirror-turn (q .before .args .negate) (entries (q .before .args .a .now))
-          (q .loop .inv .3) (q .loop .inv .1) (omega arith) (c .before .put-signed .ensures),
-    )
+loop-again c = λ l p.
+    let q = c .before .before .before .before in
+    let here = q .before .before .mirror-fours .ensures .split .len in
+    let same : length l ≡ length (q .before .before .before .before .args .a .now) = sym (p .split .len) ∙ here in
+    mirror-next (q .loop .inv l p) _ (omega arith) (omega arith) (c .before .put-signed .ensures)
 
 same-length : tie.Need-same-length Inv-loop μ-loop
-same-length c = c .before .loop .inv .3 .len
+same-length c = known (c .before) .split .len
 
 returns : tie.Need-returns Inv-loop μ-loop
-returns c = all-firsts (all-below (c .before .loop .inv .3) (omega arith))
+returns c = mirror-end (known (c .before)) (c .loop-test .left)
 
 pub mirror-spec : {M : Type 1} → statement M
 mirror-spec =
@@ -73,12 +68,12 @@ mirror-spec =
     (tie.spec
     Inv-loop
     μ-loop
-    add-i
+    mirror-fours-requires
     loop-holds
     sub-k
     sub-k-2
     put-signed-requires
-    add-i-2
+    add-i
     loop-less
     loop-again
     same-length

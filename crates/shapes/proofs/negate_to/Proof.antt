@@ -1,38 +1,25 @@
--- `negate_to` meets its contract: an entry in range can be negated.
+-- `negate_to` meets its contract: what is put is the negative that was read.
+use mathlib.Core.Path.{_∙_, ap}
+use lib.ListN.{set}
+use Rattle.step_laws.specs.Machine.{handed}
 use borrow.Author.Needs.{needs}
 use Rattle.shapes.proofs.negate_to.Statement.{statement}
 use Rattle.shapes.proofs.negate_to.Tie as tie
-use mathlib.Core.Path.{ap}
-use lib.ListN.{set, getD}
-use Rattle.definitions.specs.Integers.{0ℤ}
-use Rattle.definitions.specs.Steps.{entries}
-use Rattle.shapes.proofs.Negation.{minus-seen, neg-fits, stored-minus}
 
-mul-a : tie.Need-mul-a
-mul-a c = search needs
+negated-entry-requires : tie.Need-negated-entry-requires
+negated-entry-requires c κs = search needs
 
-slice-copy-out-a : tie.Need-slice-copy-out-a
-slice-copy-out-a c = search needs
-
-sub-a : tie.Need-sub-a
-unfolding entries
-sub-a c = rw (minus-seen (getD (c .before .args .a .now) (c .before .args .k) 0ℤ) (c .a .given))
-    (neg-fits _ (c .before .pre .2))
-
-mul-t8 : tie.Need-mul-t8
-mul-t8 c = search needs
-
-slice-set-from-a : tie.Need-slice-set-from-a
-slice-set-from-a c = search needs
+put-requires : tie.Need-put-requires
+put-requires c κs = search needs
 
 same-length : tie.Need-same-length
 same-length c = search needs
 
 returns : tie.Need-returns
-unfolding entries
-returns c = ap (set (c .before .args .a .now) (c .before .args .i))
-    (stored-minus (getD (c .before .args .a .now) (c .before .args .k) 0ℤ) (c .a .given) (c .before .pre .2))
+returns c =
+    let q = c .before .before .before .before .before in
+    let e = c .before .before .before .negated-entry .ensures in
+    c .before .put .ensures ∙ ap (set (q .args .a .now) (q .args .i)) (handed (e .1) (e .0))
 
 pub negate-to-spec : {M : Type 1} → statement M
-negate-to-spec =
-    tie.close (tie.spec mul-a slice-copy-out-a sub-a mul-t8 slice-set-from-a same-length returns)
+negate-to-spec = tie.close (tie.spec negated-entry-requires put-requires same-length returns)

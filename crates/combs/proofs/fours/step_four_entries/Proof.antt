@@ -4,7 +4,7 @@ use native.Mathlib.Omega.{arith}
 use Rattle.step_laws.specs.Machine.{handed}
 use Rattle.definitions.specs.Steps.{comb}
 use Rattle.passes.specs.Passes.{newEntry}
-use Rattle.combs.proofs.FourEntries.{four-is}
+use Rattle.passes.proofs.FourEntries.{four-is}
 use borrow.Author.Needs.{needs}
 use Rattle.combs.proofs.fours.step_four_entries.Statement.{statement}
 use Rattle.combs.proofs.fours.step_four_entries.Tie as tie
@@ -45,32 +45,20 @@ new-entry-requires-4 c κs = (
       (c .before .before .before .before .before .before .before .args .k + 3) (omega arith) (omega arith),
 )
 
-put-requires : tie.Need-put-requires
-put-requires c κs = search needs
-
-put-requires-2 : tie.Need-put-requires-2
-put-requires-2 c κs = search needs
-
-put-requires-3 : tie.Need-put-requires-3
-put-requires-3 c κs = search needs
-
-put-requires-4 : tie.Need-put-requires-4
-put-requires-4 c κs = search needs
+put-four-requires : tie.Need-put-four-requires
+put-four-requires c κs = search needs
 
 same-length : tie.Need-same-length
 same-length c = search needs
 
 returns : tie.Need-returns
 returns c =
-    let v = c .before .before .before .before .before .before .before .before .before .before .before .before in
+    let v = c .before .before .before in
     let w = v .before .before .before .before in
     let q = w .before .before .before .before in
     let fit = q .pre .2 in
     four-is (q .args .a .now) (q .args .k) (newEntry comb (q .args .d) (q .args .a .now))
-    (c .before .before .before .before .before .before .before .before .before .before .put .ensures)
-    (c .before .before .before .before .before .before .before .put2 .ensures)
-    (c .before .before .before .before .put3 .ensures)
-    (c .before .put4 .ensures)
+    (c .before .put-four .ensures)
     (handed (fit (q .args .k) (omega arith) (omega arith)) (w .before .before .new-entry .ensures))
     (handed (fit (q .args .k + 1) (omega arith) (omega arith)) (w .new-entry2 .ensures))
     (handed (fit (q .args .k + 2) (omega arith) (omega arith)) (v .before .before .new-entry3 .ensures))
@@ -87,9 +75,6 @@ step-four-entries-spec =
     new-entry-requires-2
     new-entry-requires-3
     new-entry-requires-4
-    put-requires
-    put-requires-2
-    put-requires-3
-    put-requires-4
+    put-four-requires
     same-length
     returns)

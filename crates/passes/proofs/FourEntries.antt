@@ -1,4 +1,4 @@
--- Four entries at once: what stands in the list after four stores, and that a split has then moved down by four.
+-- Four entries at once: what stands in the list after four stores, and that a split has then moved up by four, or down.
 use mathlib.Core.Path.{_≡_, refl, sym, _∙_, ap}
 use mathlib.Core.List.{List}
 use Prim.Native.Nat.{ℕ, _+_, _<_, _≤_}
@@ -9,9 +9,8 @@ use lib.IntN.{ℤ}
 use Rattle.definitions.specs.Integers.{0ℤ}
 use Rattle.definitions.specs.Series.{Series}
 use Rattle.step_laws.specs.Tests.{by-order}
-use Rattle.passes.specs.Passes.{Split}
-use Rattle.passes.proofs.Split.{getD-set-by}
-use Rattle.combs.specs.Combs.{setFour}
+use Rattle.passes.specs.Passes.{Split, putFour, setFour}
+use Rattle.passes.proofs.Split.{getD-set-by, moved-up}
 
 module _ (l : List ℤ) (k : ℕ) (v : Series) where
   -- what one store more leaves at x, where its own value is right and what stood there is
@@ -35,15 +34,24 @@ module _ (l : List ℤ) (k : ℕ) (v : Series) where
       next l refl k x (omega arith) y (λ q. new (omega arith) (omega arith))
       (λ n₀. old (λ low high. omega arith)))))
 
-  -- four stores, one after the other
-  pub four-is : {m₁ m₂ m₃ m₄ : List ℤ} {x₀ x₁ x₂ x₃ : ℤ} → m₁ ≡ set l k x₀ → m₂ ≡ set m₁ (k + 1) x₁
-      → m₃ ≡ set m₂ (k + 2) x₂ → m₄ ≡ set m₃ (k + 3) x₃ → x₀ ≡ v k → x₁ ≡ v (k + 1) → x₂ ≡ v (k + 2) → x₃ ≡ v (k + 3)
-      → m₄ ≡ setFour l k v
-  four-is p₁ p₂ p₃ p₄ e₀ e₁ e₂ e₃ = cc
+  -- v's values, put one after the other
+  pub four-is : {m : List ℤ} {x₀ x₁ x₂ x₃ : ℤ} → m ≡ putFour l k x₀ x₁ x₂ x₃ → x₀ ≡ v k → x₁ ≡ v (k + 1)
+      → x₂ ≡ v (k + 2) → x₃ ≡ v (k + 3) → m ≡ setFour l k v
+  four-is p e₀ e₁ e₂ e₃ = cc
 
-  pub moved-four : {n i : ℕ} {f g : Series} → Split l n i f g → i ≡ k + 4 → i ≤ n
+  pub moved-four-up : {n i j : ℕ} {f g : Series} → Split l n i f g → k ≡ i → j ≡ k + 4 → j ≤ n
+      → ((x : ℕ) → k ≤ x → x < k + 4 → v x ≡ f x) → Split (setFour l k v) n j f g
+  moved-four-up s e up b are =
+      let s₁ = moved-up s k (k + 1) (omega arith) e refl (v k) (are k (omega arith) (omega arith)) in
+      let s₂ = moved-up s₁ (k + 1) (k + 2) (omega arith) refl (omega arith) (v (k + 1))
+      (are (k + 1) (omega arith) (omega arith)) in
+      let s₃ = moved-up s₂ (k + 2) (k + 3) (omega arith) refl (omega arith) (v (k + 2))
+      (are (k + 2) (omega arith) (omega arith)) in
+      moved-up s₃ (k + 3) _ (omega arith) refl (omega arith) (v (k + 3)) (are (k + 3) (omega arith) (omega arith))
+
+  pub moved-four-down : {n i : ℕ} {f g : Series} → Split l n i f g → i ≡ k + 4 → i ≤ n
       → ((x : ℕ) → k ≤ x → x < k + 4 → v x ≡ g x) → Split (setFour l k v) n k f g
-  moved-four {n} {i} {f} {g} s e b are =
+  moved-four-down {n} {i} {f} {g} s e b are =
       record {
         len = simp length-set (s .len);
         below = λ x h m. four-by fits x (f x) (λ low. absurd (not-le-of-lt h low)) (λ _. s .below x (omega arith) m);
