@@ -1,11 +1,11 @@
--- A pass on a part of a slice, seen entry by entry: before the part and after it nothing changed, and in it stands what
--- the pass left.
+-- A pass on a part of a slice, seen entry by entry: before the part nothing changed, and in it stands what the pass
+-- left.
 use Prim.Native.Nat.{ℕ, zero, suc, _+_, _-_, _<_, _≤_}
 use mathlib.Core.Path.{_≡_, refl, sym, _∙_, ap}
 use mathlib.Core.List.{List, _++_}
 use native.Mathlib.Omega.{arith}
 use lib.ListN.{length, getD, take, drop, length-append, length-drop, List·getD-append}
-use lib.Seq.{getD-take, getD-drop, getD-append-add, length-take-le}
+use lib.Seq.{getD-take, getD-append-add, length-take-le}
 use lib.IntN.{ℤ}
 use borrow.Rule.Slice.PartMut.{putMid}
 use Rattle.definitions.specs.Integers.{0ℤ}
@@ -27,15 +27,6 @@ module _ (a e : ℕ) (xs ys : List ℤ) (h : a ≤ e) (b : e ≤ length xs) (len
 
   pub put-in : (k : ℕ) → a ≤ k → k < e → getD (putMid a (e - a) xs ys) k 0ℤ ≡ getD ys (k - a) 0ℤ
   put-in k l u = from-part k l ∙ List·getD-append ys (drop (e - a) (drop a xs)) 0ℤ (k - a) (omega arith)
-
-  pub put-after : (k : ℕ) → e ≤ k → getD (putMid a (e - a) xs ys) k 0ℤ ≡ getD xs k 0ℤ
-  put-after k l =
-      let at : k - a ≡ length ys + (k - e) = omega arith in
-      let back : a + (e - a + (k - e)) ≡ k = omega arith in
-      from-part k (omega arith) ∙ ap (λ j. getD (ys ++ drop (e - a) (drop a xs)) j 0ℤ) at
-      ∙ getD-append-add ys (drop (e - a) (drop a xs)) (k - e) 0ℤ ∙ getD-drop (e - a) (drop a xs) (k - e) 0ℤ
-      ∙ getD-drop a xs (e - a + (k - e)) 0ℤ
-      ∙ ap (λ j. getD xs j 0ℤ) back
 
   pub put-length : length (putMid a (e - a) xs ys) ≡ length xs
   put-length =

@@ -27,7 +27,3 @@ pub record MirroredTo (negate : Bool) (l m : List ℤ) (i : ℕ) : Type 0 where
 -- the entries from r on are the negatives of those r before
 unfoldable pub negatedCopy : ℕ → Series → Series
 negatedCopy r f i = cond (ltb i r) (f i) (⊖ (f (i - r)))
-
--- entry i at `at`, and nothing from `next` on up to there
-unfoldable pub movedUp : ℕ → ℕ → ℕ → Series → Series
-movedUp i at next f k = cond (eqb k at) (f i) (cond (leb next k && ltb k at) 0ℤ (f k))

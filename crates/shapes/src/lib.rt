@@ -15,9 +15,10 @@ ghost use Rattle.definitions.specs.Integers.{⊖};
 ghost use Rattle.definitions.specs.Series.{firsts, constant, alternate, spread};
 ghost use Rattle.definitions.specs.Steps.{entries, largest};
 ghost use Rattle.definitions.specs.Requests.{zeros};
-ghost use Rattle.shapes.specs.Shapes.{InRange, mirroredUp, negatedCopy, movedUp};
+ghost use Rattle.shapes.specs.Shapes.{InRange, mirroredUp, negatedCopy};
 use fours::mirror_fours;
 use passes::put;
+use passes::read_entry;
 
 // All entries 0.
 pub fn clear(a: &mut [i64])
@@ -108,25 +109,22 @@ pub fn negated_copy(a: &mut [i64], r: usize)
     }
 }
 
-// Entry i at `at`, and zeros from `next` on up to there.
-fn move_up(a: &mut [i64], i: usize, at: usize, next: usize)
-    requires { ⌜ (i ≤ at) × (next ≤ at) × (at < length (now a)) ⌝ }
-    ensures { λ _. ⌜ now (a .exit) ≡ firsts (length (now (a .entry))) (movedUp i at next (entries (now (a .entry)))) ⌝ }
-{
-    copy_to(a, i, at);
-    clear(&mut a[next..at]);
-}
-
 // z^t for z: the entries 0, 1, .. go to 0, t, .. with zeros between, from the top down, so that none is overwritten
-// before it is moved.
+// before it is moved. What lies above them is cleared first, and an entry's own place once the entry is read: it is put
+// last, since for t = 1 it stays where it is.
 pub fn spread(a: &mut [i64], top: usize, t: usize)
     requires { ⌜ (1 ≤ t) × (length (now a) ≡ top * t + 1) ⌝ }
     ensures { λ _. ⌜ now (a .exit) ≡ firsts (length (now (a .entry))) (spread t (entries (now (a .entry)))) ⌝ }
 {
+    let n = a.len();
+    let above = top + 1;
+    clear(&mut a[above..n]);
     let mut i = top;
-    let mut at = a.len() - 1;
+    let mut at = n - 1;
     while 0 < i {
-        move_up(a, i, at, at - t + 1);
+        let x = read_entry(a, i);
+        put(a, i, 0);
+        put(a, at, x);
         at -= t;
         i -= 1;
     }
