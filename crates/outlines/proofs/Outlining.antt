@@ -26,7 +26,7 @@ use Rattle.shapes.proofs.Stretches.{put-before, put-in, put-length}
 use Rattle.bounded.specs.Outcome.{StepOutcomeIs}
 use Rattle.bounded.proofs.Outcomes.{outcome-length}
 use Rattle.bounded.specs.declared.StepOutcome.{StepOutcome}
-use Rattle.outlines.specs.Outlines.{Again, Told, spelled, outlined}
+use Rattle.outlines.specs.Outlines.{Again, Told, ToldTo, spelled, outlined}
 use Rattle.outlines.specs.Outcome.{StepDue, OutlinedOutcomeIs}
 use Rattle.outlines.specs.declared.Outline.{Outline}
 use Rattle.outlines.specs.declared.OutlinedOutcome.{OutlinedOutcome}
@@ -41,25 +41,26 @@ pub part-ends : (e : ℕ) (l : List ℤ) → Ends e (entries (take e l))
 part-ends e l k h = entries-past (take e l) k (omega (arith, length-take e l))
 
 -- zeros written from e on up to `to` were told already
-module _ (e to : ℕ) (l z : List ℤ) (h : e ≤ to) (b : to ≤ length l) (q : z ≡ zeros (to - e)) where
-  z-length : length z ≡ to - e
-  unfolding zeros
-  z-length = ap length q ∙ length-replicate (to - e) 0ℤ
+pub zeros-told : (e to : ℕ) (l z : List ℤ) → e ≤ to → to ≤ length l → z ≡ zeros (to - e)
+    → ToldTo e to l (putMid e (to - e) l z)
+unfolding entries zeros
+zeros-told e to l z h b q = record { same = same; len = put-length e to l z h b z-length }
+  where
+    m : List ℤ
+    m = putMid e (to - e) l z
 
-  pub cleared-entries : (k : ℕ) → entries (take to (putMid e (to - e) l z)) k ≡ entries (take e l) k
-  unfolding entries zeros
-  cleared-entries k =
-      by-order k e
-      (λ low. part-here to (putMid e (to - e) l z) k (omega arith) ∙ put-before e to l z h b z-length k low
-      ∙ sym (part-here e l k low))
-      (λ from. by-order k to
-      (λ in′. part-here to (putMid e (to - e) l z) k in′ ∙ put-in e to l z h b z-length k from in′
-      ∙ ap (λ x. getD x (k - e) 0ℤ) q ∙ getD-replicate (to - e) (k - e) 0ℤ 0ℤ (omega arith)
-      ∙ sym (part-ends e l k from))
-      (λ out. part-ends to (putMid e (to - e) l z) k out ∙ sym (part-ends e l k from)))
+    z-length : length z ≡ to - e
+    z-length = ap length q ∙ length-replicate (to - e) 0ℤ
 
-  pub cleared-length : length (putMid e (to - e) l z) ≡ length l
-  cleared-length = put-length e to l z h b z-length
+    same : (k : ℕ) → entries (take to m) k ≡ entries (take e l) k
+    same k =
+        by-order k e
+        (λ low. part-here to m k (omega arith) ∙ put-before e to l z h b z-length k low ∙ sym (part-here e l k low))
+        (λ from. by-order k to
+        (λ in′. part-here to m k in′ ∙ put-in e to l z h b z-length k from in′ ∙ ap (λ x. getD x (k - e) 0ℤ) q
+        ∙ getD-replicate (to - e) (k - e) 0ℤ 0ℤ (omega arith)
+        ∙ sym (part-ends e l k from))
+        (λ out. part-ends to m k out ∙ sym (part-ends e l k from)))
 
 -- ---- the entries that are told
 -- the first n values of what ends by n are all of it
@@ -81,17 +82,12 @@ module _ (o : Outline) (l : List ℤ) (t : Told o l) where
       (whole-entries (length l) (entries (take (o .told) l)) (λ k h. part-ends (o .told) l k (omega (arith, t .room))))
 
   -- all written, where zeros come after what is told
-  pub zeros-written : (z : List ℤ) → o .repeats ≡ false → z ≡ zeros (length l - o .told)
-      → putMid (o .told) (length l - o .told) l z ≡ outlined o l
+  pub zeros-written : (m : List ℤ) → o .repeats ≡ false → ToldTo (o .told) (length l) l m → m ≡ outlined o l
   unfolding outlined spelled entries
-  zeros-written z e q =
+  zeros-written m e w =
       rw e
-      (is-firsts (length l) (entries (take (o .told) l)) m (cleared-length (o .told) (length l) l z (t .room) (omega arith) q)
-      (λ k h. sym (part-here (length l) m k h)
-      ∙ cleared-entries (o .told) (length l) l z (t .room) (omega arith) q k))
-    where
-      m : List ℤ
-      m = putMid (o .told) (length l - o .told) l z
+      (is-firsts (length l) (entries (take (o .told) l)) m (w .len)
+      (λ k h. sym (part-here (length l) m k h) ∙ w .same k))
 
 -- all written already
 pub all-told : (n : ℕ) (m : List ℤ) → n ≡ length m → outlined (record { told = n; repeats = false }) m ≡ m
@@ -140,17 +136,13 @@ too-long {w} {b} {d} {s} {o} {l} due far =
     }
 
 -- ---- an accumulate before zeros
-module _ {w b d : ℕ} {o : Outline} {l z : List ℤ} (due : StepDue w b d o l) (e : o .repeats ≡ false) (below : d < length l)
-    (near : o .told ≤ d) (q : z ≡ zeros (d - o .told)) where
-  abbrev m : List ℤ
-  m = putMid (o .told) (d - o .told) l z
-
+module _ {w b d : ℕ} {o : Outline} {l m : List ℤ} (due : StepDue w b d o l) (e : o .repeats ≡ false) (below : d < length l)
+    (t : ToldTo (o .told) d l m) where
   m-length : length m ≡ length (outlined o l)
-  m-length = cleared-length (o .told) d l z near (omega arith) q ∙ sym (outlined-length o l)
+  m-length = t .len ∙ sym (outlined-length o l)
 
   m-entries : entries (take d m) ≡ entries (outlined o l)
-  m-entries =
-      (λ i k. cleared-entries (o .told) d l z near (omega arith) q k i) ∙ sym (zeros-entries o l (due .told) e)
+  m-entries = (λ i k. t .same k i) ∙ sym (zeros-entries o l (due .told) e)
 
   first-d : Ends d (entries (outlined o l))
   first-d = rw (← m-entries) (part-ends d m)
@@ -278,27 +270,17 @@ module _ (w d to : ℕ) (g : Series) where
       inside : inRange w (g (to + k)) ≡ true
       inside = rw (h (to + k) (omega arith) (omega arith)) (in-range w 0ℤ (omega arith))
 
-module _ {w b d to : ℕ} {o : Outline} {l z : List ℤ} (due : StepDue w b d o l) (e : o .repeats ≡ false)
+module _ {w b d to : ℕ} {o : Outline} {l c : List ℤ} (due : StepDue w b d o l) (e : o .repeats ≡ false)
     (below : d < length l)
-    (reach : to ≡ min (o .told + d) (length l)) (q : z ≡ zeros (to - o .told)) where
-  pub reaches : (o .told ≤ to) × (to ≤ length l)
-  reaches = (omega (arith, due .told .room), omega arith)
-
-  abbrev cleared : List ℤ
-  cleared = putMid (o .told) (to - o .told) l z
-
+    (reach : to ≡ min (o .told + d) (length l)) (z : ToldTo (o .told) to l c) where
   abbrev part : List ℤ
-  part = take to cleared
+  part = take to c
 
   part-entries : entries part ≡ entries (outlined o l)
-  part-entries =
-      (λ i k. cleared-entries (o .told) to l z (reaches .0) (reaches .1) q k i) ∙ sym (zeros-entries o l (due .told) e)
-
-  pub clear-length : length cleared ≡ length l
-  clear-length = cleared-length (o .told) to l z (reaches .0) (reaches .1) q
+  part-entries = (λ i k. z .same k i) ∙ sym (zeros-entries o l (due .told) e)
 
   pub part-length : length part ≡ to
-  part-length = length-take-le to cleared (omega (arith, clear-length, reaches .1))
+  part-length = length-take-le to c (omega (arith, z .len))
 
   pub part-bounded : Bounded b (entries part)
   part-bounded = rw part-entries (due .bounded)
@@ -312,22 +294,25 @@ module _ {w b d to : ℕ} {o : Outline} {l z : List ℤ} (due : StepDue w b d o 
       ends : Ends (o .told) (entries (outlined o l))
       ends = rw (zeros-entries o l (due .told) e) (part-ends (o .told) l)
 
+  within : to ≤ length l
+  within = omega arith
+
   same-over : stepOver w comb d part ≡ stepOver w comb d (outlined o l)
   unfolding stepOver stepped
   same-over =
       ap₂ (λ n f. someOutside w d n (combed d f)) part-length part-entries
       ∙ sym (only-zeros w d to (combed d (entries (outlined o l))) (length l - to) (λ k a b. nothing k a (omega arith)))
-      ∙ ap (λ n. someOutside w d n (combed d (entries (outlined o l)))) (NatL.add-sub-of-le (reaches .1) ∙ sym (outlined-length o l))
+      ∙ ap (λ n. someOutside w d n (combed d (entries (outlined o l)))) (NatL.add-sub-of-le within ∙ sym (outlined-length o l))
 
   module _ {p : List ℤ} {v : StepOutcome} (t : StepOutcomeIs w comb d b part p v) where
     p-length : length p ≡ to
     p-length = outcome-length t ∙ part-length
 
-    m-part : take to (p ++ drop to cleared) ≡ p
-    m-part = ap (λ n. take n (p ++ drop to cleared)) (sym p-length) ∙ take-append-seam p (drop to cleared)
+    m-part : take to (p ++ drop to c) ≡ p
+    m-part = ap (λ n. take n (p ++ drop to c)) (sym p-length) ∙ take-append-seam p (drop to c)
 
-    m-all : length (p ++ drop to cleared) ≡ length l
-    m-all = length-append p (drop to cleared) ∙ omega (arith, p-length, length-drop to cleared, clear-length, reaches .1)
+    m-all : length (p ++ drop to c) ≡ length l
+    m-all = length-append p (drop to c) ∙ omega (arith, p-length, length-drop to c, z .len)
 
     p-is : v .over ≡ false → p ≡ firsts to (combed d (entries (outlined o l)))
     unfolding stepList stepped
@@ -340,17 +325,17 @@ module _ {w b d to : ℕ} {o : Outline} {l z : List ℤ} (due : StepDue w b d o 
         ∙ by-order k to (firsts-here to (combed d (entries (outlined o l))) k)
         (λ from. firsts-past to (combed d (entries (outlined o l))) k from ∙ sym (nothing k from h))
 
-    pub reached : OutlinedOutcomeIs w comb d (outlined o l) (p ++ drop to cleared)
+    pub reached : OutlinedOutcomeIs w comb d (outlined o l) (p ++ drop to c)
         (record { over = v .over; bound = v .bound; outline = record { told = to; repeats = false } })
     unfolding outlined spelled stepList stepped
     reached =
         record {
           over = t .over ∙ same-over;
-          told = λ x. record { some = omega (arith, due .told .some, reaches .0); room = omega (arith, m-all, reaches .1) };
+          told = λ x. record { some = omega (arith, due .told .some, due .told .room); room = omega (arith, m-all) };
           leaves = λ x. ap₂ (λ n y. firsts n (entries y)) m-all m-part
               ∙ firsts-same (length l) (entries p) (combed d (entries (outlined o l))) (new-part x)
               ∙ ap (λ n. firsts n (combed d (entries (outlined o l)))) (sym (outlined-length o l));
-          bounded = λ x. firsts-bounded (v .bound) (length (p ++ drop to cleared)) (entries (take to (p ++ drop to cleared)))
+          bounded = λ x. firsts-bounded (v .bound) (length (p ++ drop to c)) (entries (take to (p ++ drop to c)))
               (λ i h. rw m-part (t .bounded x i));
           inside = t .inside (due .inside);
           len = m-all ∙ sym (outlined-length o l);

@@ -19,6 +19,11 @@ pub record Told (o : Outline) (l : List ℤ) : Type 0 where
   pub some : 1 ≤ o .told
   pub room : o .told ≤ length l
 
+-- l became m, whose first `to` entries tell with zeros after them what the first `told` of l do
+pub record ToldTo (told to : ℕ) (l m : List ℤ) : Type 0 where
+  pub same : (k : ℕ) → entries (take to m) k ≡ entries (take told l) k
+  pub len : length m ≡ length l
+
 unfoldable pub spelled : Outline → List ℤ → Series
 spelled o l = cond (o .repeats) (accumulated (o .told) (entries (take (o .told) l))) (entries (take (o .told) l))
 

@@ -12,7 +12,7 @@ ghost use mathlib.Core.Bool.{true, false};
 ghost use lib.ListN.{length};
 ghost use Rattle.definitions.specs.Steps.{comb, accumulate};
 ghost use Rattle.passes.specs.Sorts.{sortMeans};
-ghost use Rattle.outlines.specs.Outlines.{Told, outlined};
+ghost use Rattle.outlines.specs.Outlines.{Told, ToldTo, outlined};
 ghost use Rattle.outlines.specs.Outcome.{StepDue, OutlinedOutcomeIs};
 
 // So many entries are told; after them come zeros, or they are repeated.
@@ -29,18 +29,24 @@ pub struct OutlinedOutcome {
     pub outline: Outline,
 }
 
+// The zeros that come after the told entries, written up to `to`.
+fn write_zeros(a: &mut [i64], told: usize, to: usize)
+    requires { ⌜ (told ≤ to) × (to ≤ length (now a)) ⌝ }
+    ensures { λ _. ⌜ ToldTo told to (now (a .entry)) (now (a .exit)) ⌝ }
+{
+    shapes::clear(&mut a[told..to]);
+}
+
 // All entries, written.
 pub fn write_out(a: &mut [i64], o: Outline)
     requires { ⌜ Told o (now a) ⌝ }
     ensures { λ _. ⌜ now (a .exit) ≡ outlined o (now (a .entry)) ⌝ }
 {
-    let told = o.told;
     if o.repeats {
-        repeat(a, told);
+        repeat(a, o.told);
         return;
     }
-    let n = a.len();
-    shapes::clear(&mut a[told..n]);
+    write_zeros(a, o.told, a.len());
 }
 
 fn smaller(a: usize, b: usize) -> usize
@@ -71,9 +77,8 @@ fn comb_before_zeros(a: &mut [i64], o: Outline, d: u64, bound: u64, w: u64) -> O
     requires { ⌜ StepDue w bound d o (now a) × (o .repeats ≡ false) × (d < length (now a)) ⌝ }
     ensures { λ r. ⌜ OutlinedOutcomeIs w comb d (outlined o (now (a .entry))) (now (a .exit)) r ⌝ }
 {
-    let told = o.told;
-    let to = smaller(told + d as usize, a.len());
-    shapes::clear(&mut a[told..to]);
+    let to = smaller(o.told + d as usize, a.len());
+    write_zeros(a, o.told, to);
     let outcome = take_step(&mut a[..to], Sort::Comb, d, bound, w);
     OutlinedOutcome {
         over: outcome.over,
@@ -107,9 +112,8 @@ fn accumulate_before_zeros(a: &mut [i64], o: Outline, d: u64, bound: u64, w: u64
     requires { ⌜ StepDue w bound d o (now a) × (o .repeats ≡ false) × (d < length (now a)) × (o .told ≤ d) ⌝ }
     ensures { λ r. ⌜ OutlinedOutcomeIs w accumulate d (outlined o (now (a .entry))) (now (a .exit)) r ⌝ }
 {
-    let told = o.told;
     let to = d as usize;
-    shapes::clear(&mut a[told..to]);
+    write_zeros(a, o.told, to);
     OutlinedOutcome {
         over: false,
         bound,
