@@ -1,17 +1,17 @@
 -- The shaping passes, turn by turn: what stands below the place where a pass has come is new, the rest is old
 -- (`Split`), and what a turn stores is the new entry there.
-use Prim.Native.Nat.{ℕ, zero, suc, _+_, _*_, _-_, _/_, _%_, _<_, _≤_}
+use Prim.Native.Nat.{ℕ, zero, suc, _+_, _-_, _/_, _%_, _<_, _≤_}
 use mathlib.Core.Path.{_≡_, refl, sym, _∙_, ap}
-use mathlib.Core.Bool.{Bool, true, false, cond}
-use mathlib.Core.List.{List, [], _∷_}
+use mathlib.Core.Bool.{Bool, cond}
+use mathlib.Core.List.{List, _∷_}
 use native.Mathlib.Omega.{arith}
 use native.Mathlib.Nat as NatL
 use borrow.Author.Tests.{lt-ltb, le-ltb}
 use lib.ListN.{length, getD, set, replicate}
-use lib.IntN.{ℤ, natAbs}
+use lib.IntN.{ℤ}
 use Rattle.definitions.specs.Integers.{⊖, 0ℤ}
-use Rattle.definitions.specs.Series.{Series, tail, firsts, alternate}
-use Rattle.definitions.specs.Steps.{entries, largest}
+use Rattle.definitions.specs.Series.{Series, firsts, alternate}
+use Rattle.definitions.specs.Steps.{entries}
 use Rattle.definitions.specs.Requests.{zeros}
 use Rattle.series.specs.Maps.{alternate-even, alternate-odd}
 use Rattle.passes.specs.Passes.{Split, All, putFour, setFour}

@@ -1,6 +1,6 @@
 -- z^t for z, in place from the top down: what lies above i t is spread, what lies up to i is still old, and between the
 -- two stand zeros. A turn clears i and puts what stood there at i t.
-use Prim.Native.Nat.{ℕ, zero, suc, _+_, _*_, _-_, _/_, _%_, _<_, _≤_}
+use Prim.Native.Nat.{ℕ, suc, _+_, _*_, _-_, _/_, _%_, _<_, _≤_}
 use mathlib.Core.Path.{_≡_, refl, sym, _∙_, ap}
 use mathlib.Core.Logic.{_≢_}
 use mathlib.Core.List.{List}

@@ -1,11 +1,11 @@
 -- What the shaping passes leave, entry by entry.
 use Prim.Native.Nat.{ℕ, _-_, _<_, _≤_, _/_, _+_}
-use mathlib.Core.Bool.{Bool, cond, _&&_}
+use mathlib.Core.Bool.{Bool, cond}
 use mathlib.Core.List.{List}
 use lib.ListN.{length}
 use lib.IntN.{ℤ, natAbs}
-use lib.Dec.{eqb, ltb, leb}
-use Rattle.definitions.specs.Integers.{⊖, 0ℤ}
+use lib.Dec.{ltb}
+use Rattle.definitions.specs.Integers.{⊖}
 use Rattle.definitions.specs.Series.{Series}
 use Rattle.definitions.specs.Steps.{entries, largest}
 use Rattle.passes.specs.Passes.{Split}

@@ -11,7 +11,7 @@ use crate::negated_entry;
 use passes::put_four;
 use passes::read_entry;
 
-// The mirror at the four places from i on, and so that it changes the sign.
+// The mirror at the four places from i on, that with the sign changed, and the one of the two that `negate` asks for.
 fn mirror_four(a: &mut [i64], i: usize)
     requires { ⌜ ((length (now a) + 1) / 2 ≤ i) × (i + 4 ≤ length (now a)) ⌝ }
     ensures { λ _.

@@ -4,7 +4,7 @@
 
 mod fours;
 
-ghost use Prim.Native.Nat.{ℕ, _+_, _*_, _-_, _/_, _<_, _≤_};
+ghost use Prim.Native.Nat.{_+_, _*_, _-_, _/_, _<_, _≤_};
 ghost use mathlib.Core.Path.{_≡_};
 ghost use mathlib.Core.Bool.{cond};
 ghost use lib.ListN.{length, set};
@@ -12,7 +12,7 @@ ghost use lib.IntN.{natAbs};
 ghost use mir.Syntax.{w64};
 ghost use mir.Val.{SFits};
 ghost use Rattle.definitions.specs.Integers.{⊖};
-ghost use Rattle.definitions.specs.Series.{firsts, constant, alternate, spread};
+ghost use Rattle.definitions.specs.Series.{firsts, alternate, spread};
 ghost use Rattle.definitions.specs.Steps.{entries, largest};
 ghost use Rattle.definitions.specs.Requests.{zeros};
 ghost use Rattle.shapes.specs.Shapes.{InRange, mirroredUp, negatedCopy};
@@ -110,8 +110,8 @@ pub fn negated_copy(a: &mut [i64], r: usize)
 }
 
 // z^t for z: the entries 0, 1, .. go to 0, t, .. with zeros between, from the top down, so that none is overwritten
-// before it is moved. What lies above them is cleared first, and an entry's own place once the entry is read: it is put
-// last, since for t = 1 it stays where it is.
+// before it is moved. What lies above them is cleared first, at once, and an entry's own place when it is moved: before
+// the entry is put, since for t = 1 it stays where it is.
 pub fn spread(a: &mut [i64], top: usize, t: usize)
     requires { ⌜ (1 ≤ t) × (length (now a) ≡ top * t + 1) ⌝ }
     ensures { λ _. ⌜ now (a .exit) ≡ firsts (length (now (a .entry))) (spread t (entries (now (a .entry)))) ⌝ }

@@ -33,10 +33,10 @@ mul-clear : tie.Need-mul-clear Inv-loop μ-loop
 mul-clear c = omega (arith, fits c)
 
 sub-clear : tie.Need-sub-clear Inv-loop μ-loop
-sub-clear c = fits c
+sub-clear c = omega (arith, fits c)
 
 part-clear-start : tie.Need-part-clear-start Inv-loop μ-loop
-part-clear-start c = fits c
+part-clear-start c = omega (arith, fits c)
 
 part-clear-end : tie.Need-part-clear-end Inv-loop μ-loop
 part-clear-end c = omega arith
