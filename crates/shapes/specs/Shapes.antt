@@ -14,6 +14,10 @@ use Rattle.passes.specs.Passes.{Split}
 abbrev pub InRange : ℕ → List ℤ → Type 0
 InRange n l = (i : ℕ) → i < n → natAbs (entries l i) ≤ largest
 
+-- entry k, or its negative
+abbrev pub signedEntry : Bool → List ℤ → ℕ → ℤ
+signedEntry negate l k = cond negate (⊖ (entries l k)) (entries l k)
+
 -- the upper half of n entries mirrors the lower
 unfoldable pub mirroredUp : Bool → ℕ → Series → Series
 mirroredUp negate n f i = cond (ltb i ((n + 1) / 2)) (f i) (cond negate (⊖ (f (n - 1 - i))) (f (n - 1 - i)))

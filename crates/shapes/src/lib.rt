@@ -6,7 +6,6 @@ mod fours;
 
 ghost use Prim.Native.Nat.{_+_, _*_, _-_, _/_, _<_, _≤_};
 ghost use mathlib.Core.Path.{_≡_};
-ghost use mathlib.Core.Bool.{cond};
 ghost use lib.ListN.{length, set};
 ghost use lib.IntN.{natAbs};
 ghost use mir.Syntax.{w64};
@@ -15,7 +14,7 @@ ghost use Rattle.definitions.specs.Integers.{⊖};
 ghost use Rattle.definitions.specs.Series.{firsts, alternate, spread};
 ghost use Rattle.definitions.specs.Steps.{entries, largest};
 ghost use Rattle.definitions.specs.Requests.{zeros};
-ghost use Rattle.shapes.specs.Shapes.{InRange, mirroredUp, negatedCopy};
+ghost use Rattle.shapes.specs.Shapes.{InRange, signedEntry, mirroredUp, negatedCopy};
 use fours::mirror_fours;
 use passes::put;
 use passes::read_entry;
@@ -47,27 +46,6 @@ pub fn mirror(a: &mut [i64], negate: bool)
     }
 }
 
-// Entry k, or its negative, at i.
-fn put_signed(a: &mut [i64], k: usize, i: usize, negate: bool)
-    requires { ⌜ (k < length (now a)) × (i < length (now a)) × (natAbs (entries (now a) k) ≤ largest) ⌝ }
-    ensures { λ _.
-        ⌜ now (a .exit)
-        ≡ set (now (a .entry)) i (cond negate (⊖ (entries (now (a .entry)) k)) (entries (now (a .entry)) k)) ⌝ }
-{
-    if negate {
-        negate_to(a, k, i);
-    } else {
-        copy_to(a, k, i);
-    }
-}
-
-fn copy_to(a: &mut [i64], k: usize, i: usize)
-    requires { ⌜ (k < length (now a)) × (i < length (now a)) ⌝ }
-    ensures { λ _. ⌜ now (a .exit) ≡ set (now (a .entry)) i (entries (now (a .entry)) k) ⌝ }
-{
-    a[i] = a[k];
-}
-
 fn negated_entry(a: &[i64], k: usize) -> i64
     requires { ⌜ (k < length (now a)) × (natAbs (entries (now a) k) ≤ largest) ⌝ }
     ensures { λ r. ⌜ (r ≡ ⊖ (entries (now (a .entry)) k)) × SFits w64 (⊖ (entries (now (a .entry)) k)) ⌝ }
@@ -75,12 +53,32 @@ fn negated_entry(a: &[i64], k: usize) -> i64
     -a[k]
 }
 
+// Entry k, or its negative.
+fn signed_entry(a: &[i64], k: usize, negate: bool) -> i64
+    requires { ⌜ (k < length (now a)) × (natAbs (entries (now a) k) ≤ largest) ⌝ }
+    ensures { λ r. ⌜ (r ≡ signedEntry negate (now (a .entry)) k) × SFits w64 (signedEntry negate (now (a .entry)) k) ⌝ }
+{
+    if negate {
+        negated_entry(a, k)
+    } else {
+        read_entry(a, k)
+    }
+}
+
+// That at i.
+fn put_signed(a: &mut [i64], k: usize, i: usize, negate: bool)
+    requires { ⌜ (k < length (now a)) × (i < length (now a)) × (natAbs (entries (now a) k) ≤ largest) ⌝ }
+    ensures { λ _. ⌜ now (a .exit) ≡ set (now (a .entry)) i (signedEntry negate (now (a .entry)) k) ⌝ }
+{
+    let v = signed_entry(a, k, negate);
+    put(a, i, v);
+}
+
 fn negate_to(a: &mut [i64], k: usize, i: usize)
     requires { ⌜ (k < length (now a)) × (i < length (now a)) × (natAbs (entries (now a) k) ≤ largest) ⌝ }
     ensures { λ _. ⌜ now (a .exit) ≡ set (now (a .entry)) i (⊖ (entries (now (a .entry)) k)) ⌝ }
 {
-    let v = negated_entry(a, k);
-    put(a, i, v);
+    put_signed(a, k, i, true);
 }
 
 // The entries at odd places negated.

@@ -23,8 +23,8 @@ loop-holds c = (omega arith, mirror-start (c .args .negate) (c .args .a .now) _ 
 add-loop : tie.Need-add-loop Inv-loop μ-loop
 add-loop c = omega arith
 
-mirror-four-signed-requires : tie.Need-mirror-four-signed-requires Inv-loop μ-loop
-mirror-four-signed-requires c κs =
+mirror-four-requires : tie.Need-mirror-four-requires Inv-loop μ-loop
+mirror-four-requires c κs =
     let q = c .before .before in
     let p = q .loop .inv .1 in
     ((omega arith, omega arith), mirror-range p (q .before .pre))
@@ -38,7 +38,7 @@ loop-less c = omega arith
 loop-again : tie.Need-loop-again Inv-loop μ-loop
 loop-again c =
     let p = c .before .before .before .before .loop .inv .1 in
-    (omega arith, mirror-next-four p (omega arith) (c .before .mirror-four-signed .ensures))
+    (omega arith, mirror-next-four p (omega arith) (c .before .mirror-four .ensures))
 
 same-length : tie.Need-same-length Inv-loop μ-loop
 same-length c = c .before .loop .inv .1 .split .len
@@ -55,7 +55,7 @@ mirror-fours-spec =
     add-i
     loop-holds
     add-loop
-    mirror-four-signed-requires
+    mirror-four-requires
     add-i-2
     loop-less
     loop-again
