@@ -2,7 +2,7 @@
 -- leaves, at 64 bits. A number that was read is `toZ w64 (ofZ w64 x)`; all its bits turned round are 2^64 - 1 less its
 -- bits.
 use Prim.Native.Nat.{ℕ, suc, _+_, _-_, _<_, _≤_, _^_}
-use mathlib.Core.Path.{_≡_, refl, sym, _∙_}
+use mathlib.Core.Path.{_≡_, sym, _∙_}
 use mathlib.Core.Bool.{Bool, true, false, not, true≢false}
 use native.Mathlib.Omega.{arith}
 use native.Mathlib.Numerals.{add-one}

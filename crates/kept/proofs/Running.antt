@@ -81,7 +81,8 @@ pub record Running (limit kind r i additions bound : ℕ) (at : Walk) (o : Outli
   pub sum : additions ≡ additionsAfter kind r i
 
 module _ (limit kind r : ℕ) (O : OddSquarefree r) (small : r ≤ 65535) (above : r ≢ 1) {i additions bound : ℕ}
-    {at : Walk} {o : Outline} {a : List ℤ} (s : Running limit kind r i additions bound at o a) (h : i < divisorsDue r) where
+    {at : Walk} {o : Outline} {a : List ℤ} (s : Running limit kind r i additions bound at o a)
+    (h : i < divisorsDue r) where
   of-r : at .r ≡ r
   unfolding walkAt
   of-r = ap (λ (w : Walk). w .r) (s .walk)
@@ -114,7 +115,8 @@ module _ (limit kind r : ℕ) (O : OddSquarefree r) (small : r ≤ 65535) (above
     pub count-here : t .count ≡ halfDegree kind r + 1 - nextDivisor r i
     count-here = u .count ∙ ap₂ (λ x k. halfDegree kind x + 1 - nextDivisor x k) of-r at-i
 
-    pub runs-on : t .over ≡ false → Running limit kind r (i + 1) (additions + t .count) (t .bound) (t .walk) (t .outline) m
+    pub runs-on : t .over ≡ false
+        → Running limit kind r (i + 1) (additions + t .count) (t .bound) (t .walk) (t .outline) m
     unfolding overAmong
     runs-on q =
         rw (add-one i)

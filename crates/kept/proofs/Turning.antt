@@ -5,7 +5,6 @@ use mathlib.Core.Path.{_≡_, refl, sym, _∙_, ap, ap₂}
 use mathlib.Core.Bool.{Bool, cond, not}
 use mathlib.Core.List.{List}
 use native.Mathlib.Omega.{arith}
-use native.Mathlib.Nat as NatL
 use lib.ListN.{length}
 use lib.Dec.{eqb}
 use lib.IntN.{ℤ}
@@ -24,11 +23,9 @@ use Rattle.outlines.proofs.Outlining.{outlined-length}
 use Rattle.kept.specs.Halves.{KeptHalfAt, DivisorOutcomeIs}
 use Rattle.divisors.specs.declared.Walk.{Walk}
 use Rattle.divisors.specs.declared.NextAndWalk.{NextAndWalk}
-use Rattle.divisors.specs.declared.Next.{Next}
 use Rattle.divisors.specs.declared.Next.the-variants.{Divisor, Nothing}
 use Rattle.outlines.specs.declared.Outline.{Outline}
 use Rattle.outlines.specs.declared.OutlinedOutcome.{OutlinedOutcome}
-use Rattle.kept.specs.declared.run.DivisorOutcome.{DivisorOutcome}
 
 pub kept-length : (kind r j : ℕ) → length (keptHalf kind r j) ≡ halfDegree kind r + 1
 unfolding keptHalf

@@ -22,8 +22,8 @@ use Rattle.outlines.specs.declared.Outline.{Outline}
 use Rattle.kept.specs.declared.run.DivisorOutcome.{DivisorOutcome}
 use Rattle.kept.specs.declared.RunOutcome.{RunOutcome}
 
--- the walk over r's divisors stands at some place, and o tells in l the kept half there, of magnitudes within the bound,
--- which is within the working limit
+-- the walk over r's divisors stands at some place, and o tells in l the kept half there, of magnitudes within the
+-- bound, which is within the working limit
 pub record KeptHalfAt (limit kind : ℕ) (w : Walk) (bound : ℕ) (o : Outline) (l : List ℤ) : Type 0 where
   pub walk : Stands w
   pub above : w .r ≢ 1

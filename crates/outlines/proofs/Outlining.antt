@@ -1,5 +1,5 @@
--- Outlined entries and steps on them, as lists: what clearing up to some place leaves told, what is told whole, and that
--- the four short ways of a step come to what the step on all entries comes to.
+-- Outlined entries and steps on them, as lists: what is told once zeros are written up to some place, what is told
+-- whole, and that the short ways of a step come to what the step on all entries comes to.
 use Prim.Native.Nat.{ℕ, zero, suc, _+_, _-_, _%_, _<_, _≤_, min}
 use mathlib.Core.Path.{_≡_, refl, sym, _∙_, ap, ap₂}
 use mathlib.Core.Bool.{Bool, true, false, cond, not, _&&_, _||_}
@@ -19,7 +19,8 @@ use Rattle.definitions.specs.Requests.{zeros}
 use Rattle.integers.specs.Whole.{⊕-neg}
 use Rattle.step_laws.specs.Tests.{by-order}
 use Rattle.step_laws.specs.Signed.{in-range}
-use Rattle.step_laws.specs.Firsts.{length-firsts, is-firsts, firsts-same, firsts-entries, entries-past, firsts-here, firsts-past}
+use Rattle.step_laws.specs.Firsts.{length-firsts, is-firsts, firsts-same, firsts-entries, entries-past}
+use Rattle.step_laws.specs.Firsts.{firsts-here, firsts-past}
 use Rattle.step_laws.specs.Bound.{Bounded, firsts-bounded}
 use Rattle.step_laws.specs.Step.{combed-from, stepped-below, not-over-all, long-not-over, long-stays}
 use Rattle.shapes.proofs.Stretches.{put-before, put-in, put-length}
@@ -29,7 +30,6 @@ use Rattle.bounded.specs.declared.StepOutcome.{StepOutcome}
 use Rattle.outlines.specs.Outlines.{Again, Told, ToldTo, spelled, outlined}
 use Rattle.outlines.specs.Outcome.{StepDue, OutlinedOutcomeIs}
 use Rattle.outlines.specs.declared.Outline.{Outline}
-use Rattle.outlines.specs.declared.OutlinedOutcome.{OutlinedOutcome}
 use Rattle.outlines.proofs.Repeats.{Ends, comes-again, again-bounded, again-multiple}
 
 -- ---- the first e entries
@@ -112,7 +112,11 @@ pub whole-step : {w b d n : ℕ} {s : Sort} {o : Outline} {l m : List ℤ} {v : 
 whole-step {w} {b} {d} {n} {s} {o} {l} {m} {v} due t e =
     record {
       over = t .over;
-      told = λ q. record { some = omega (arith, len, due .told .some, due .told .room, outlined-length o l); room = omega arith };
+      told = λ q.
+          record {
+            some = omega (arith, len, due .told .some, due .told .room, outlined-length o l);
+            room = omega arith;
+          };
       leaves = λ q. all-told n m e ∙ t .leaves ∙ ap (λ x. cond x (outlined o l) (stepList s d (outlined o l))) q;
       bounded = λ q. rw (all-told n m e) (t .bounded q);
       inside = t .inside (due .inside);
@@ -136,8 +140,8 @@ too-long {w} {b} {d} {s} {o} {l} due far =
     }
 
 -- ---- an accumulate before zeros
-module _ {w b d : ℕ} {o : Outline} {l m : List ℤ} (due : StepDue w b d o l) (e : o .repeats ≡ false) (below : d < length l)
-    (t : ToldTo (o .told) d l m) where
+module _ {w b d : ℕ} {o : Outline} {l m : List ℤ} (due : StepDue w b d o l) (e : o .repeats ≡ false)
+    (below : d < length l) (t : ToldTo (o .told) d l m) where
   m-length : length m ≡ length (outlined o l)
   m-length = t .len ∙ sym (outlined-length o l)
 
@@ -172,8 +176,8 @@ at-least d e one m = by-order d e (λ h. let x = NatL.mod-eq-of-lt h in absurd (
     zero-not : d ≡ 0 → ⊥
     zero-not z = omega arith
 
-module _ {w b d : ℕ} {o : Outline} {l a : List ℤ} (due : StepDue w b d o l) (e : o .repeats ≡ true) (below : d < length l)
-    (whole : d % (o .told) ≡ 0)
+module _ {w b d : ℕ} {o : Outline} {l a : List ℤ} (due : StepDue w b d o l) (e : o .repeats ≡ true)
+    (below : d < length l) (whole : d % (o .told) ≡ 0)
     (q : a ≡ firsts (length (take d l)) (accumulated (o .told) (entries (take (o .told) (take d l))))) where
   pub period-fits : o .told ≤ d
   period-fits = at-least d (o .told) (due .size) whole
@@ -188,7 +192,8 @@ module _ {w b d : ℕ} {o : Outline} {l a : List ℤ} (due : StepDue w b d o l) 
       go : (k : ℕ) → entries (take (o .told) (take d l)) k ≡ entries (take (o .told) l) k
       go k =
           by-order k (o .told)
-          (λ h. part-here (o .told) (take d l) k h ∙ part-here d l k (omega (arith, period-fits)) ∙ sym (part-here (o .told) l k h))
+          (λ h. part-here (o .told) (take d l) k h ∙ part-here d l k (omega (arith, period-fits))
+          ∙ sym (part-here (o .told) l k h))
           (λ h. part-ends (o .told) (take d l) k h ∙ sym (part-ends (o .told) l k h))
 
   a-is : a ≡ firsts d f
@@ -204,7 +209,9 @@ module _ {w b d : ℕ} {o : Outline} {l a : List ℤ} (due : StepDue w b d o l) 
 
   comes : Again d f
   unfolding f
-  comes = again-multiple (o .told) d whole (comes-again (o .told) (due .told .some) (entries (take (o .told) l)) (part-ends (o .told) l))
+  comes =
+      again-multiple (o .told) d whole
+      (comes-again (o .told) (due .told .some) (entries (take (o .told) l)) (part-ends (o .told) l))
 
   all-here : (k : ℕ) → k < length l → entries (outlined o l) k ≡ f k
   all-here k h = ap (λ x. entries x k) all-is ∙ firsts-here (length l) f k h
@@ -302,7 +309,8 @@ module _ {w b d to : ℕ} {o : Outline} {l c : List ℤ} (due : StepDue w b d o 
   same-over =
       ap₂ (λ n f. someOutside w d n (combed d f)) part-length part-entries
       ∙ sym (only-zeros w d to (combed d (entries (outlined o l))) (length l - to) (λ k a b. nothing k a (omega arith)))
-      ∙ ap (λ n. someOutside w d n (combed d (entries (outlined o l)))) (NatL.add-sub-of-le within ∙ sym (outlined-length o l))
+      ∙ ap (λ n. someOutside w d n (combed d (entries (outlined o l))))
+      (NatL.add-sub-of-le within ∙ sym (outlined-length o l))
 
   module _ {p : List ℤ} {v : StepOutcome} (t : StepOutcomeIs w comb d b part p v) where
     p-length : length p ≡ to

@@ -1,7 +1,7 @@
 -- Values that come again: an accumulate of size d makes the first d values, where zeros come after them, come again and
 -- again, none larger than they are; and what comes again at d comes again at its multiples.
 use Prim.Native.Nat.{ℕ, zero, suc, _+_, _*_, _-_, _/_, _%_, _<_, _≤_}
-use mathlib.Core.Path.{_≡_, refl, sym, _∙_, ap}
+use mathlib.Core.Path.{_≡_, sym, _∙_, ap}
 use mathlib.Core.List.{List, _++_}
 use native.Mathlib.Omega.{arith}
 use native.Mathlib.Nat as NatL

@@ -27,7 +27,8 @@ slice-aggregate-take-step : tie.Need-slice-aggregate-take-step
 slice-aggregate-take-step c =
     let q = c .before .before in
     let p = q .before .before .before .before in
-    sym (part-length (p .pre .0) (p .pre .1) (p .pre .2) (q .before .before .smaller .ensures) (q .write-zeros .ensures))
+    sym (part-length (p .pre .0) (p .pre .1) (p .pre .2) (q .before .before .smaller .ensures)
+    (q .write-zeros .ensures))
 
 take-step-requires : tie.Need-take-step-requires
 take-step-requires c κs =

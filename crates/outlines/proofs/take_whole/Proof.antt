@@ -1,8 +1,5 @@
 -- `take_whole` meets its contract: all entries are written, and the step is taken on them (Outlining).
-use mathlib.Core.Path.{refl, ap}
-use mathlib.Core.Bool.{cond}
-use Rattle.definitions.specs.Steps.{entries}
-use Rattle.passes.specs.Sorts.{sortMeans}
+use mathlib.Core.Path.{refl}
 use Rattle.outlines.proofs.Outlining.{whole-step}
 use borrow.Author.Needs.{needs}
 use Rattle.outlines.proofs.take_whole.Statement.{statement}
@@ -22,7 +19,8 @@ same-length c = search needs
 returns : tie.Need-returns
 returns c =
     let p = c .before .before .before .before .before .before in
-    whole-step (p .pre) (rw (c .before .before .before .before .write-out .ensures) at (c .before .take-step .ensures)) refl
+    whole-step (p .pre)
+    (rw (c .before .before .before .before .write-out .ensures) at (c .before .take-step .ensures)) refl
 
 pub take-whole-spec : {M : Type 1} → statement M
 take-whole-spec = tie.close (tie.spec write-out-requires take-step-requires same-length returns)

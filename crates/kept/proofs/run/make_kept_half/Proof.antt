@@ -2,7 +2,7 @@
 use mathlib.Core.Path.{sym, _∙_, ap}
 use mathlib.Core.Bool.{true≢false}
 use native.Mathlib.Omega.{arith}
-use lib.ListN.{length, length-set}
+use lib.ListN.{length-set}
 use lib.Seq.{getD-set-same}
 use Rattle.definitions.specs.Integers.{0ℤ}
 use Rattle.definitions.specs.Steps.{entries}

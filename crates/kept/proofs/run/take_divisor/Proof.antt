@@ -37,9 +37,11 @@ returns : tie.Need-returns
 returns c =
     let q = c .before .before .before .before .before .before .before in
     let p = q .before .before .before .before in
-    turned (p .args .w) (p .args .kind) (p .args .walk) (p .args .bound) (p .args .outline) (p .args .a .now) (p .pre .0) (p .pre .1)
+    turned (p .args .w) (p .args .kind) (p .args .walk) (p .args .bound) (p .args .outline) (p .args .a .now)
+    (p .pre .0) (p .pre .1)
     (q .before .before .before .next .result) (q .before .before .before .next .ensures) (q .next2 .given .0 .0)
-    (q .next2 .given .0 .1 .0) (q .next2 .given .1) (sortMeans (c .before .before .before .before .before .sort-for .result))
+    (q .next2 .given .0 .1 .0) (q .next2 .given .1)
+    (sortMeans (c .before .before .before .before .before .sort-for .result))
     (c .before .before .before .before .before .sort-for .ensures) (c .before .before .before .take-outlined .last .0)
     (c .before .before .before .take-outlined .result)
     (c .count-of .result) (c .before .before .before .take-outlined .ensures) (c .count-of .ensures)
@@ -47,8 +49,8 @@ returns c =
 returns-2 : tie.Need-returns-2
 returns-2 c =
     let p = c .before .before .before .before in
-    absurd (not-nothing (p .args .w) (p .args .kind) (p .args .walk) (p .args .bound) (p .args .outline) (p .args .a .now) (p .pre .0)
-    (p .pre .1) _
+    absurd (not-nothing (p .args .w) (p .args .kind) (p .args .walk) (p .args .bound) (p .args .outline)
+    (p .args .a .now) (p .pre .0) (p .pre .1) _
     (c .before .before .before .next .ensures) (c .enum-told .given .1))
 
 pub take-divisor-spec : {M : Type 1} → statement M

@@ -1,8 +1,6 @@
 -- `repeat` meets its contract: up to `far`, and from there on (Repeats: what is told comes again at `far` too).
-use Prim.Native.Nat.{ℕ, _<_, _≤_}
-use mathlib.Core.Path.{_≡_, sym, _∙_, ap}
+use mathlib.Core.Path.{sym}
 use native.Mathlib.Omega.{arith}
-use lib.ListN.{length, take, drop}
 use lib.Seq.{length-take-le}
 use Rattle.outlines.proofs.Repeats.{told-again}
 use borrow.Author.Needs.{needs}
