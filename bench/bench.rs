@@ -1,14 +1,15 @@
 //! F for all odd n to 65,535: our library, plain Rust, and FLINT where it is there (`--cfg flint`), one after the other at each n.
 //! The buffers are cleared before the clock runs. Prints the median over the rounds of each total, and its ratio to plain Rust.
-//! Then what a working limit costs (limits.rs).
+//! Then how the time grows with the additions (growth.rs), and what a working limit costs (limits.rs).
 
+mod growth;
 mod limits;
 mod plain;
 
 use plain::Answer as Told;
 use std::time::Instant;
 
-const ROUNDS: usize = 5;
+const ROUNDS: usize = 9;
 const LARGEST: usize = 65535;
 const NO_LIMIT: i64 = i64::MAX;
 
@@ -150,5 +151,6 @@ fn main() {
         }
         println!();
     }
+    growth::print();
     limits::print();
 }
