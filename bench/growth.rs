@@ -12,15 +12,16 @@ fn is_prime(p: u64) -> bool {
     p > 1 && (2..).take_while(|d| d * d <= p).all(|d| p % d != 0)
 }
 
-/// Up to eight indices, each some 1.6 times the one before, up to the largest.
+/// Eight indices, each some 1.6 times the one before, up to the largest; with five primes all there are.
 fn indices(small: &[u64]) -> Vec<u64> {
     let base: u64 = small.iter().product();
     let least = small.last().map_or(3, |p| p + 1);
     let (mut found, mut most) = (Vec::new(), LARGEST as u64);
-    while found.len() < 8 {
+    let (count, tenths) = if small.len() == 4 { (usize::MAX, 10) } else { (8, 6) };
+    while found.len() < count {
         let Some(p) = (least..=most / base).rev().find(|&p| is_prime(p)) else { break };
         found.push(base * p);
-        most = base * p * 5 / 8;
+        most = (base * p - 1) * tenths / 10;
     }
     found.reverse();
     found
@@ -62,8 +63,12 @@ pub fn print() {
             let mut points = Vec::new();
             for n in indices(small) {
                 let (additions, took) = timed(kind, n, &mut buf);
-                println!("{:>10} {n:>10} {additions:>10} {took:>13.2} {:>15.3}", small.len() + 1, took * 1e3 / additions as f64);
+                print!("{:>10} {n:>10} {additions:>10} {took:>13.2}", small.len() + 1);
+                println!("{}", if additions == 0 { String::new() } else { format!(" {:>15.3}", took * 1e3 / additions as f64) });
                 points.push((additions, took));
+            }
+            if points.iter().all(|p| p.0 == 0) {
+                continue; // I of one prime: no step reaches its one entry
             }
             let (start, slope, share) = line(&points);
             println!("{:>10}  line: {start:.2} microseconds + {:.3} ns an addition, r^2 = {share:.4}", small.len() + 1, slope * 1e3);

@@ -79,7 +79,7 @@ extern "C" {
 typedef struct bv_answer {
     uint64_t code;
     uint64_t degree;    /* of the polynomial: degree + 1 entries are needed, and filled */
-    uint64_t additions; /* how many additions and subtractions made it */
+    uint64_t additions; /* the count of its steps: for each, the entries of the kept half from its size on */
     uint64_t height;    /* the largest magnitude among its coefficients */
     uint64_t peak;      /* the lowest degree at which that magnitude occurs */
     int64_t gain;       /* the sum of its coefficients */
@@ -88,7 +88,7 @@ typedef struct bv_answer {
 typedef struct bv_stop {
     uint64_t code;
     uint64_t degree;    /* D, the last place of the kept half: D + 1 entries are needed, and filled */
-    uint64_t additions; /* how many additions and subtractions the j steps took */
+    uint64_t additions; /* the count of the j steps, likewise */
     uint64_t due;       /* how many divisors are still to come */
 } bv_stop;
 
