@@ -6,10 +6,11 @@ use combs::comb;
 use combs::comb_or_undo;
 use heights::larger;
 use heights::magnitude;
+use heights::smaller;
 use passes::ADDABLE;
 use passes::Sort;
 use tested_accumulates::accumulate_or_undo;
-ghost use Prim.Native.Nat.{ℕ, _+_, _*_, _≤_, _<_, min};
+ghost use Prim.Native.Nat.{ℕ, _+_, _*_, _≤_, _<_};
 ghost use mathlib.Core.Path.{_≡_};
 ghost use mathlib.Core.Bool.{true, false};
 ghost use lib.ListN.{length};
@@ -50,12 +51,6 @@ fn stays_within(bound: u64, times: u64, w: u64) -> bool
         return false;
     }
     bound <= (w - bound) / times
-}
-
-fn smaller(a: u64, b: u64) -> u64
-    ensures { λ r. ⌜ r ≡ min a b ⌝ }
-{
-    if a < b { a } else { b }
 }
 
 // The step of either sort, of which it is known that no value leaves the range.

@@ -11,6 +11,9 @@ use Rattle.heights.proofs.magnitude.Reads as magnitude-reads
 use Rattle.heights.proofs.larger as larger
 use Rattle.heights.proofs.larger.Kinds as larger-kinds
 use Rattle.heights.proofs.larger.Reads as larger-reads
+use Rattle.heights.proofs.smaller as smaller
+use Rattle.heights.proofs.smaller.Kinds as smaller-kinds
+use Rattle.heights.proofs.smaller.Reads as smaller-reads
 use Rattle.heights.proofs.Looks.{next-one}
 use Rattle.heights.proofs.above as above
 use Rattle.heights.proofs.above.Kinds as above-kinds
@@ -30,6 +33,12 @@ pub larger-one :
     (e e′ : AtExit (endedOf 0 larger-kinds.ps larger-kinds.r) κs) →
     larger-reads.Post κs a z e → larger-reads.Post κs a z′ e′ → z ≡ z′
 larger-one κs a z z′ e e′ p p′ = p ∙ sym p′
+
+pub smaller-one :
+    (κs : Lfts 0) (a : ArgsD smaller.signature κs) (z z′ : ResD smaller.signature κs)
+    (e e′ : AtExit (endedOf 0 smaller-kinds.ps smaller-kinds.r) κs) →
+    smaller-reads.Post κs a z e → smaller-reads.Post κs a z′ e′ → z ≡ z′
+smaller-one κs a z z′ e e′ p p′ = p ∙ sym p′
 
 pub above-one :
     (κs : Lfts 1) (a : ArgsD above.signature κs) (z z′ : ResD above.signature κs)

@@ -2,7 +2,7 @@
 // lowest place where it stands; both are 0 for an empty one. Nothing is asked beforehand: -2^63, whose magnitude is no
 // i64, is measured too. `above` is inner: the crate `peaks` uses it, and shows the `requires`.
 ghost use mathlib.Core.Path.{_≡_};
-ghost use Prim.Native.Nat.{_≤_, max};
+ghost use Prim.Native.Nat.{_≤_, max, min};
 ghost use lib.ListN.{length};
 ghost use lib.IntN.{natAbs};
 ghost use Rattle.definitions.specs.Answer.{heightOf, peakOf};
@@ -25,6 +25,12 @@ pub fn larger(a: u64, b: u64) -> u64
     ensures { λ r. ⌜ r ≡ max a b ⌝ }
 {
     if a < b { b } else { a }
+}
+
+pub fn smaller(a: u64, b: u64) -> u64
+    ensures { λ r. ⌜ r ≡ min a b ⌝ }
+{
+    if a < b { a } else { b }
 }
 
 // The first place from `from` on with a magnitude above h, or the end. A loop that can stop is not made one of vectors,

@@ -5,8 +5,9 @@ mod again;
 
 use again::repeat;
 use bounded::take_step;
+use heights::smaller;
 use passes::Sort;
-ghost use Prim.Native.Nat.{_%_, _≤_, _<_, min};
+ghost use Prim.Native.Nat.{_%_, _≤_, _<_};
 ghost use mathlib.Core.Path.{_≡_};
 ghost use mathlib.Core.Bool.{true, false};
 ghost use lib.ListN.{length};
@@ -49,12 +50,6 @@ pub fn write_out(a: &mut [i64], o: Outline)
     write_zeros(a, o.told, a.len());
 }
 
-fn smaller(a: usize, b: usize) -> usize
-    ensures { λ r. ⌜ r ≡ min a b ⌝ }
-{
-    if a < b { a } else { b }
-}
-
 // A step on all entries.
 fn take_whole(a: &mut [i64], o: Outline, sort: Sort, d: u64, bound: u64, w: u64) -> OutlinedOutcome
     requires { ⌜ StepDue w bound d o (now a) ⌝ }
@@ -77,7 +72,7 @@ fn comb_before_zeros(a: &mut [i64], o: Outline, d: u64, bound: u64, w: u64) -> O
     requires { ⌜ StepDue w bound d o (now a) × (o .repeats ≡ false) × (d < length (now a)) ⌝ }
     ensures { λ r. ⌜ OutlinedOutcomeIs w comb d (outlined o (now (a .entry))) (now (a .exit)) r ⌝ }
 {
-    let to = smaller(o.told + d as usize, a.len());
+    let to = smaller(o.told as u64 + d, a.len() as u64) as usize;
     write_zeros(a, o.told, to);
     let outcome = take_step(&mut a[..to], Sort::Comb, d, bound, w);
     OutlinedOutcome {

@@ -15,7 +15,7 @@ smaller-requires c κs = search needs
 
 write-zeros-requires : tie.Need-write-zeros-requires
 write-zeros-requires c κs =
-    let p = c .before .before .before in
+    let p = c .before .before in
     (omega (arith, p .pre .0 .told .room, c .before .smaller .ensures), omega (arith, c .before .smaller .ensures))
 
 slice-relend-prefix-take-step : tie.Need-slice-relend-prefix-take-step
@@ -26,14 +26,14 @@ slice-relend-prefix-take-step c =
 slice-aggregate-take-step : tie.Need-slice-aggregate-take-step
 slice-aggregate-take-step c =
     let q = c .before .before in
-    let p = q .before .before .before .before in
+    let p = q .before .before .before in
     sym (part-length (p .pre .0) (p .pre .1) (p .pre .2) (q .before .before .smaller .ensures)
     (q .write-zeros .ensures))
 
 take-step-requires : tie.Need-take-step-requires
 take-step-requires c κs =
     let q = c .before .before in
-    let p = q .before .before .before .before in (
+    let p = q .before .before .before in (
       p .pre .0 .size,
       part-bounded (p .pre .0) (p .pre .1) (p .pre .2) (q .before .before .smaller .ensures) (q .write-zeros .ensures),
       p .pre .0 .good,
@@ -45,7 +45,7 @@ same-length c = search needs
 returns : tie.Need-returns
 returns c =
     let q = c .before .before .before .before in
-    let p = q .before .before .before .before in
+    let p = q .before .before .before in
     reached (p .pre .0) (p .pre .1) (p .pre .2) (q .before .before .smaller .ensures) (q .write-zeros .ensures)
     (c .before .take-step .ensures)
 
