@@ -1,6 +1,6 @@
-// Inner: the `requires` is shown by the caller `polynomial`. The height of a slice and the lowest place where it stands,
-// as `heights::peak` finds them, but quicker where a bound of the magnitudes is known: nothing is looked for above it,
-// and else the next larger magnitude is looked for in blocks.
+// Inner: the `requires` is shown by the caller `polynomial`. The height of a slice and the lowest place where it
+// stands, as `heights::peak` finds them, but quicker, since a bound of the magnitudes is known: nothing is looked for
+// above it, and else the next larger magnitude is looked for in blocks.
 use heights::Top;
 use heights::above;
 use heights::magnitude;
