@@ -1,4 +1,4 @@
--- Laws that the functions' proofs share, and `kept`'s.
+-- Laws that the functions' proofs share, and `outlines`'s.
 pub mod Outcomes
 mod Tested
-mod Untested
+pub mod Untested

@@ -32,7 +32,7 @@ pub struct StepOutcome {
 const LARGE: u64 = 140737488355328;
 
 // How often a step of size d can add the largest magnitude of n entries to itself.
-fn times_added(sort: Sort, d: u64, n: u64) -> u64
+pub fn times_added(sort: Sort, d: u64, n: u64) -> u64
     requires { ⌜ (1 ≤ d) × (d ≤ n) ⌝ }
     ensures { λ r. ⌜ (1 ≤ r) × ((b : ℕ) → growth (sortMeans sort) d n b ≡ b * r + b) ⌝ }
 {
@@ -43,7 +43,7 @@ fn times_added(sort: Sort, d: u64, n: u64) -> u64
 }
 
 // Whether a magnitude that is added to itself so often stays within w: one division, and no sum that is too large.
-fn stays_within(bound: u64, times: u64, w: u64) -> bool
+pub fn stays_within(bound: u64, times: u64, w: u64) -> bool
     requires { ⌜ 1 ≤ times ⌝ }
     ensures { λ r. ⌜ (r ≡ true → bound * times + bound ≤ w) ⌝ }
 {

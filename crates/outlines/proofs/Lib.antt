@@ -1,3 +1,2 @@
 -- Laws that the functions' proofs share, and `kept`'s.
-pub mod Repeats
 pub mod Outlining

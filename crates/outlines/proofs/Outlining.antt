@@ -27,18 +27,11 @@ use Rattle.shapes.proofs.Stretches.{put-before, put-in, put-length}
 use Rattle.bounded.specs.Outcome.{StepOutcomeIs}
 use Rattle.bounded.proofs.Outcomes.{outcome-length}
 use Rattle.bounded.specs.declared.StepOutcome.{StepOutcome}
-use Rattle.outlines.specs.Outlines.{Again, Told, ToldTo, spelled, outlined}
+use Rattle.repeats.specs.Repeats.{Again, repeated}
+use Rattle.repeats.proofs.Repeats.{Ends, part-here, part-ends, comes-again, again-bounded, again-multiple, repeated-part}
+use Rattle.outlines.specs.Outlines.{Told, ToldTo, spelled, outlined}
 use Rattle.outlines.specs.Outcome.{StepDue, OutlinedOutcomeIs}
 use Rattle.outlines.specs.declared.Outline.{Outline}
-use Rattle.outlines.proofs.Repeats.{Ends, comes-again, again-bounded, again-multiple}
-
--- ---- the first e entries
-part-here : (e : ℕ) (l : List ℤ) (k : ℕ) → k < e → entries (take e l) k ≡ entries l k
-unfolding entries
-part-here e l k h = getD-take e l k 0ℤ h
-
-pub part-ends : (e : ℕ) (l : List ℤ) → Ends e (entries (take e l))
-part-ends e l k h = entries-past (take e l) k (omega (arith, length-take e l))
 
 -- zeros written from e on up to `to` were told already
 pub zeros-told : (e to : ℕ) (l z : List ℤ) → e ≤ to → to ≤ length l → z ≡ zeros (to - e)
@@ -126,6 +119,11 @@ whole-step {w} {b} {d} {n} {s} {o} {l} {m} {v} due t e =
     len : length m ≡ length (outlined o l)
     len = outcome-length t
 
+-- ---- what is repeated
+pub repeats-all : (o : Outline) (l : List ℤ) → o .repeats ≡ true → repeated (o .told) l ≡ outlined o l
+unfolding outlined spelled repeated
+repeats-all o l e = rw e refl
+
 -- ---- a step that is too long
 pub too-long : {w b d : ℕ} {s : Sort} {o : Outline} {l : List ℤ} → StepDue w b d o l → length l ≤ d
     → OutlinedOutcomeIs w s d (outlined o l) l (record { over = false; bound = b; outline = o })
@@ -154,10 +152,10 @@ module _ {w b d : ℕ} {o : Outline} {l m : List ℤ} (due : StepDue w b d o l) 
   small : Bounded b (accumulated d (entries (outlined o l)))
   small = again-bounded d (due .size) (entries (outlined o l)) first-d (due .bounded)
 
-  pub repeated : OutlinedOutcomeIs w accumulate d (outlined o l) m
+  pub begins-again : OutlinedOutcomeIs w accumulate d (outlined o l) m
       (record { over = false; bound = b; outline = record { told = d; repeats = true } })
   unfolding outlined spelled stepList stepped
-  repeated =
+  begins-again =
       record {
         over = sym (not-over-all accumulate d (outlined o l) w
             (λ i from h. in-range w _ (NatL.le-trans (small i) (due .inside))));
@@ -178,27 +176,16 @@ at-least d e one m = by-order d e (λ h. let x = NatL.mod-eq-of-lt h in absurd (
 
 module _ {w b d : ℕ} {o : Outline} {l a : List ℤ} (due : StepDue w b d o l) (e : o .repeats ≡ true)
     (below : d < length l) (whole : d % (o .told) ≡ 0)
-    (q : a ≡ firsts (length (take d l)) (accumulated (o .told) (entries (take (o .told) (take d l))))) where
+    (q : a ≡ repeated (o .told) (take d l)) where
   pub period-fits : o .told ≤ d
   period-fits = at-least d (o .told) (due .size) whole
 
   f : Series
   f = accumulated (o .told) (entries (take (o .told) l))
 
-  -- the period is told in the first d entries
-  told-part : entries (take (o .told) (take d l)) ≡ entries (take (o .told) l)
-  told-part i k = go k i
-    where
-      go : (k : ℕ) → entries (take (o .told) (take d l)) k ≡ entries (take (o .told) l) k
-      go k =
-          by-order k (o .told)
-          (λ h. part-here (o .told) (take d l) k h ∙ part-here d l k (omega (arith, period-fits))
-          ∙ sym (part-here (o .told) l k h))
-          (λ h. part-ends (o .told) (take d l) k h ∙ sym (part-ends (o .told) l k h))
-
   a-is : a ≡ firsts d f
   unfolding f
-  a-is = q ∙ ap₂ (λ n s. firsts n (accumulated (o .told) s)) (length-take-le d l (omega arith)) told-part
+  a-is = q ∙ repeated-part (o .told) d l period-fits (omega arith)
 
   a-length : length a ≡ d
   a-length = ap length a-is ∙ length-firsts d f

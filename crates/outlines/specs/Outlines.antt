@@ -1,6 +1,6 @@
 -- Entries that are told by the first few of them: after these come zeros, or the same again and again, which is what
 -- an accumulate of that size makes of them.
-use Prim.Native.Nat.{ℕ, _-_, _≤_}
+use Prim.Native.Nat.{ℕ, _≤_}
 use mathlib.Core.Path.{_≡_}
 use mathlib.Core.Bool.{cond}
 use mathlib.Core.List.{List}
@@ -9,10 +9,6 @@ use lib.IntN.{ℤ}
 use Rattle.definitions.specs.Series.{Series, firsts}
 use Rattle.definitions.specs.Steps.{accumulated, entries}
 use Rattle.outlines.specs.declared.Outline.{Outline}
-
--- every value from d on is the one d before
-abbrev pub Again : ℕ → Series → Type 0
-Again d f = (i : ℕ) → d ≤ i → f i ≡ f (i - d)
 
 -- one entry at least is told, and no more than there are
 pub record Told (o : Outline) (l : List ℤ) : Type 0 where

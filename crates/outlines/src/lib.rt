@@ -1,12 +1,13 @@
 // Inner: each `requires` is shown by the caller `kept`. Steps on entries that are told by the first few of them, after
 // which come zeros or the same again. The first steps of a run make such entries, so that most of them need not be
 // written one step after the other.
-mod again;
-
-use again::repeat;
+use bounded::stays_within;
 use bounded::take_step;
+use bounded::times_added;
 use heights::smaller;
 use passes::Sort;
+use repeats::accumulate_repeated;
+use repeats::repeat;
 ghost use Prim.Native.Nat.{_%_, _≤_, _<_};
 ghost use mathlib.Core.Path.{_≡_};
 ghost use mathlib.Core.Bool.{true, false};
@@ -15,6 +16,9 @@ ghost use Rattle.definitions.specs.Steps.{comb, accumulate};
 ghost use Rattle.passes.specs.Sorts.{sortMeans};
 ghost use Rattle.outlines.specs.Outlines.{Told, ToldTo, outlined};
 ghost use Rattle.outlines.specs.Outcome.{StepDue, OutlinedOutcomeIs};
+
+// Rows of an accumulate of what is repeated that are shorter take longer than a pass more.
+const ROW: u64 = 64;
 
 // So many entries are told; after them come zeros, or they are repeated.
 pub struct Outline {
@@ -119,6 +123,27 @@ fn accumulate_before_zeros(a: &mut [i64], o: Outline, d: u64, bound: u64, w: u64
     }
 }
 
+// An accumulate of what is repeated, in one pass; or, where a value may pass w, on all entries.
+fn accumulate_of_repeated(a: &mut [i64], o: Outline, d: u64, bound: u64, w: u64) -> OutlinedOutcome
+    requires { ⌜ StepDue w bound d o (now a) × (o .repeats ≡ true) × (d < length (now a)) × (o .told ≤ d) ⌝ }
+    ensures { λ r. ⌜ OutlinedOutcomeIs w accumulate d (outlined o (now (a .entry))) (now (a .exit)) r ⌝ }
+{
+    let times = times_added(Sort::Accumulate, d, a.len() as u64);
+    if stays_within(bound, times, w) {
+        let grown = bound * times + bound;
+        accumulate_repeated(a, o.told, d as usize);
+        return OutlinedOutcome {
+            over: false,
+            bound: grown,
+            outline: Outline {
+                told: a.len(),
+                repeats: false,
+            },
+        };
+    }
+    take_whole(a, o, Sort::Accumulate, d, bound, w)
+}
+
 // A comb of size d, which is below the number of entries.
 fn take_comb(a: &mut [i64], o: Outline, d: u64, bound: u64, w: u64) -> OutlinedOutcome
     requires { ⌜ StepDue w bound d o (now a) × (d < length (now a)) ⌝ }
@@ -138,9 +163,12 @@ fn take_accumulate(a: &mut [i64], o: Outline, d: u64, bound: u64, w: u64) -> Out
     requires { ⌜ StepDue w bound d o (now a) × (d < length (now a)) ⌝ }
     ensures { λ r. ⌜ OutlinedOutcomeIs w accumulate d (outlined o (now (a .entry))) (now (a .exit)) r ⌝ }
 {
-    if !o.repeats {
-        if o.told as u64 <= d {
+    if o.told as u64 <= d {
+        if !o.repeats {
             return accumulate_before_zeros(a, o, d, bound, w);
+        }
+        if ROW <= d - d % o.told as u64 {
+            return accumulate_of_repeated(a, o, d, bound, w);
         }
     }
     take_whole(a, o, Sort::Accumulate, d, bound, w)

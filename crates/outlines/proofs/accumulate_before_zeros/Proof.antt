@@ -1,5 +1,5 @@
 -- `accumulate_before_zeros` meets its contract: zeros are written up to d (Outlining).
-use Rattle.outlines.proofs.Outlining.{repeated}
+use Rattle.outlines.proofs.Outlining.{begins-again}
 use borrow.Author.Needs.{needs}
 use Rattle.outlines.proofs.accumulate_before_zeros.Statement.{statement}
 use Rattle.outlines.proofs.accumulate_before_zeros.Tie as tie
@@ -13,7 +13,7 @@ same-length c = search needs
 returns : tie.Need-returns
 returns c =
     let p = c .before .before .before in
-    repeated (p .pre .0) (p .pre .1) (p .pre .2) (c .before .write-zeros .ensures)
+    begins-again (p .pre .0) (p .pre .1) (p .pre .2) (c .before .write-zeros .ensures)
 
 pub accumulate-before-zeros-spec : {M : Type 1} → statement M
 accumulate-before-zeros-spec = tie.close (tie.spec write-zeros-requires same-length returns)

@@ -1,6 +1,6 @@
 -- `write_out` meets its contract: what is told repeated, or zeros after it (Outlining).
-use Rattle.outlines.specs.Outlines.{outlined, spelled}
-use Rattle.outlines.proofs.Outlining.{zeros-written}
+use mathlib.Core.Path.{_∙_}
+use Rattle.outlines.proofs.Outlining.{repeats-all, zeros-written}
 use borrow.Author.Needs.{needs}
 use Rattle.outlines.proofs.write_out.Statement.{statement}
 use Rattle.outlines.proofs.write_out.Tie as tie
@@ -12,8 +12,9 @@ same-length : tie.Need-same-length
 same-length c = search needs
 
 returns : tie.Need-returns
-unfolding outlined spelled
-returns c = rw (c .before .before .before .if1 .taken) (c .before .repeat .ensures)
+returns c =
+    let p = c .before .before .before .before in
+    c .before .repeat .ensures ∙ repeats-all (p .args .o) (p .args .a .now) (c .before .before .before .if1 .taken)
 
 write-zeros-requires : tie.Need-write-zeros-requires
 write-zeros-requires c κs = search needs

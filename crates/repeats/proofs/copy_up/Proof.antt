@@ -9,9 +9,9 @@ use Rattle.definitions.specs.Steps.{entries}
 use Rattle.step_laws.specs.Machine.{handed}
 use Rattle.step_laws.specs.Firsts.{is-firsts}
 use Rattle.passes.proofs.Split.{getD-set-by}
-use Rattle.outlines.specs.Outlines.{Again}
-use Rattle.outlines.proofs.again.copy_up.Statement.{statement}
-use Rattle.outlines.proofs.again.copy_up.Tie as tie
+use Rattle.repeats.specs.Repeats.{Again}
+use Rattle.repeats.proofs.copy_up.Statement.{statement}
+use Rattle.repeats.proofs.copy_up.Tie as tie
 
 abbrev Inv-loop : tie.InvT-loop
 Inv-loop a₀ d i₀ a i =

@@ -1,7 +1,7 @@
 -- Values that come again: an accumulate of size d makes the first d values, where zeros come after them, come again and
 -- again, none larger than they are; and what comes again at d comes again at its multiples.
 use Prim.Native.Nat.{ℕ, zero, suc, _+_, _*_, _-_, _/_, _%_, _<_, _≤_}
-use mathlib.Core.Path.{_≡_, sym, _∙_, ap}
+use mathlib.Core.Path.{_≡_, sym, _∙_, ap, ap₂}
 use mathlib.Core.List.{List, _++_}
 use native.Mathlib.Omega.{arith}
 use native.Mathlib.Nat as NatL
@@ -13,13 +13,23 @@ use Rattle.definitions.specs.Series.{Series, firsts}
 use Rattle.definitions.specs.Steps.{accumulated, entries}
 use Rattle.integers.specs.Whole.{zero-⊕}
 use Rattle.step_laws.specs.Accumulated.{accumulated-from, accumulated-below, by-chain}
+use Rattle.step_laws.specs.Tests.{by-order}
 use Rattle.step_laws.specs.Bound.{Bounded}
 use Rattle.step_laws.specs.Firsts.{length-firsts, getD-firsts, entries-past}
-use Rattle.outlines.specs.Outlines.{Again}
+use Rattle.repeats.specs.Repeats.{Again, repeated}
 
+-- ---- the first e entries
+pub part-here : (e : ℕ) (l : List ℤ) (k : ℕ) → k < e → entries (take e l) k ≡ entries l k
+unfolding entries
+part-here e l k h = getD-take e l k 0ℤ h
+
+-- ---- values that come again
 -- nothing comes from d on
 abbrev pub Ends : ℕ → Series → Type 0
 Ends d f = (i : ℕ) → d ≤ i → f i ≡ 0ℤ
+
+pub part-ends : (e : ℕ) (l : List ℤ) → Ends e (entries (take e l))
+part-ends e l k h = entries-past (take e l) k (omega (arith, length-take e l))
 
 pub again-sum : {f : Series} (d e : ℕ) → Again d f → Again e f → Again (d + e) f
 again-sum {f} d e a b i h =
@@ -53,16 +63,15 @@ module _ (d far : ℕ) (l part m : List ℤ) (one : 1 ≤ d) (near : d ≤ far) 
   f = accumulated d (entries (take d l))
 
   again : Again d f
-  again = comes-again d one (entries (take d l)) (λ k h. entries-past (take d l) k (omega (arith, length-take d l)))
+  again = comes-again d one (entries (take d l)) (part-ends d l)
 
   -- what is copied up within the first `far`
   module _ (up : (f : Series) → Again d f → ((k : ℕ) → k < d → entries (take far l) k ≡ f k)
       → part ≡ firsts (length (take far l)) f) where
     part-is : part ≡ firsts far f
-    unfolding entries
     part-is =
         up f again
-        (λ k h. getD-take far l k 0ℤ (omega arith) ∙ sym (getD-take d l k 0ℤ h)
+        (λ k h. part-here far l k (omega arith) ∙ sym (part-here d l k h)
         ∙ sym (accumulated-below d (entries (take d l)) k h))
         ∙ ap (λ n. firsts n f) (length-take-le far l room)
 
@@ -84,3 +93,16 @@ module _ (d far : ℕ) (l part m : List ℤ) (one : 1 ≤ d) (near : d ≤ far) 
         → m ≡ firsts (length (part ++ drop far l)) f)
         → m ≡ firsts (length l) f
     told-again more on = on f (more f again) begins ∙ ap (λ n. firsts n f) all
+
+-- the first d entries again and again, of a part in which they lie
+pub repeated-part : (d e : ℕ) (l : List ℤ) → d ≤ e → e ≤ length l
+    → repeated d (take e l) ≡ firsts e (accumulated d (entries (take d l)))
+unfolding repeated
+repeated-part d e l near room =
+    ap₂ (λ n s. firsts n (accumulated d s)) (length-take-le e l room) (λ i k. same k i)
+  where
+    same : (k : ℕ) → entries (take d (take e l)) k ≡ entries (take d l) k
+    same k =
+        by-order k d
+        (λ h. part-here d (take e l) k h ∙ part-here e l k (omega arith) ∙ sym (part-here d l k h))
+        (λ h. part-ends d (take e l) k h ∙ sym (part-ends d l k h))

@@ -2,10 +2,10 @@
 use Prim.Native.Nat.{_-_, _≤_}
 use native.Mathlib.Omega.{arith}
 use Rattle.definitions.specs.Series.{Series}
-use Rattle.outlines.specs.Outlines.{Again}
-use Rattle.outlines.proofs.Repeats.{again-sum}
-use Rattle.outlines.proofs.again.far_back.Statement.{statement}
-use Rattle.outlines.proofs.again.far_back.Tie as tie
+use Rattle.repeats.specs.Repeats.{Again}
+use Rattle.repeats.proofs.Repeats.{again-sum}
+use Rattle.repeats.proofs.far_back.Statement.{statement}
+use Rattle.repeats.proofs.far_back.Tie as tie
 
 abbrev Inv-loop : tie.InvT-loop
 Inv-loop d n far₀ far = (1 ≤ d) × (d ≤ far) × (far ≤ n) × ((f : Series) → Again d f → Again far f)

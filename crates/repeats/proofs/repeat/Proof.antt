@@ -2,10 +2,11 @@
 use mathlib.Core.Path.{sym}
 use native.Mathlib.Omega.{arith}
 use lib.Seq.{length-take-le}
-use Rattle.outlines.proofs.Repeats.{told-again}
+use Rattle.repeats.specs.Repeats.{repeated}
+use Rattle.repeats.proofs.Repeats.{told-again}
 use borrow.Author.Needs.{needs}
-use Rattle.outlines.proofs.again.repeat.Statement.{statement}
-use Rattle.outlines.proofs.again.repeat.Tie as tie
+use Rattle.repeats.proofs.repeat.Statement.{statement}
+use Rattle.repeats.proofs.repeat.Tie as tie
 
 far-back-requires : tie.Need-far-back-requires
 far-back-requires c κs = search needs
@@ -28,6 +29,7 @@ same-length : tie.Need-same-length
 same-length c = search needs
 
 returns : tie.Need-returns
+unfolding repeated
 returns c =
     let q = c .before .before .before .before in
     let p = q .before .before .before in

@@ -1,0 +1,2 @@
+-- Values that come again, and entries that are summed up from them.
+pub mod Repeats
