@@ -10,7 +10,7 @@
 #include <string.h>
 #include <unistd.h>
 
-enum { CHUNK = 65536, OUT = 131072, ROOM = 4096, MOST = 90264, KEPT = 40, BLOCK = 16, PRIMES = 5 };
+enum { CHUNK = 65536, OUT = 131072, ROOM = 4096, MOST = 90264, KEPT = 40, BLOCK = 16, ROW = 64, PRIMES = 5 };
 enum { DONE = 0, INDEX = 2, LIMIT = 3, SHORT = 4, TALL = 6 };
 
 // ---- sieve, index: n taken apart
@@ -136,6 +136,16 @@ static void write_out(int64_t *a, size_t n, struct Outline o) {
         clear(a, o.told, n);
 }
 
+// An accumulate of size d of the first t entries again and again, row by row.
+static void accumulate_repeated(int64_t *a, size_t n, size_t t, size_t d) {
+    size_t rest = d % t, row = d - rest;
+    repeat(a, d, t);
+    for (size_t x = row; x + rest < n; x += row) {
+        size_t from = x + rest, to = n - from < row ? n : from + row;
+        for (size_t k = from; k < to; k++) a[k] = a[k - x] + a[k - d];
+    }
+}
+
 // One step of size d < n. Where it adds anything, the magnitudes may be above 1 after it.
 static struct Outline take_outlined(int64_t *a, size_t n, struct Outline o, bool combs, size_t d, bool *flat) {
     if (combs && o.repeats && d % o.told == 0) {
@@ -146,13 +156,17 @@ static struct Outline take_outlined(int64_t *a, size_t n, struct Outline o, bool
         clear(a, o.told, d);
         return (struct Outline){d, true};
     }
+    *flat = false;
+    if (!combs && o.repeats && o.told <= d && ROW <= d - d % o.told) {
+        accumulate_repeated(a, n, o.told, d);
+        return (struct Outline){n, false};
+    }
     size_t to = combs && !o.repeats && o.told + d < n ? o.told + d : n;
     write_out(a, to, o);
     if (combs)
         comb(a, to, d);
     else
         accumulate(a, to, d);
-    *flat = false;
     return (struct Outline){to, false};
 }
 

@@ -7,8 +7,8 @@ use mathlib.Core.List.{List, _++_}
 use native.Mathlib.Omega.{arith}
 use native.Mathlib.Nat as NatL
 use lib.Dec.{leb}
-use lib.ListN.{length, getD, take, drop, getD-replicate, length-take, length-replicate, length-append, length-drop}
-use lib.Seq.{getD-take, length-take-le, take-all, take-append-seam}
+use lib.ListN.{length, getD, take, drop, getD-replicate, length-replicate, length-append, length-drop}
+use lib.Seq.{length-take-le, take-all, take-append-seam}
 use lib.IntN.{ℤ, natAbs}
 use borrow.Rule.Slice.PartMut.{putMid}
 use Rattle.definitions.specs.Integers.{_⊝_, 0ℤ}
