@@ -309,8 +309,8 @@ static uint8_t *put_item(uint8_t *p, uint64_t n) { return put_number(put(p, ' ')
 
 static uint8_t *put_signed(uint8_t *p, int64_t c) {
     p = put(p, ' ');
-    if (c < 0) p = put(p, '-');
-    return put_number(p, magnitude(c));
+    put(p, '-'); // stays where c is negative
+    return put_number(p + (c < 0), magnitude(c));
 }
 
 static uint8_t *put_answer(uint8_t *p, uint8_t letter, size_t n, const struct Answer *a, const int64_t *entries) {

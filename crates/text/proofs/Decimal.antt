@@ -40,7 +40,11 @@ decimal-more n h =
 pub length-more : (n : ℕ) → 10 ≤ n → length (decimal n) ≡ length (decimal (n / 10)) + 1
 length-more n h = ap length (decimal-more n h) ∙ length-append (decimal (n / 10)) ((48 + n % 10) ∷ [])
 
--- a number below 10^k has at most k digits, and at least one
+pub some-digit : (n : ℕ) → 1 ≤ length (decimal n)
+some-digit n =
+    by-order n 10 (λ b. omega (arith, ap length (decimal-small n b))) (λ b. omega (arith, length-more n b))
+
+-- a number below 10^k has at most k digits
 pub length-below : (k n : ℕ) → n < 10 ^ suc k → length (decimal n) ≤ suc k
 length-below zero n h = omega (arith, ap length (decimal-small n h))
 length-below (suc k) n h =

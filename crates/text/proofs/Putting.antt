@@ -1,12 +1,13 @@
 -- Texts put one after the other are their concatenation put at once.
 use mathlib.Core.Path.{_≡_, refl, sym, _∙_, ap}
 use mathlib.Core.List.{List, [], _∷_, _++_, append-assoc, append-nil}
-use Prim.Native.Nat.{ℕ, suc, _+_, _^_, _<_, _≤_}
+use Prim.Native.Nat.{ℕ, zero, suc, _+_, _^_, _<_, _≤_}
+use native.Mathlib.Nat.{not-suc-le-zero, add-zero}
 use native.Mathlib.Omega.{arith}
 use lib.ListN.{length, set, length-append}
 use lib.Seq.{sets}
 use lib.IntN.{ℤ, pos, negsuc, natAbs}
-use Rattle.text.specs.Text.{SPACE, decimal, sign, signed, spaced}
+use Rattle.text.specs.Text.{SPACE, MINUS, decimal, sign, signed, spaced}
 use Rattle.text.specs.Puts.{Puts}
 use Rattle.text.proofs.Decimal.{length-machine}
 
@@ -30,6 +31,27 @@ then {a} {b} {l} {at = at} f g =
       leaves = g .leaves ∙ (rw (f .leaves, f .place) (sym (sets-append a b l at)));
       place = omega (arith, g .place, f .place, length-append a b);
     }
+
+-- what is written over makes no difference
+over : (l : List ℕ) (i x : ℕ) (text : List ℕ) → 1 ≤ length text → sets (set l i x) i text ≡ sets l i text
+over l i x [] h = absurd (not-suc-le-zero h)
+over l i x (y ∷ text) h = ap (λ k. sets k (suc i) text) (twice l i)
+  where
+    twice : (l : List ℕ) (i : ℕ) → set (set l i x) i y ≡ set l i y
+    twice [] i = refl
+    twice (a ∷ l) zero = refl
+    twice (a ∷ l) (suc i) = ap (λ k. a ∷ k) (twice l i)
+
+-- a text after a minus sign that stays, or over it
+pub after-sign : (c : ℤ) {text l m o : List ℕ} {at p q : ℕ} → 1 ≤ length text → m ≡ set l at MINUS
+    → p ≡ at + length (sign c) → Puts text p m o q → Puts (sign c ++ text) at l o q
+unfolding sign
+after-sign (pos n) {text} {l} {at = at} some e f g =
+    record {
+      leaves = g .leaves ∙ rw (f, add-zero at, e) (over l at MINUS text some);
+      place = omega (arith, g .place, f);
+    }
+after-sign (negsuc n) some e f g = then {a = MINUS ∷ []} (record { leaves = e; place = f }) g
 
 pub spaced-append : (xs ys : List ℤ) → spaced (xs ++ ys) ≡ spaced xs ++ spaced ys
 unfolding spaced

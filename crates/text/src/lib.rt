@@ -1,11 +1,12 @@
 // Inner: numbers as text in byte buffers, for our own programs alone. Each function puts something at a place and
 // answers the next place; the caller sees to the room.
 
+ghost use mathlib.Core.Path.{_≡_};
 ghost use mathlib.Core.List.{[], _∷_};
 ghost use Prim.Native.Nat.{_+_, _*_, _≤_, _<_};
-ghost use lib.ListN.{length, take};
+ghost use lib.ListN.{length, take, set};
 ghost use lib.IntN.{pos};
-ghost use Rattle.text.specs.Text.{decimal, spaced, sign};
+ghost use Rattle.text.specs.Text.{MINUS, decimal, spaced, sign};
 ghost use Rattle.text.specs.Puts.{Puts};
 use heights::magnitude;
 
@@ -63,12 +64,16 @@ pub fn put_item(out: &mut [u8], at: usize, n: u64) -> usize
     put_number(out, p, n)
 }
 
+// A minus sign is written whatever c is, and stays where c is negative: else the digits begin in its place. A branch for
+// every coefficient would take longer.
 fn put_sign(out: &mut [u8], at: usize, c: i64) -> usize
     requires { ⌜ at < length (now out) ⌝ }
-    ensures { λ r. ⌜ Puts (sign c) at (now (out .entry)) (now (out .exit)) r ⌝ }
+    ensures { λ r. ⌜ now (out .exit) ≡ set (now (out .entry)) at MINUS ⌝ }
+    ensures { λ r. ⌜ r ≡ at + length (sign c) ⌝ }
 {
+    let p = put(out, at, b'-');
     if c < 0 {
-        return put(out, at, b'-');
+        return p;
     }
     at
 }

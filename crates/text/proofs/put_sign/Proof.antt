@@ -1,7 +1,9 @@
--- `text::put_sign` meets its contract: the sign is written or nothing is.
+-- `text::put_sign` meets its contract: the sign has one byte or none.
+use mathlib.Core.Path.{ap}
+use native.Mathlib.Omega.{arith}
+use lib.ListN.{length}
 use mir.Facts.{toZ-ofZ}
 use Rattle.text.proofs.Sign.{sign-below, sign-above}
-use Rattle.text.proofs.Putting.{nothing-put}
 use borrow.Author.Needs.{needs}
 use Rattle.text.proofs.put_sign.Statement.{statement}
 use Rattle.text.proofs.put_sign.Tie as tie
@@ -15,14 +17,18 @@ same-length c = search needs
 returns : tie.Need-returns
 returns c =
     let s = c .before .before .before .before .before .before in
-    rw (sign-below (s .args .c) (rw (toZ-ofZ (s .fits .c)) at (c .before .before .before .before .if1 .taken)))
-    (c .before .before .put .ensures)
+    let put = c .before .before .before .put .ensures in
+    let one = sign-below (s .args .c) (rw (toZ-ofZ (s .fits .c)) at (c .if1 .taken)) in
+    (put .leaves, omega (arith, put .place, ap length one))
+
+same-length-2 : tie.Need-same-length-2
+same-length-2 c = search needs
 
 returns-2 : tie.Need-returns-2
 returns-2 c =
-    let s = c .before .before in
-    rw (sign-above (s .args .c) (rw (toZ-ofZ (s .fits .c)) at (c .if1 .left)))
-    (nothing-put (s .args .at) (s .args .out .now))
+    let s = c .before .before .before .before .before .before in
+    let none = sign-above (s .args .c) (rw (toZ-ofZ (s .fits .c)) at (c .if1 .left)) in
+    (c .before .before .before .put .ensures .leaves, omega (arith, ap length none))
 
 pub put-sign-spec : {M : Type 1} → statement M
-put-sign-spec = tie.close (tie.spec put-requires same-length returns returns-2)
+put-sign-spec = tie.close (tie.spec put-requires same-length returns same-length-2 returns-2)

@@ -1,9 +1,10 @@
--- `text::put_signed` meets its contract: a space, the sign, the digits of the magnitude.
+-- `text::put_signed` meets its contract: a space, the sign, the digits of the magnitude, after a minus sign or over it.
 use native.Mathlib.Omega.{arith}
 use mir.Facts.{toZ-ofZ}
 use Rattle.step_laws.specs.Machine.{seen}
 use Rattle.step_laws.specs.Signed.{abs-mag}
-use Rattle.text.proofs.Putting.{then, put-one, length-spaced, length-sign}
+use Rattle.text.proofs.Decimal.{some-digit}
+use Rattle.text.proofs.Putting.{after-sign, put-one, length-spaced, length-sign}
 use borrow.Author.Needs.{needs}
 use Rattle.text.proofs.put_signed.Statement.{statement}
 use Rattle.text.proofs.put_signed.Tie as tie
@@ -21,7 +22,7 @@ put-number-requires : tie.Need-put-number-requires
 put-number-requires c κs =
     omega (
       arith,
-      c .before .before .before .before .put-sign .ensures .place,
+      c .before .before .before .before .put-sign .ensures .1,
       length-sign (seen
           (c .before .before .before .before .before .before .before .before .before .before .before .args .c)),
       c .before .before .before .before .before .before .before .before .put .ensures .place,
@@ -41,7 +42,7 @@ returns c =
     let sign = rw (toZ-ofZ f) at (c .before .before .before .before .before .before .before .put-sign .ensures) in
     let whole = put-one x
     (c .before .before .before .before .before .before .before .before .before .before .before .put .ensures)
-    (then sign digits) in
+    (after-sign x (some-digit _) (sign .0) (sign .1) digits) in
     (whole, omega (arith, whole .place, length-spaced x (omega (arith, abs-mag x, f .sfits)), length-sign x))
 
 pub put-signed-spec : {M : Type 1} → statement M
