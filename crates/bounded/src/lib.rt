@@ -1,6 +1,6 @@
-// Inner: nothing here is offered to callers; the `requires` is shown by `outlines` and `steps`. One step under a working
-// limit w, on entries whose magnitudes are bounded: where none can pass w it needs no test, and where all can be added
-// and taken away it needs that of w alone.
+// Inner: nothing here is offered to callers; the `requires` is shown by `outlines` and `steps`. One step under a
+// working limit w, on entries whose magnitudes are bounded: where none can pass w it needs no test, and where all can
+// be added and taken away it needs that of w alone.
 use accumulates::accumulate;
 use combs::comb;
 use combs::comb_or_undo;

@@ -28,7 +28,8 @@ use Rattle.bounded.specs.Outcome.{StepOutcomeIs}
 use Rattle.bounded.proofs.Outcomes.{outcome-length}
 use Rattle.bounded.specs.declared.StepOutcome.{StepOutcome}
 use Rattle.repeats.specs.Repeats.{Again, repeated}
-use Rattle.repeats.proofs.Repeats.{Ends, part-here, part-ends, comes-again, again-bounded, again-multiple, repeated-part}
+use Rattle.repeats.proofs.Repeats.{Ends, part-here, part-ends, repeated-part}
+use Rattle.repeats.proofs.Repeats.{comes-again, again-bounded, again-multiple}
 use Rattle.outlines.specs.Outlines.{Told, ToldTo, spelled, outlined}
 use Rattle.outlines.specs.Outcome.{StepDue, OutlinedOutcomeIs}
 use Rattle.outlines.specs.declared.Outline.{Outline}

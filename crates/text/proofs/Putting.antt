@@ -33,9 +33,9 @@ then {a} {b} {l} {at = at} f g =
     }
 
 -- what is written over makes no difference
-over : (l : List ℕ) (i x : ℕ) (text : List ℕ) → 1 ≤ length text → sets (set l i x) i text ≡ sets l i text
-over l i x [] h = absurd (not-suc-le-zero h)
-over l i x (y ∷ text) h = ap (λ k. sets k (suc i) text) (twice l i)
+written-over : (l : List ℕ) (i x : ℕ) (text : List ℕ) → 1 ≤ length text → sets (set l i x) i text ≡ sets l i text
+written-over l i x [] h = absurd (not-suc-le-zero h)
+written-over l i x (y ∷ text) h = ap (λ k. sets k (suc i) text) (twice l i)
   where
     twice : (l : List ℕ) (i : ℕ) → set (set l i x) i y ≡ set l i y
     twice [] i = refl
@@ -48,7 +48,7 @@ pub after-sign : (c : ℤ) {text l m o : List ℕ} {at p q : ℕ} → 1 ≤ leng
 unfolding sign
 after-sign (pos n) {text} {l} {at = at} some e f g =
     record {
-      leaves = g .leaves ∙ rw (f, add-zero at, e) (over l at MINUS text some);
+      leaves = g .leaves ∙ rw (f, add-zero at, e) (written-over l at MINUS text some);
       place = omega (arith, g .place, f);
     }
 after-sign (negsuc n) some e f g = then {a = MINUS ∷ []} (record { leaves = e; place = f }) g

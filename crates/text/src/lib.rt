@@ -64,8 +64,8 @@ pub fn put_item(out: &mut [u8], at: usize, n: u64) -> usize
     put_number(out, p, n)
 }
 
-// A minus sign is written whatever c is, and stays where c is negative: else the digits begin in its place. A branch for
-// every coefficient would take longer.
+// A minus sign is written whatever c is, and stays where c is negative: else the digits begin in its place. A branch
+// for every coefficient would take longer.
 fn put_sign(out: &mut [u8], at: usize, c: i64) -> usize
     requires { ⌜ at < length (now out) ⌝ }
     ensures { λ r. ⌜ now (out .exit) ≡ set (now (out .entry)) at MINUS ⌝ }

@@ -22,7 +22,8 @@ rem-if3 c = search needs
 
 sub-if3 : tie.Need-sub-if3
 sub-if3 c =
-    let p = c .before .before .before in omega (arith, mod-lt (p .args .d) (p .pre .0 .told .some), p .pre .0 .told .room)
+    let p = c .before .before .before in
+    let t = p .pre .0 .told in omega (arith, mod-lt (p .args .d) (t .some), t .room)
 
 accumulate-of-repeated-requires : tie.Need-accumulate-of-repeated-requires
 accumulate-of-repeated-requires c κs =
