@@ -1,4 +1,4 @@
-// Inner: each `requires` is shown by `replies` and `listing`, which see to the room. The text of an answer, and of a
+// Inner: each `requires` is shown by `listing`, which sees to the room. The text of an answer, and of a
 // line that is not good.
 
 ghost use mathlib.Core.Path.{_≡_};

@@ -38,11 +38,11 @@ module _ (kind n : ℕ) (h : ℤ) where
       × (overAmong (natAbs w) kind (rOf n) (divisorsDue (rOf n)) ≡ false)
   unfolding Polynomial.code
   polynomial-done w room e =
-      let index = past (not (goodIndex n)) 1 (past (not (knownKind kind)) 0 e .1) in
-      let limit = past (belowOne h || belowOne w) 2 (index .1) in
+      let index = past (not (goodIndex n)) INDEX refl (past (not (knownKind kind)) KIND refl e .1) in
+      let limit = past (belowOne h || belowOne w) LIMIT refl (index .1) in
       let limits = neither (belowOne h) (belowOne w) (limit .0) in
-      let short = past (leb room (degree kind n)) 3 (limit .1) in
-      let over = past (overAmong (natAbs w) kind (rOf n) (divisorsDue (rOf n))) 4 (short .1) in
+      let short = past (leb room (degree kind n)) SHORT refl (limit .1) in
+      let over = past (overAmong (natAbs w) kind (rOf n) (divisorsDue (rOf n))) OVER refl (short .1) in
       (limits .0, limits .1, over .0)
 
   polynomial-code : (w w′ : ℤ) → leZ w w′ ≡ true → (room : ℕ) → Polynomial.code kind n h w room ≡ DONE
@@ -77,10 +77,10 @@ module _ (kind n j : ℕ) where
       → (belowOne w ≡ false) × (overAmong (natAbs w) kind (rOf n) j ≡ false)
   unfolding Partial.code
   partial-done w room e =
-      let index = past (not (goodIndex n) || eqb (rOf n) 1) 1 (past (not (knownKind kind)) 0 e .1) in
-      let limit = past (belowOne w) 2 (past (ltb (divisorsDue (rOf n)) j) 6 (index .1) .1) in
-      let short = past (leb room (halfDegree kind (rOf n))) 3 (limit .1) in
-      let over = past (overAmong (natAbs w) kind (rOf n) j) 4 (short .1) in
+      let index = past (not (goodIndex n) || eqb (rOf n) 1) INDEX refl (past (not (knownKind kind)) KIND refl e .1) in
+      let limit = past (belowOne w) LIMIT refl (past (ltb (divisorsDue (rOf n)) j) STEP refl (index .1) .1) in
+      let short = past (leb room (halfDegree kind (rOf n))) SHORT refl (limit .1) in
+      let over = past (overAmong (natAbs w) kind (rOf n) j) OVER refl (short .1) in
       (limit .0, over .0)
 
   partial-code : (w w′ : ℤ) → leZ w w′ ≡ true → (room : ℕ) → Partial.code kind n j w room ≡ DONE

@@ -26,12 +26,12 @@ code kind n h w room =
     (cond (overAmong (natAbs w) kind (rOf n) (divisorsDue (rOf n))) OVER
     (cond (ltZ h (pos (height kind n))) TALL DONE)))))
 
--- the answer for a code: the true degree from SHORT on, and the rest on code 0 alone
+-- the answer for a code: the true degree on code 0, SHORT, OVER and TALL, and the rest on code 0 alone
 unfoldable pub answered : ℕ → ℕ → ℕ → Answer
 answered kind n code =
     record {
       code = code;
-      degree = cond (eqb code DONE || leb SHORT code) (degree kind n) 0;
+      degree = cond (eqb code DONE || eqb code SHORT || eqb code OVER || eqb code TALL) (degree kind n) 0;
       additions = cond (eqb code DONE) (additionsFor kind n) 0;
       height = cond (eqb code DONE) (height kind n) 0;
       peak = cond (eqb code DONE) (peak kind n) 0;
@@ -45,7 +45,7 @@ answer kind n h w room = answered kind n (code kind n h w room)
 unfoldable pub left : ℕ → ℕ → ℕ → List ℤ → List ℤ
 left kind n code l =
     cond (eqb code DONE) (written (coefficients kind n) l)
-    (cond (leb OVER code) (written (zeros (suc (degree kind n))) l) l)
+    (cond (eqb code OVER || eqb code TALL) (written (zeros (suc (degree kind n))) l) l)
 
 unfoldable pub leaves : ℕ → ℕ → ℤ → ℤ → List ℤ → List ℤ
 leaves kind n h w l = left kind n (code kind n h w (length l)) l

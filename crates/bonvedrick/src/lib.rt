@@ -29,7 +29,7 @@ pub extern "C" fn bv_partial(kind: u64, n: u64, j: u64, w: i64, buf: &mut [i64])
     ensures answer { λ r. ⌜ r ≡ Partial.answer kind n j w (length (now (buf .entry))) ⌝ }
     ensures leaves { λ _. ⌜ now (buf .exit) ≡ Partial.leaves kind n j w (now (buf .entry)) ⌝ }
 {
-    kept::partial(kind, n, j, w, buf)
+    partial::partial(kind, n, j, w, buf)
 }
 
 // A comb on its own, within w.

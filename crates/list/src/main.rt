@@ -5,7 +5,7 @@
 ghost use mathlib.Core.Path.{_≡_};
 ghost use Prim.Native.Nat.{_≤_};
 ghost use lib.ListN.{length};
-ghost use Rattle.listing.specs.Stream.{MOST};
+ghost use Rattle.listing.specs.Reply.{MOST};
 use libc::STDIN_FILENO;
 use libc::STDOUT_FILENO;
 use listing::Line;

@@ -12,12 +12,12 @@ use lib.Seq.{take-suc-set}
 use Rattle.step_laws.specs.Tests.{by-test, by-order}
 use Rattle.lines.specs.Request.{isGood}
 use Rattle.answer_lines.specs.Printed.{wrongLine}
-use Rattle.replies.specs.Reply.{reply}
+use Rattle.listing.specs.Reply.{reply}
 use Rattle.open_line.specs.OpenLine.{KEPT, startLine, pushed, nextLine}
 use Rattle.open_line.specs.declared.Line.{Line}
 use Rattle.listing.specs.Stream.{closing}
 use Rattle.lines.proofs.Reading.{good-short, reads-wrong}
-use Rattle.replies.proofs.Replying.{replied-wrong}
+use Rattle.listing.proofs.Replying.{replied-wrong}
 
 -- s is what is kept of the line `current`, which has the number k
 pub record Keeps (s : Line) (current : List ℕ) (k : ℕ) : Type 0 where

@@ -1,4 +1,5 @@
 -- What several proofs of `listing` share.
+mod Replying
 pub mod Streaming
 pub mod Kept
 pub mod Whole

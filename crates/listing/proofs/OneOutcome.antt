@@ -14,6 +14,9 @@ use Rattle.open_line.specs.declared.Line.{Line}
 use Rattle.listing.specs.Ran.{Ran}
 use Rattle.listing.specs.Stream.{after, printed}
 use Rattle.listing.specs.declared.Progress.{Progress}
+use Rattle.listing.proofs.reply.answer_line
+use Rattle.listing.proofs.reply.answer_line.Reads as answer-line-reads
+use Rattle.listing.proofs.reply.answer_line.Kinds as answer-line-kinds
 use Rattle.listing.proofs.stream.run
 use Rattle.listing.proofs.stream.run.Reads as run-reads
 use Rattle.listing.proofs.stream.run.Kinds as run-kinds
@@ -43,3 +46,9 @@ module _ (κs : Lfts 2) (a : ArgsD run.signature κs) (z z′ : ResD run.signatu
     (e e′ : AtExit (endedOf 2 run-kinds.ps run-kinds.r) κs) where
   pub one-run : run-reads.Post κs a z e → run-reads.Post κs a z′ e′ → (z ≡ z′) × (now (e .1 .1 .0) ≡ now (e′ .1 .1 .0))
   one-run p p′ = (one-progress p p′, one-buffer p p′)
+
+module _ (κs : Lfts 2) (a : ArgsD answer_line.signature κs) (z z′ : ResD answer_line.signature κs)
+    (e e′ : AtExit (endedOf 2 answer-line-kinds.ps answer-line-kinds.r) κs) where
+  pub one-reply : answer-line-reads.Post κs a z e → answer-line-reads.Post κs a z′ e′
+      → (z ≡ z′) × (now (e .1 .1 .0) ≡ now (e′ .1 .1 .0))
+  one-reply p p′ = (p .place ∙ sym (p′ .place), p .leaves ∙ sym (p′ .leaves))

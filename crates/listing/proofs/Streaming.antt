@@ -12,7 +12,7 @@ use lib.ListN.{length, getD, take, drop, drop-of-length-le}
 use lib.Seq.{take-suc, drop-cons, length-sets}
 use lib.Dec.{eqb, ltb}
 use Rattle.text.specs.Text.{NEWLINE}
-use Rattle.replies.specs.Reply.{MOST}
+use Rattle.listing.specs.Reply.{MOST}
 use Rattle.open_line.specs.OpenLine.{pushed, nextLine}
 use Rattle.open_line.specs.declared.Line.{Line}
 use Rattle.listing.specs.Stream.{closing, step, says, after, printed, taken}

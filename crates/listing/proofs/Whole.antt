@@ -10,12 +10,12 @@ use lib.Seq.{take-all, sets-eq, take-at}
 use lib.Dec.{eqb}
 use Rattle.step_laws.specs.Tests.{by-test}
 use Rattle.text.specs.Text.{NEWLINE}
-use Rattle.replies.specs.Reply.{reply}
+use Rattle.listing.specs.Reply.{reply}
 use Rattle.open_line.specs.Heading.{heading}
 use Rattle.open_line.specs.OpenLine.{startLine, pushed, nextLine}
 use Rattle.open_line.specs.declared.Line.{Line}
 use Rattle.listing.specs.Listing.{lastLine, linesFrom, replies, listing}
-use Rattle.replies.specs.Reply.{MOST}
+use Rattle.listing.specs.Reply.{MOST}
 use Rattle.listing.specs.Stream.{closing, step, says, after, printed, ending}
 use Rattle.listing.specs.Ran.{Ran}
 use Rattle.listing.specs.declared.Progress.{Progress}

@@ -23,7 +23,7 @@ use Rattle.lines.specs.Request.{kindOf, isGoodWith}
 use Rattle.digits.specs.Digits.{between, digits, valueFrom, valueOf, digitsAt, numberAt}
 use Rattle.lines.specs.Request.{placeOfLimit, isGood, wrong, readLine}
 use Rattle.answer_lines.specs.Printed.{letterOf, headOf, tailOf, goodLine, wrongLine}
-use Rattle.replies.specs.Reply.{replyTo, reply}
+use Rattle.listing.specs.Reply.{replyTo, reply}
 use Rattle.open_line.specs.Heading.{heading}
 use Rattle.listing.specs.Listing.{lastLine, linesFrom, replies, listing}
 

@@ -6,7 +6,7 @@ use mathlib.Core.List.{List, [], _∷_, _++_}
 use lib.Dec.{eqb}
 use Rattle.text.specs.Text.{NEWLINE}
 use Rattle.open_line.specs.Heading.{heading}
-use Rattle.replies.specs.Reply.{reply}
+use Rattle.listing.specs.Reply.{reply}
 
 -- what the lines are: text after the last newline is a line only if it isn't empty. `current` is the line so far
 unfoldable pub lastLine : List ℕ → List (List ℕ)

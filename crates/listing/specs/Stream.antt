@@ -9,8 +9,7 @@ use Rattle.text.specs.Text.{NEWLINE}
 use Rattle.open_line.specs.OpenLine.{KEPT, pushed, nextLine}
 use Rattle.open_line.specs.declared.Line.{Line}
 use Rattle.answer_lines.specs.Printed.{wrongLine}
-use Rattle.replies.specs.Reply.{reply}
-pub use Rattle.replies.specs.Reply.{MOST}
+use Rattle.listing.specs.Reply.{MOST, reply}
 
 -- what is printed for the line at its newline
 unfoldable pub closing : Line → List ℕ

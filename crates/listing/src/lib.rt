@@ -1,6 +1,7 @@
-// The listing (docs/RULES.md, 'The listing'): bytes of lines in, bytes of answers out. `lines` and `replies` answer one
+// The listing (docs/RULES.md, 'The listing'): bytes of lines in, bytes of answers out. `lines` and `reply` answer one
 // line, `open_line` holds the one that is being read, and `stream` goes through an input that comes in pieces.
 
+mod reply;
 mod stream;
 
 pub use lines::Request;
@@ -8,9 +9,11 @@ pub use lines::read_line;
 pub use open_line::Line;
 pub use open_line::heading;
 pub use open_line::start;
-pub use replies::MOST;
-pub use replies::answer_line;
+pub use reply::answer_line;
 pub use stream::run;
+
+// Room for any line that is printed.
+pub const MOST: usize = 90264;
 
 // How far a run has come: the line that is left open, how many bytes of input were taken, and how many of output were
 // made.

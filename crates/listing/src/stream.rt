@@ -5,17 +5,17 @@ ghost use mathlib.Core.Path.{_≡_};
 ghost use Prim.Native.Nat.{_+_, _≤_};
 ghost use lib.ListN.{length};
 ghost use Rattle.text.specs.Puts.{Puts};
-ghost use Rattle.replies.specs.Reply.{LENT};
-ghost use Rattle.replies.specs.Reply.{MOST as Most};
+ghost use Rattle.listing.specs.Reply.{LENT};
+ghost use Rattle.listing.specs.Reply.{MOST as Most};
 ghost use Rattle.listing.specs.Stream.{closing};
 ghost use Rattle.listing.specs.Ran.{Ran};
+use crate::MOST;
 use crate::Progress;
+use crate::reply::put_reply;
 use answer_lines::put_wrong;
 use open_line::Line;
 use open_line::next;
 use open_line::push;
-use replies::MOST;
-use replies::put_reply;
 
 // What a newline prints.
 fn put_closing(out: &mut [u8], at: usize, line: Line, entries: &mut [i64]) -> usize

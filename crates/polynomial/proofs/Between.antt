@@ -35,8 +35,8 @@ use Rattle.cyclotomic.specs.Heights.{told-half, told-one, at-most-height, heigh
 use Rattle.answers.specs.Partial as Partial
 use Rattle.answers.specs.Polynomial as Polynomial
 use Rattle.answers.proofs.WorkingLimit.{polynomial-done}
-use Rattle.kept.proofs.Turning.{kept-length, divisor-in}
-use Rattle.kept.proofs.Running.{start-bounded}
+use Rattle.kept_half.proofs.Turning.{kept-length, divisor-in}
+use Rattle.kept_half.proofs.Running.{start-bounded}
 use Rattle.growth.proofs.Growing.{half-within, front-entry}
 
 -- ---- what stands in front

@@ -27,12 +27,12 @@ use Rattle.numbers.specs.Below.{additions-all}
 use Rattle.cyclotomic.specs.Kept.{kept-all}
 use Rattle.cyclotomic.specs.Heights.{told-half, told-one, peak-inside}
 use Rattle.step_laws.specs.Bound.{Bounded}
-use Rattle.kept.specs.Halves.{StepsDue, KeptHalfIs}
+use Rattle.kept_half.specs.Halves.{StepsDue, KeptHalfIs}
 use Rattle.growth.specs.Growth.{Lower}
 use Rattle.laying.specs.Ready.{Ready}
 use Rattle.polynomial.specs.Making.{MakingOutcomeIs, makingCode}
 use Rattle.index.specs.declared.Parts.{Parts}
-use Rattle.kept.specs.declared.RunOutcome.{RunOutcome}
+use Rattle.kept_half.specs.declared.RunOutcome.{RunOutcome}
 use Rattle.heights.specs.declared.Top.{Top}
 use Rattle.growth.proofs.Growing.{half-within, front-entry}
 use Rattle.laying.proofs.Laying.{above-zero, t-is, r-fits}

@@ -1,5 +1,4 @@
 // The request for a polynomial (`polynomial`). Nothing is asked of the caller.
-mod gain;
 mod making;
 
 use answers::Answer;

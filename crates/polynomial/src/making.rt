@@ -43,7 +43,7 @@ fn make_by_steps(b: &mut [i64], kind: u64, n: u64, parts: Parts, h: u64, w: u64)
     ensures { λ r. ⌜ MakingOutcomeIs kind n h w (now (b .exit)) r ⌝ }
 {
     let half = index::half_degree(kind, parts.r, parts.free) + 1;
-    let run = kept::all_steps(kind, n, parts, w, &mut b[..half]);
+    let run = kept_half::all_steps(kind, n, parts, w, &mut b[..half]);
     if run.over {
         shapes::clear(b);
         return MakingOutcome::refused(answers::OVER);
@@ -97,7 +97,7 @@ pub(crate) fn answer_in(kind: u64, n: u64, parts: Parts, h: u64, w: u64, buf: &m
     if made.code != answers::DONE {
         return Answer::refused(made.code, degree);
     }
-    let gain = super::gain::gain_of(kind, n, parts);
+    let gain = gain::gain_of(kind, n, parts);
     Answer {
         code: answers::DONE,
         degree,

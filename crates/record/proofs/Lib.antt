@@ -2,3 +2,4 @@
 pub mod Passes
 pub mod Headers
 pub mod HeaderTrips
+pub mod OneOutcome

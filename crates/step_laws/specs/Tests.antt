@@ -2,10 +2,10 @@
 -- ends in DONE.
 use mathlib.Core.Path.{_≡_, refl, sym, _∙_}
 use mathlib.Core.Bool.{Bool, true, false, true≢false, cond, _||_}
-use Prim.Native.Nat.{ℕ, suc, _<_, _≤_}
+use Prim.Native.Nat.{ℕ, _<_, _≤_}
 use native.Mathlib.Omega.{arith}
-use borrow.Author.Tests.{ltb-true, ltb-false, le-leb, lt-leb}
-use lib.Dec.{ltb, leb}
+use borrow.Author.Tests.{ltb-true, ltb-false, le-leb, lt-leb, eq-eqb}
+use lib.Dec.{eqb, ltb, leb}
 
 -- by the two values of a test, each with its equation
 pub by-test : {P : Type 0} (b : Bool) → (b ≡ true → P) → (b ≡ false → P) → P
@@ -32,12 +32,9 @@ same-test a b c d f g =
     clash l m = omega arith
 
 -- no test of a chain that ends in 0 gave its code, which is not 0
-pub past : (b : Bool) (c : ℕ) {x : ℕ} → cond b (suc c) x ≡ 0 → (b ≡ false) × (x ≡ 0)
-past true c e = absurd (code-given e)
-  where
-    code-given : suc c ≡ 0 → ⊥
-    code-given e = omega arith
-past false c e = (refl, e)
+pub past : (b : Bool) (c : ℕ) {x : ℕ} → eqb c 0 ≡ false → cond b c x ≡ 0 → (b ≡ false) × (x ≡ 0)
+past true c given e = absurd (true≢false (sym (eq-eqb c 0 e) ∙ given))
+past false c given e = (refl, e)
 
 -- neither test held
 pub neither : (a b : Bool) → (a || b) ≡ false → (a ≡ false) × (b ≡ false)

@@ -13,7 +13,7 @@ use lib.Signed.{leZ}
 use mir.Syntax.{w64}
 use mir.Val.{SFits}
 use mir.Facts.{toZ-ofZ}
-use Rattle.definitions.specs.Codes.{DONE, OVER, STEP}
+use Rattle.definitions.specs.Codes.{DONE, LIMIT, OVER, STEP}
 use Rattle.definitions.specs.Steps.{Sort, inRange, stepOver, largest, belowOne, stepCode, stepCount, stepLeaves}
 use Rattle.step_laws.specs.Signed.{in-range, range-in}
 use Rattle.step_laws.specs.Machine.{seen}
@@ -59,9 +59,9 @@ module _ (s : Sort) (d : ℕ) (l : List ℤ) where
   code-more : (w w′ : ℤ) → leZ w w′ ≡ true → stepCode w s d l ≡ DONE → stepCode w′ s d l ≡ stepCode w s d l
   unfolding stepCode
   code-more w w′ more e =
-      let size = past (eqb d 0 || ltb 65535 d) 6 e in
-      let limit = past (belowOne w) 2 (size .1) in
-      let over = past (stepOver (natAbs w) s d l) 4 (limit .1) in
+      let size = past (eqb d 0 || ltb 65535 d) STEP refl e in
+      let limit = past (belowOne w) LIMIT refl (size .1) in
+      let over = past (stepOver (natAbs w) s d l) OVER refl (limit .1) in
       let good = larger-good w w′ more (limit .0) in
       rw (good .0, limit .0, over .0, over-more (good .1) s d l (over .0)) refl
 

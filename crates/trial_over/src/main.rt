@@ -60,7 +60,7 @@ fn stops(kind: u64, n: u64, buf: &mut [i64]) -> Met {
     let mut j = 0;
     while j <= ALL {
         printing::fill(buf);
-        let a = kept::partial(kind, n, j, LARGEST, buf);
+        let a = partial::partial(kind, n, j, LARGEST, buf);
         if a.code != answers::DONE {
             return met;
         }
@@ -88,9 +88,9 @@ fn less(largest: u64) -> i64 {
 
 fn line(kind: u64, n: u64, buf: &mut [i64]) {
     let met = stops(kind, n, buf);
-    let below = kept::partial(kind, n, ALL, less(met.largest), buf);
+    let below = partial::partial(kind, n, ALL, less(met.largest), buf);
     printing::fill(buf);
-    let at = kept::partial(kind, n, met.first, limit(met.largest), buf);
+    let at = partial::partial(kind, n, met.first, limit(met.largest), buf);
     numbers(
         b"",
         &[

@@ -26,7 +26,7 @@ pub fn polynomial(kind: u64, n: u64, h: i64, w: i64, asked: usize, buf: &mut [i6
 pub fn partial(kind: u64, n: u64, j: u64, w: i64, asked: usize, buf: &mut [i64]) {
     printing::fill(buf);
     let room = printing::within(asked, buf);
-    let a = kept::partial(kind, n, j, w, &mut buf[..room]);
+    let a = partial::partial(kind, n, j, w, &mut buf[..room]);
     numbers(b"", &[kind, n, j], b" ");
     printing::signed_item(w);
     numbers(

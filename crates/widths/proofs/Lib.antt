@@ -4,3 +4,4 @@ pub mod Widths
 pub mod Least
 pub mod Lowest
 pub mod Digits
+pub mod OneOutcome

@@ -13,7 +13,7 @@ use lib.Seq.{length-take-le}
 use Rattle.definitions.specs.Numbers.{rOf}
 use Rattle.definitions.specs.KeptHalf.{halfDegree}
 use Rattle.definitions.specs.Answer.{height, peak}
-use Rattle.kept.proofs.Stopping.{half-is}
+use Rattle.kept_half.proofs.Walked.{half-is}
 use Rattle.polynomial.proofs.Stepping.{steps-due, half-room, peak-room, Halfway, halfway}
 use borrow.Author.Needs.{needs}
 use Rattle.polynomial.proofs.making.make_by_steps.Statement.{statement}

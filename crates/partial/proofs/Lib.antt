@@ -1,0 +1,3 @@
+-- Laws that the functions' proofs share, and one outcome for each input.
+mod Stopping
+pub mod OneOutcome

@@ -1,2 +1,0 @@
--- What is printed for a line (docs/RULES.md, 'The listing'), over bytes.
-pub mod Reply
