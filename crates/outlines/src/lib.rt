@@ -144,37 +144,7 @@ fn accumulate_of_repeated(a: &mut [i64], o: Outline, d: u64, bound: u64, w: u64)
     take_whole(a, o, Sort::Accumulate, d, bound, w)
 }
 
-// A comb of size d, which is below the number of entries.
-fn take_comb(a: &mut [i64], o: Outline, d: u64, bound: u64, w: u64) -> OutlinedOutcome
-    requires { ⌜ StepDue w bound d o (now a) × (d < length (now a)) ⌝ }
-    ensures { λ r. ⌜ OutlinedOutcomeIs w comb d (outlined o (now (a .entry))) (now (a .exit)) r ⌝ }
-{
-    if !o.repeats {
-        return comb_before_zeros(a, o, d, bound, w);
-    }
-    if d % o.told as u64 == 0 {
-        return comb_of_repeated(a, o, d, bound, w);
-    }
-    take_whole(a, o, Sort::Comb, d, bound, w)
-}
-
-// An accumulate of such a size.
-fn take_accumulate(a: &mut [i64], o: Outline, d: u64, bound: u64, w: u64) -> OutlinedOutcome
-    requires { ⌜ StepDue w bound d o (now a) × (d < length (now a)) ⌝ }
-    ensures { λ r. ⌜ OutlinedOutcomeIs w accumulate d (outlined o (now (a .entry))) (now (a .exit)) r ⌝ }
-{
-    if o.told as u64 <= d {
-        if !o.repeats {
-            return accumulate_before_zeros(a, o, d, bound, w);
-        }
-        if ROW <= d - d % o.told as u64 {
-            return accumulate_of_repeated(a, o, d, bound, w);
-        }
-    }
-    take_whole(a, o, Sort::Accumulate, d, bound, w)
-}
-
-// One step of a run.
+// One step of a run: in a short way where what is told allows it, else on all entries.
 pub fn take_outlined(
     a: &mut [i64],
     o: Outline,
@@ -194,7 +164,24 @@ pub fn take_outlined(
         };
     }
     match sort {
-        Sort::Comb => take_comb(a, o, d, bound, w),
-        Sort::Accumulate => take_accumulate(a, o, d, bound, w),
+        Sort::Comb => {
+            if !o.repeats {
+                return comb_before_zeros(a, o, d, bound, w);
+            }
+            if d % o.told as u64 == 0 {
+                return comb_of_repeated(a, o, d, bound, w);
+            }
+        }
+        Sort::Accumulate => {
+            if o.told as u64 <= d {
+                if !o.repeats {
+                    return accumulate_before_zeros(a, o, d, bound, w);
+                }
+                if ROW <= d - d % o.told as u64 {
+                    return accumulate_of_repeated(a, o, d, bound, w);
+                }
+            }
+        }
     }
+    take_whole(a, o, sort, d, bound, w)
 }
