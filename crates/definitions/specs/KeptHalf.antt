@@ -3,10 +3,10 @@
 -- and for I the other way round. A divisor's term is 1 - z^d where its step is a comb, and 1 + z^d + z^(2d) + .. where
 -- it is an accumulate. After j divisors the kept half is the product of their terms, negated for I, as a power series
 -- cut after degree D.
-use Prim.Native.Nat.{ℕ, zero, suc, _+_, _-_, _/_, _%_, _≤_}
-use mathlib.Core.Bool.{Bool, cond, not, _&&_}
+use Prim.Native.Nat.{ℕ, _+_, _-_, _/_}
+use mathlib.Core.Bool.{cond, not, _&&_}
 use mathlib.Core.List.{List, [], _∷_, map}
-use lib.ListN.{take, length}
+use lib.ListN.{take}
 use lib.IntN.{ℤ}
 use lib.Dec.{eqb, leb}
 use Rattle.definitions.specs.Integers.{0ℤ, 1ℤ}

@@ -2,7 +2,7 @@
 -- Each is a walk over 1, 2, .., k that asks a question of every number on the way. At n = 0: phi, r, k and the list of
 -- divisors are those of an empty walk (0, 1, 0, none), m is 2 and t is 0; no request asks for them.
 use Prim.Native.Nat.{ℕ, zero, suc, _+_, _*_, _-_, _/_, _%_}
-use mathlib.Core.Bool.{Bool, true, false, cond, not, _&&_, _||_}
+use mathlib.Core.Bool.{Bool, false, cond, not, _&&_, _||_}
 use mathlib.Core.List.{List, [], _∷_, _++_}
 use lib.Dec.{eqb, ltb}
 

@@ -1,6 +1,6 @@
 -- What the requests have in common (docs/RULES.md, 'The kept half and the partial request' and 'The codes').
 use Prim.Native.Nat.{ℕ, zero, suc}
-use mathlib.Core.Bool.{Bool, true, false, cond, not, _&&_, _||_}
+use mathlib.Core.Bool.{Bool, false, _&&_, _||_}
 use mathlib.Core.List.{List, _++_}
 use lib.ListN.{length, getD, drop, replicate}
 use lib.Dec.{eqb, ltb, leb}

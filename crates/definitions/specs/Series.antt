@@ -3,8 +3,8 @@
 use Prim.Native.Nat.{ℕ, zero, suc}
 use mathlib.Core.Bool.{cond}
 use mathlib.Core.List.{List, [], _∷_}
-use lib.IntN.{ℤ, pos}
-use lib.Dec.{eqb, ltb}
+use lib.IntN.{ℤ}
+use lib.Dec.{eqb}
 use Prim.Native.Nat.{_%_, _/_, _-_}
 use Rattle.definitions.specs.Integers.{_⊕_, _⊗_, ⊖, _⊝_, 0ℤ, 1ℤ}
 

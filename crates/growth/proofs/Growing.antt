@@ -1,13 +1,12 @@
 -- The lower half for r grows to the polynomial of m: the mirrored entries are those of the polynomial, and for an even
 -- index the alternated ones and the second copy.
-use Prim.Native.Nat.{ℕ, zero, suc, _+_, _*_, _-_, _/_, _%_, _<_, _≤_}
-use mathlib.Core.Path.{_≡_, refl, sym, _∙_, ap, ap₂}
+use Prim.Native.Nat.{ℕ, suc, _+_, _*_, _-_, _/_, _%_, _<_, _≤_}
+use mathlib.Core.Path.{_≡_, refl, sym, _∙_, ap}
 use mathlib.Core.Bool.{Bool, true, false, cond, not}
-use mathlib.Core.Logic.{_≢_, _⊎_, inl, inr}
+use mathlib.Core.Logic.{_⊎_, inl, inr}
 use mathlib.Core.List.{List, _++_}
 use native.Mathlib.Omega.{arith}
 use native.Mathlib.Nat as NatL
-use native.Mathlib.Decide.{decLt}
 use lib.ListN.{length, getD, take, drop, length-append, length-drop, length-replicate, getD-replicate, List·getD-append}
 use lib.Seq.{getD-take}
 use borrow.Rule.Slice.PartMut.{putMid}
@@ -17,10 +16,9 @@ use lib.IntN.{ℤ, natAbs}
 use Rattle.definitions.specs.Integers.{⊖, 0ℤ}
 use Rattle.definitions.specs.Series.{Series, firsts, alternate}
 use Rattle.definitions.specs.Numbers.{phi}
-use Rattle.definitions.specs.Polynomials.{polynomial, degree, F, I}
+use Rattle.definitions.specs.Polynomials.{polynomial, degree, I}
 use Rattle.definitions.specs.KeptHalf.{halfDegree}
 use Rattle.definitions.specs.Steps.{entries, largest}
-use Rattle.numbers.specs.Apart.{OddSquarefree}
 use Rattle.step_laws.specs.Firsts.{firsts-same, length-firsts, getD-firsts}
 use Rattle.step_laws.specs.Tests.{by-order}
 use Rattle.series.specs.Maps.{parity, alternate-even, alternate-odd, alternate-none}

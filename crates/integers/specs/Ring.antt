@@ -1,6 +1,6 @@
 -- A commutative ring as a record of its operations and laws, and the laws on negatives that follow. ℤ (`Whole`) and the
 -- power series (crate `series`) are two.
-use mathlib.Core.Path.{_≡_, refl, sym, _∙_, ap, _≡⟨_⟩_, _∎}
+use mathlib.Core.Path.{_≡_, sym, _∙_, ap}
 
 pub record Ring : Type 1 where
   pub Carrier : Type 0

@@ -1,7 +1,7 @@
 -- Ring equations by reflection: an expression is data, its normal form a sorted list of signed monomials in which
 -- opposite ones have cancelled, and two expressions with one normal form have one value in every commutative ring
 -- (`ring`). Used as `ring R (a ∷ b ∷ []) lhs rhs refl`, with `x`, `y`, .. for the listed values in order.
-use Prim.Native.Nat.{ℕ, zero, suc, compare, Ordering, Ordering·lt, Ordering·eq, Ordering·gt}
+use Prim.Native.Nat.{ℕ, zero, compare, Ordering, Ordering·lt, Ordering·eq, Ordering·gt}
 use mathlib.Core.Path.{_≡_, refl, sym, _∙_, ap, ap₂}
 use mathlib.Core.Bool.{Bool, true, false, not}
 use mathlib.Core.List.{List, [], _∷_}

@@ -2,7 +2,7 @@
 -- distributivity and associativity of the product go by successor and predecessor.
 use Prim.Native.Nat.{ℕ, zero, suc, _+_, _*_}
 use mathlib.Core.Path.{_≡_, refl, sym, _∙_, ap, ap₂}
-use mathlib.Core.Logic.{_≢_, _⊎_}
+use mathlib.Core.Logic.{_≢_}
 use mathlib.Core.List.{List, [], _∷_}
 use native.Mathlib.Omega.{arith}
 use lib.IntN.{
@@ -30,7 +30,7 @@ use lib.IntN.{
   sucℤ-*ℤ,
   predℤ-*ℤ,
 }
-use Rattle.definitions.specs.Integers.{_⊕_, _⊗_, ⊖, _⊝_, 0ℤ, 1ℤ}
+use Rattle.definitions.specs.Integers.{_⊕_, _⊗_, ⊖, 0ℤ, 1ℤ}
 use Rattle.integers.specs.Ring.{Ring}
 use Rattle.integers.specs.Solver.{Expr, :0, :1, _:+_, _:*_, :-, x, normal, eval, ring}
 

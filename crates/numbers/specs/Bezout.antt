@@ -1,7 +1,7 @@
 -- What is coprime to n has an inverse modulo n (`inverse`): each step of Euclid's derivation keeps both ways of writing
 -- g, as a u - b v and as b u - a v.
-use Prim.Native.Nat.{ℕ, zero, suc, _+_, _*_, _<_, _∣_}
-use mathlib.Core.Path.{_≡_, refl, sym, _∙_, ap}
+use Prim.Native.Nat.{ℕ, zero, suc, _+_, _*_, _<_}
+use mathlib.Core.Path.{_≡_}
 use native.Mathlib.Nat as NatL
 use native.Mathlib.Omega.{arith}
 use Rattle.numbers.specs.Euclid.{Gcd, by-euclid, gcd-of, gcd-divides}

@@ -1,6 +1,6 @@
 -- n above 1 is prime exactly where phi(n) = n - 1: with n = q p for a prime p, phi(n) is at most p phi(q), and phi(q)
 -- is below q where q is above 1.
-use Prim.Native.Nat.{ℕ, suc, _+_, _*_, _-_, _/_, _≤_, _<_, _∣_}
+use Prim.Native.Nat.{ℕ, _+_, _*_, _-_, _/_, _≤_, _<_, _∣_}
 use mathlib.Core.Path.{_≡_, sym, ap, _∙_}
 use mathlib.Core.Logic.{_↔_, ⊎-elim}
 use native.Mathlib.Nat.{one-mul, mul-comm, mul-le-mul-left, mul-suc, div-mul-cancel, eq-or-lt-of-le, eq-one-of-dvd-one}

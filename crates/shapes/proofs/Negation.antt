@@ -1,9 +1,9 @@
 -- A number in range, negated by the machine: `0 - x` of what was read is ⊖ x, and it fits.
-use Prim.Native.Nat.{ℕ, zero, suc, _^_, _<_, _≤_}
+use Prim.Native.Nat.{_^_, _<_, _≤_}
 use lib.Signed.{mag}
-use mathlib.Core.Path.{_≡_, refl, sym, _∙_, ap}
+use mathlib.Core.Path.{_≡_, _∙_, ap}
 use native.Mathlib.Omega.{arith}
-use lib.IntN.{ℤ, pos, negsuc, natAbs, negℤ, _-ℤ_, +ℤ-idl}
+use lib.IntN.{ℤ, pos, natAbs, negℤ, _-ℤ_, +ℤ-idl}
 use mir.Syntax.{w64}
 use mir.Val.{SFits}
 use mir.Facts.{toZ-ofZ}

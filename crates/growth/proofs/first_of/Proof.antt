@@ -1,5 +1,5 @@
 -- `first_of` meets its contract, by kind and parity (Even).
-use mathlib.Core.Path.{_≡_, sym}
+use mathlib.Core.Path.{sym}
 use Rattle.definitions.specs.Integers.{⊖}
 use Rattle.growth.proofs.Even.{kind-two, first-F1, first-F2, first-I1, first-I2}
 use Rattle.growth.proofs.first_of.Statement.{statement}

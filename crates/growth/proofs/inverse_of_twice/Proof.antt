@@ -1,8 +1,7 @@
 -- `inverse_of_twice` meets its contract: the first copy in the first entries, and then the second (Growing).
-use Prim.Native.Nat.{_+_, _*_, _≤_}
-use mathlib.Core.Path.{_≡_, sym, _∙_, ap}
+use Prim.Native.Nat.{_*_}
+use mathlib.Core.Path.{sym, _∙_, ap}
 use native.Mathlib.Omega.{arith}
-use lib.ListN.{length}
 use lib.Seq.{length-take-le}
 use Rattle.definitions.specs.Series.{firsts}
 use Rattle.definitions.specs.Polynomials.{I}

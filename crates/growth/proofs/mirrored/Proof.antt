@@ -1,11 +1,9 @@
 -- `mirrored` meets its contract: the mirrored entries are the polynomial's (Growing).
-use Prim.Native.Nat.{_+_, _/_}
-use mathlib.Core.Path.{_≡_, _∙_, ap, refl}
+use Prim.Native.Nat.{_+_}
+use mathlib.Core.Path.{_∙_, ap, refl}
 use mathlib.Core.Bool.{not}
 use native.Mathlib.Omega.{arith}
 use lib.Dec.{eqb}
-use lib.IntN.{natAbs}
-use lib.ListN.{length}
 use Rattle.definitions.specs.Steps.{entries}
 use Rattle.definitions.specs.Series.{firsts}
 use Rattle.definitions.specs.Polynomials.{degree, polynomial}

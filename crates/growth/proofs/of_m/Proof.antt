@@ -1,10 +1,8 @@
 -- `of_m` meets its contract, by parity and kind (Even).
 use borrow.Author.Needs.{needs}
-use mathlib.Core.Path.{_≡_, sym, _∙_, ap}
 use native.Mathlib.Omega.{arith}
 use borrow.Author.Tests.{not-true, not-false}
 use Rattle.numbers.specs.Phi.{phi-le}
-use Rattle.growth.specs.Growth.{Lower}
 use Rattle.growth.proofs.Even.{kind-two, odd-length, odd-grown, F-length, F-grown, I-length, I-grown, top-I}
 use Rattle.growth.proofs.of_m.Statement.{statement}
 use Rattle.growth.proofs.of_m.Tie as tie

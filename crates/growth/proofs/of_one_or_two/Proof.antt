@@ -1,8 +1,8 @@
 -- `of_one_or_two` meets its contract: the first and the last coefficient are all (Even).
 use Prim.Native.Nat.{_-_}
-use mathlib.Core.Path.{_≡_, _∙_, ap}
+use mathlib.Core.Path.{_∙_, ap}
 use native.Mathlib.Omega.{arith}
-use lib.ListN.{length, length-set}
+use lib.ListN.{length-set}
 use Rattle.growth.proofs.Even.{tiny-whole, first-seen}
 use borrow.Author.Needs.{needs}
 use Rattle.growth.proofs.of_one_or_two.Statement.{statement}

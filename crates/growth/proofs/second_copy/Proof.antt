@@ -1,6 +1,6 @@
 -- `second_copy` meets its contract: zeros up to r, and the second copy (Growing).
-use Prim.Native.Nat.{_+_, _-_, _≤_}
-use mathlib.Core.Path.{_≡_, _∙_, ap}
+use Prim.Native.Nat.{_-_}
+use mathlib.Core.Path.{_∙_, ap}
 use native.Mathlib.Omega.{arith}
 use borrow.Rule.Slice.PartMut.{mid-len}
 use Rattle.definitions.specs.Requests.{zeros}

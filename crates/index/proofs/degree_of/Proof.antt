@@ -1,5 +1,5 @@
 -- `degree_of` meets its contract: where n is no index it is 0, and else by phi(n) (Laws).
-use mathlib.Core.Path.{_≡_, sym, _∙_}
+use mathlib.Core.Path.{sym, _∙_}
 use borrow.Author.Tests.{not-true, not-false}
 use Rattle.index.proofs.Laws.{index-good, parts-degree, no-degree, its-degree}
 use borrow.Author.Needs.{needs}

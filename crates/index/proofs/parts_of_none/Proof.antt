@@ -1,5 +1,5 @@
 -- `parts_of_none` meets its contract: the parts of 0 compute.
-use mathlib.Core.Path.{_≡_, refl}
+use mathlib.Core.Path.{refl}
 use Rattle.definitions.specs.Numbers.{someTo, countTo, listTo, productOfTo, divides, shareFactor, phi, rOf, kOf, mOf}
 use Rattle.definitions.specs.Numbers.{tOf}
 use Rattle.sieve.specs.Sieving.{padded}

@@ -1,5 +1,5 @@
 -- `take_apart` meets its contract: an index is taken apart, and of any other number the parts are those of 0 (Laws).
-use mathlib.Core.Path.{_≡_, sym, _∙_}
+use mathlib.Core.Path.{sym, _∙_}
 use borrow.Author.Tests.{not-true, not-false}
 use Rattle.index.proofs.Laws.{index-good, taken-none, taken-good}
 use borrow.Author.Needs.{needs}

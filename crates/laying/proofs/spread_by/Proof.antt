@@ -1,5 +1,5 @@
 -- `spread_by` meets its contract: z^1 for z changes nothing.
-use mathlib.Core.Path.{_≡_, sym, _∙_, ap}
+use mathlib.Core.Path.{sym, _∙_, ap}
 use lib.ListN.{length}
 use Rattle.definitions.specs.Series.{firsts, spread}
 use Rattle.definitions.specs.Steps.{entries}

@@ -1,6 +1,6 @@
 -- `without_steps` meets its contract: F(1), F(2), I(1) or I(2) in the first entries, and z^t for z (`LaidOut`).
-use Prim.Native.Nat.{_+_, _*_, _%_, _≤_}
-use mathlib.Core.Path.{_≡_, sym, _∙_, ap}
+use Prim.Native.Nat.{_%_}
+use mathlib.Core.Path.{_≡_, sym}
 use mathlib.Core.Bool.{cond}
 use native.Mathlib.Omega.{arith}
 use lib.Dec.{eqb}

@@ -1,6 +1,6 @@
 -- `alternate` meets its contract. The loop's invariant: i is odd, the entries below it are the alternated ones, the
 -- rest the old.
-use Prim.Native.Nat.{_+_, _-_, _%_, _≤_}
+use Prim.Native.Nat.{_-_, _%_}
 use mathlib.Core.Path.{_≡_}
 use native.Mathlib.Omega.{arith}
 use lib.ListN.{length}

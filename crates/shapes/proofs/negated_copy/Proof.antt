@@ -1,6 +1,6 @@
 -- `negated_copy` meets its contract. The loop's invariant: the entries from r on and below i are the copies, the rest
 -- the old.
-use Prim.Native.Nat.{_+_, _-_, _≤_}
+use Prim.Native.Nat.{_-_, _≤_}
 use mathlib.Core.Path.{_≡_}
 use native.Mathlib.Omega.{arith}
 use lib.ListN.{length}
