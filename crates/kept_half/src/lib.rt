@@ -2,9 +2,9 @@
 // r's divisors, and a step for each.
 mod run;
 
-pub use run::make_kept_half;
 use divisors::Walk;
 use index::Parts;
+pub use run::make_kept_half;
 ghost use Prim.Native.Nat.{_+_};
 ghost use mathlib.Core.Path.{_≡_};
 ghost use lib.ListN.{length};

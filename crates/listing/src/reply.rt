@@ -17,7 +17,13 @@ use lines::read_line;
 // The listing has no working limit: 2^63 - 1.
 const LARGEST: i64 = 9223372036854775807;
 
-pub(crate) fn put_reply(out: &mut [u8], at: usize, line: &[u8], number: u64, entries: &mut [i64]) -> usize
+pub(crate) fn put_reply(
+    out: &mut [u8],
+    at: usize,
+    line: &[u8],
+    number: u64,
+    entries: &mut [i64],
+) -> usize
     requires { ⌜ (length (now entries) ≡ LENT) × (at + Most ≤ length (now out)) ⌝ }
     ensures { λ r. ⌜ Puts (reply number (now (line .entry))) at (now (out .entry)) (now (out .exit)) r ⌝ }
     ensures { λ r. ⌜ r ≤ at + Most ⌝ }

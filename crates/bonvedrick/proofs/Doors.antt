@@ -1,0 +1,76 @@
+-- A door's contract is its request's: what the checker reads off the clauses of each function of the C library is, for
+-- the same arguments, answer and buffers, what it reads off those of the request. Of a step the door fixes the sort.
+use mathlib.Core.Path.{_≡_, refl, sym, _∙_}
+use contract.Lifetimes.{Lfts}
+use borrow.Fn.Kinds.{endedOf}
+use borrow.Fn.World.{ArgsD, ResD}
+use denote.Triple.Clauses.{AtExit}
+use denote.Ref.{now}
+use Rattle.passes.specs.declared.Sort.the-variants.{Comb, Accumulate}
+use Rattle.steps.proofs.Step.apply.Kinds as step-kinds
+use Rattle.steps.proofs.Step.apply.Reads as step-request
+use Rattle.polynomial.proofs.polynomial.Reads as polynomial-request
+use Rattle.partial.proofs.partial.Reads as partial-request
+use Rattle.shelf.proofs.write.Reads as write-request
+use Rattle.shelf.proofs.read.Reads as read-request
+use Rattle.bonvedrick.proofs.bv_polynomial as polynomial
+use Rattle.bonvedrick.proofs.bv_polynomial.Kinds as polynomial-kinds
+use Rattle.bonvedrick.proofs.bv_polynomial.Reads as polynomial-reads
+use Rattle.bonvedrick.proofs.bv_partial as partial
+use Rattle.bonvedrick.proofs.bv_partial.Kinds as partial-kinds
+use Rattle.bonvedrick.proofs.bv_partial.Reads as partial-reads
+use Rattle.bonvedrick.proofs.bv_write as write
+use Rattle.bonvedrick.proofs.bv_write.Kinds as write-kinds
+use Rattle.bonvedrick.proofs.bv_write.Reads as write-reads
+use Rattle.bonvedrick.proofs.bv_read as read
+use Rattle.bonvedrick.proofs.bv_read.Kinds as read-kinds
+use Rattle.bonvedrick.proofs.bv_read.Reads as read-reads
+use Rattle.bonvedrick.proofs.bv_comb as comb
+use Rattle.bonvedrick.proofs.bv_comb.Kinds as comb-kinds
+use Rattle.bonvedrick.proofs.bv_comb.Reads as comb-reads
+use Rattle.bonvedrick.proofs.bv_accumulate as accumulate
+use Rattle.bonvedrick.proofs.bv_accumulate.Kinds as accumulate-kinds
+use Rattle.bonvedrick.proofs.bv_accumulate.Reads as accumulate-reads
+
+pub polynomial-door :
+    (κs : Lfts 1) (a : ArgsD polynomial.signature κs) (z : ResD polynomial.signature κs)
+    (e : AtExit (endedOf 1 polynomial-kinds.ps polynomial-kinds.r) κs)
+    → polynomial-reads.Post κs a z e ≡ polynomial-request.Post κs a z e
+polynomial-door κs a z e = refl
+
+pub partial-door :
+    (κs : Lfts 1) (a : ArgsD partial.signature κs) (z : ResD partial.signature κs)
+    (e : AtExit (endedOf 1 partial-kinds.ps partial-kinds.r) κs)
+    → partial-reads.Post κs a z e ≡ partial-request.Post κs a z e
+partial-door κs a z e = refl
+
+pub write-door :
+    (κs : Lfts 2) (a : ArgsD write.signature κs) (z : ResD write.signature κs)
+    (e : AtExit (endedOf 2 write-kinds.ps write-kinds.r) κs)
+    → write-reads.Post κs a z e ≡ write-request.Post κs a z e
+write-door κs a z e = refl
+
+pub read-door :
+    (κs : Lfts 2) (a : ArgsD read.signature κs) (z : ResD read.signature κs)
+    (e : AtExit (endedOf 2 read-kinds.ps read-kinds.r) κs)
+    → read-reads.Post κs a z e ≡ read-request.Post κs a z e
+read-door κs a z e = refl
+
+-- the slice that a step's door leaves, e, and the one that the step leaves, f, hold the same
+pub comb-door :
+    (κs : Lfts 1) (a : ArgsD comb.signature κs) (z : ResD comb.signature κs)
+    (e : AtExit (endedOf 1 comb-kinds.ps comb-kinds.r) κs) (f : AtExit (endedOf 1 step-kinds.ps step-kinds.r) κs)
+    → now (e .1 .1 .0) ≡ now (f .1 .1 .0)
+    → (comb-reads.Post κs a z e → step-request.Post κs (record { sort = Comb; size = a .0 }, a .1) z f)
+    × (step-request.Post κs (record { sort = Comb; size = a .0 }, a .1) z f → comb-reads.Post κs a z e)
+comb-door κs a z e f same =
+    (λ p. (p .0, (p .1 .0, sym same ∙ p .1 .1)), λ p. (p .0, (p .1 .0, same ∙ p .1 .1)))
+
+pub accumulate-door :
+    (κs : Lfts 1) (a : ArgsD accumulate.signature κs) (z : ResD accumulate.signature κs)
+    (e : AtExit (endedOf 1 accumulate-kinds.ps accumulate-kinds.r) κs) (f : AtExit (endedOf 1 step-kinds.ps step-kinds.r) κs)
+    → now (e .1 .1 .0) ≡ now (f .1 .1 .0)
+    → (accumulate-reads.Post κs a z e → step-request.Post κs (record { sort = Accumulate; size = a .0 }, a .1) z f)
+    × (step-request.Post κs (record { sort = Accumulate; size = a .0 }, a .1) z f → accumulate-reads.Post κs a z e)
+accumulate-door κs a z e f same =
+    (λ p. (p .0, (p .1 .0, sym same ∙ p .1 .1)), λ p. (p .0, (p .1 .0, same ∙ p .1 .1)))
