@@ -9,7 +9,7 @@ use native.Mathlib.Numerals.{add-one}
 use native.Mathlib.Omega.{arith}
 use borrow.Author.Tests.{eq-eqb, ne-eqb, lt-ltb, le-ltb}
 use lib.ListN.{length, getD, take, drop, drop-of-length-le}
-use lib.Seq.{take-suc, drop-cons, length-sets}
+use lib.Seq.{take-suc, take-take, take-add, drop-cons, length-sets}
 use lib.Dec.{eqb, ltb}
 use Rattle.text.specs.Text.{NEWLINE}
 use Rattle.replies.specs.Reply.{MOST}
@@ -25,6 +25,14 @@ pub after-append : (s : Line) (xs ys : List ℕ) → after s (xs ++ ys) ≡ afte
 unfolding after
 after-append s [] ys = refl
 after-append s (b ∷ xs) ys = after-append (step s b) xs ys
+
+-- the line after the first bytes of a piece, and then after some of those that are left of it
+pub after-part : (line : Line) (piece : List ℕ) (from n rest : ℕ) → n ≤ rest
+    → after (after line (take from piece)) (take n (take rest (drop from piece))) ≡ after line (take (from + n) piece)
+after-part line piece from n rest h =
+    ap (after (after line (take from piece))) (take-take n rest (drop from piece) h)
+    ∙ sym (ap (after line) (take-add from n piece)
+    ∙ after-append line (take from piece) (take n (drop from piece)))
 
 pub printed-append : (s : Line) (xs ys : List ℕ) → printed s (xs ++ ys) ≡ printed s xs ++ printed (after s xs) ys
 unfolding printed after
