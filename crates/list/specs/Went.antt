@@ -4,9 +4,8 @@ use mathlib.Core.Path.{_≡_}
 use mathlib.Core.Bool.{Bool, true, false}
 use mathlib.Core.List.{List, [], _∷_}
 use lib.ListN.{length, take}
-use Rattle.text.specs.Text.{NEWLINE}
 use Rattle.open_line.specs.declared.Line.{Line}
-use Rattle.listing.specs.Stream.{after}
+use Rattle.listing.specs.Stream.{NEWLINE, after}
 use Rattle.streams.specs.declared.Got.{Got}
 use Rattle.list.specs.declared.Going.{Going}
 

@@ -82,7 +82,8 @@ fn list_piece(line: Line, piece: &[u8], out: &mut [u8]) -> Going
     let mut s = line;
     let mut from = 0;
     while from < piece.len() {
-        let g = list_some(s, &piece[from..], out);
+        let rest = &piece[from..];
+        let g = list_some(s, rest, out);
         s = g.line;
         from += g.taken;
         if !g.on {
@@ -150,15 +151,15 @@ fn list_read(line: Line, got: Got, chunk: &[u8], out: &mut [u8]) -> Going
 fn list_all(chunk: &mut [u8], out: &mut [u8])
     requires { ⌜ MOST ≤ length (now out) ⌝ }
 {
-    let mut g = Going {
-        line: listing::start(),
-        taken: 0,
-        on: true,
-    };
+    let mut line = listing::start();
     let mut turns = u64::MAX;
-    while g.on && turns > 0 {
+    while turns > 0 {
         let got = streams::read_some(STDIN_FILENO, chunk);
-        g = list_read(g.line, got, chunk, out);
+        let g = list_read(line, got, chunk, out);
+        line = g.line;
+        if !g.on {
+            return;
+        }
         turns -= 1;
     }
 }

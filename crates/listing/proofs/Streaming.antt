@@ -1,6 +1,6 @@
 -- A run over a piece of input, byte by byte: what has been taken and printed so far, and that one byte more keeps it
 -- so.
-use mathlib.Core.Path.{_≡_, refl, sym, _∙_, ap}
+use mathlib.Core.Path.{_≡_, refl, sym, _∙_, ap, ap₂}
 use mathlib.Core.Bool.{true, false, _&&_, and-false}
 use mathlib.Core.List.{List, [], _∷_, _++_, append-assoc, append-nil}
 use Prim.Native.Nat.{ℕ, suc, _+_, _-_, _<_, _≤_}
@@ -26,13 +26,12 @@ unfolding after
 after-append s [] ys = refl
 after-append s (b ∷ xs) ys = after-append (step s b) xs ys
 
--- the line after the first bytes of a piece, and then after some of those that are left of it
-pub after-part : (line : Line) (piece : List ℕ) (from n rest : ℕ) → n ≤ rest
-    → after (after line (take from piece)) (take n (take rest (drop from piece))) ≡ after line (take (from + n) piece)
-after-part line piece from n rest h =
-    ap (after (after line (take from piece))) (take-take n rest (drop from piece) h)
-    ∙ sym (ap (after line) (take-add from n piece)
-    ∙ after-append line (take from piece) (take n (drop from piece)))
+-- the line s after the first bytes of a piece goes on over some of those that are left of it
+pub after-part : (line s : Line) (piece : List ℕ) (from n rest : ℕ) → s ≡ after line (take from piece) → n ≤ rest
+    → after s (take n (take rest (drop from piece))) ≡ after line (take (from + n) piece)
+after-part line s piece from n rest e h =
+    ap₂ after e (take-take n rest (drop from piece) h)
+    ∙ sym (ap (after line) (take-add from n piece) ∙ after-append line (take from piece) (take n (drop from piece)))
 
 pub printed-append : (s : Line) (xs ys : List ℕ) → printed s (xs ++ ys) ≡ printed s xs ++ printed (after s xs) ys
 unfolding printed after
