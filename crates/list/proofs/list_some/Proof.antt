@@ -1,6 +1,6 @@
 -- `list::list_some` meets its contract, by what a run tells (`Ran`): what it made is what the bytes that it took print
 -- (`flushed`), and it took something, since there is room for a line (`takes`).
-use Prim.Native.Nat.{ℕ, _<_}
+use Prim.Native.Nat.{ℕ, _≤_, _<_}
 use mathlib.Core.Path.{_≡_, refl, sym, _∙_}
 use mathlib.Core.List.{List, [], _∷_}
 use native.Mathlib.Nat.{not-suc-le-zero}
@@ -39,7 +39,8 @@ slice-reshare-prefix-write-made c = search needs
 slice-aggregate-write-made-2 : tie.Need-slice-aggregate-write-made-2
 slice-aggregate-write-made-2 c =
     let run = c .before .before .before .before .before .run in
-    sym (length-take-le _ _ (omega (arith, run .ensures .fits, run .kept .1 .1 .0)))
+    let fits : run .result .made ≤ length (run .last .1 .1 .0) = omega (arith, run .ensures .fits, run .kept .1 .1 .0) in
+    omega (arith, length-take-le (run .result .made) (run .last .1 .1 .0) fits)
 
 write-made-requires : tie.Need-write-made-requires
 write-made-requires c κs =
@@ -55,7 +56,8 @@ same-length c = search needs
 returns : tie.Need-returns
 returns c =
     let r = c .before .before .before .before .before .before in
-    (record { within = r .run .ensures .within; left = r .run .ensures .left }, some r)
+    let ran = r .run .ensures in
+    (record { within = omega (arith, ran .within); left = ran .left }, omega (arith, some r, ran .within))
 
 pub list-some-spec : {M : Type 1} → statement M
 list-some-spec =
