@@ -1,14 +1,13 @@
 -- `list::list_read` meets its contract, by those of `list_end` and `list_piece`.
 use lib.Seq.{take-length}
-use borrow.Author.Needs.{needs}
 use Rattle.list.proofs.list_read.Statement.{statement}
 use Rattle.list.proofs.list_read.Tie as tie
 
 list-end-requires : tie.Need-list-end-requires
-list-end-requires c κs = search needs
+list-end-requires c κs = c .before .before .before .before .pre .0
 
 same-length : tie.Need-same-length
-same-length c = search needs
+same-length c = c .before .before .list-end .kept .1 .1 .0
 
 returns : tie.Need-returns
 returns c =
@@ -16,13 +15,13 @@ returns c =
     record { all = λ e. cc (ended .stops); none = λ none. ended }
 
 slice-aggregate-list-piece : tie.Need-slice-aggregate-list-piece
-slice-aggregate-list-piece c = search needs
+slice-aggregate-list-piece c = c .before .before .before .before .pre .1 .1
 
 list-piece-requires : tie.Need-list-piece-requires
-list-piece-requires c κs = search needs
+list-piece-requires c κs = c .before .before .before .before .before .pre .0
 
 same-length-2 : tie.Need-same-length-2
-same-length-2 c = search needs
+same-length-2 c = c .before .before .list-piece .kept .1 .1 .0
 
 returns-2 : tie.Need-returns-2
 returns-2 c =

@@ -12,7 +12,6 @@ use Rattle.listing.specs.Stream.{printed}
 use Rattle.listing.proofs.Streaming.{takes}
 use Rattle.listing.proofs.Whole.{flushed}
 use Rattle.list.specs.Handed.{handed}
-use borrow.Author.Needs.{needs}
 use Rattle.list.proofs.list_some.Statement.{statement}
 use Rattle.list.proofs.list_some.Tie as tie
 
@@ -27,20 +26,23 @@ some c =
     let pre = c .before .before .before .before .pre in
     takes (c .run .ensures) (pre .0) (pre .1)
 
+-- what it made lies in the buffer
+fits : (c : tie.After-run) → c .run .result .made ≤ length (c .run .last .1 .1 .0)
+fits c = omega (arith, c .run .ensures .fits, c .run .kept .1 .1 .0)
+
 run-requires : tie.Need-run-requires
-run-requires c κs = search needs
+run-requires c κs = tt
 
 slice-aggregate-write-made : tie.Need-slice-aggregate-write-made
 slice-aggregate-write-made c = sym (length-take-le _ _ (c .before .before .before .before .run .ensures .within))
 
 slice-reshare-prefix-write-made : tie.Need-slice-reshare-prefix-write-made
-slice-reshare-prefix-write-made c = search needs
+slice-reshare-prefix-write-made c = omega (arith, fits (c .before .before .before .before))
 
 slice-aggregate-write-made-2 : tie.Need-slice-aggregate-write-made-2
 slice-aggregate-write-made-2 c =
-    let run = c .before .before .before .before .before .run in
-    let fits : run .result .made ≤ length (run .last .1 .1 .0) = omega (arith, run .ensures .fits, run .kept .1 .1 .0) in
-    omega (arith, length-take-le (run .result .made) (run .last .1 .1 .0) fits)
+    let r = c .before .before .before .before .before in
+    omega (arith, length-take-le (r .run .result .made) (r .run .last .1 .1 .0) (fits r))
 
 write-made-requires : tie.Need-write-made-requires
 write-made-requires c κs =
@@ -51,7 +53,7 @@ write-made-requires c κs =
     )
 
 same-length : tie.Need-same-length
-same-length c = search needs
+same-length c = c .before .before .before .before .before .before .run .kept .1 .1 .0
 
 returns : tie.Need-returns
 returns c =
