@@ -1,5 +1,6 @@
 -- `list::list_all` is safe and ends: the measure is the number of turns that are left. What a read gave is counted in
 -- the chunk, which is what `list_read` requires.
+use Prim.Native.Nat.{_<_}
 use mathlib.Core.Path.{_≡_, refl, _∙_}
 use native.Mathlib.Omega.{arith}
 use lib.ListN.{length}
@@ -29,8 +30,11 @@ list-read-requires c κs =
       read .read-some .ensures,
     )
 
--- a turn keeps the lengths of both buffers
+-- a turn keeps the lengths of both buffers, and there was one to take
 module _ (c : tie.After-list-read Inv-loop μ-loop) where
+  more : 0 < c .before .before .before .before .before .before .before .before .loop .turns
+  more = c .before .before .before .before .before .before .before .loop-test .taken
+
   chunk-kept : length (c .before .before .before .before .before .read-some .last .1 .0)
       ≡ length (c .before .before .before .before .before .before .before .before .before .before .before .before .args
       .chunk .now)
@@ -55,10 +59,10 @@ returns : tie.Need-returns Inv-loop μ-loop
 returns c = tt
 
 sub-turns : tie.Need-sub-turns Inv-loop μ-loop
-sub-turns c = omega (arith, c .before .before .before .before .before .before .before .before .before .before .before .before)
+sub-turns c = omega (arith, more (c .before .before .before .before .before))
 
 loop-less : tie.Need-loop-less Inv-loop μ-loop
-loop-less c = omega (arith, c .before .before .before .before .before .before .before .before .before .before .before .before)
+loop-less c = omega (arith, more (c .before .before .before .before .before))
 
 loop-again : tie.Need-loop-again Inv-loop μ-loop
 loop-again c =

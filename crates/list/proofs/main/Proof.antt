@@ -35,7 +35,8 @@ slice-aggregate-write-made c = refl
 
 array-share-prefix-out : tie.Need-array-share-prefix-out
 array-share-prefix-out c =
-    omega (arith, c .before .before .before .heading .ensures .1, c .before .before .before .before .before .large .ensures)
+    let h = c .before .before .before in
+    omega (arith, h .heading .ensures .1, h .before .before .large .ensures)
 
 slice-aggregate-write-made-2 : tie.Need-slice-aggregate-write-made-2
 slice-aggregate-write-made-2 c =
