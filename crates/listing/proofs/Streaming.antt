@@ -1,6 +1,6 @@
 -- A run over a piece of input, byte by byte: what has been taken and printed so far, and that one byte more keeps it
 -- so.
-use mathlib.Core.Path.{_≡_, refl, sym, _∙_, ap}
+use mathlib.Core.Path.{_≡_, refl, sym, _∙_, ap, ap₂}
 use mathlib.Core.Bool.{true, false, _&&_, and-false}
 use mathlib.Core.List.{List, [], _∷_, _++_, append-assoc, append-nil}
 use Prim.Native.Nat.{ℕ, suc, _+_, _-_, _<_, _≤_}
@@ -9,7 +9,7 @@ use native.Mathlib.Numerals.{add-one}
 use native.Mathlib.Omega.{arith}
 use borrow.Author.Tests.{eq-eqb, ne-eqb, lt-ltb, le-ltb}
 use lib.ListN.{length, getD, take, drop, drop-of-length-le}
-use lib.Seq.{take-suc, drop-cons, length-sets}
+use lib.Seq.{take-suc, take-take, take-add, drop-cons, length-sets}
 use lib.Dec.{eqb, ltb}
 use Rattle.text.specs.Text.{NEWLINE}
 use Rattle.listing.specs.Reply.{MOST}
@@ -25,6 +25,13 @@ pub after-append : (s : Line) (xs ys : List ℕ) → after s (xs ++ ys) ≡ afte
 unfolding after
 after-append s [] ys = refl
 after-append s (b ∷ xs) ys = after-append (step s b) xs ys
+
+-- the line s after the first bytes of a piece goes on over some of those that are left of it
+pub after-part : (line s : Line) (piece : List ℕ) (from n rest : ℕ) → s ≡ after line (take from piece) → n ≤ rest
+    → after s (take n (take rest (drop from piece))) ≡ after line (take (from + n) piece)
+after-part line s piece from n rest e h =
+    ap₂ after e (take-take n rest (drop from piece) h)
+    ∙ sym (ap (after line) (take-add from n piece) ∙ after-append line (take from piece) (take n (drop from piece)))
 
 pub printed-append : (s : Line) (xs ys : List ℕ) → printed s (xs ++ ys) ≡ printed s xs ++ printed (after s xs) ys
 unfolding printed after

@@ -10,6 +10,7 @@ use lib.Seq.{take-all, sets-eq, take-at}
 use lib.Dec.{eqb}
 use Rattle.step_laws.specs.Tests.{by-test}
 use Rattle.text.specs.Text.{NEWLINE}
+use Rattle.text.specs.Puts.{Puts}
 use Rattle.listing.specs.Reply.{reply}
 use Rattle.open_line.specs.Heading.{heading}
 use Rattle.open_line.specs.OpenLine.{startLine, pushed, nextLine}
@@ -47,14 +48,17 @@ pub whole : (input : List ℕ) → 1 + length input < 2 ^ 64
 unfolding listing
 whole input h = ap (λ r. heading ++ r) (from input startLine [] 1 keeps-start h)
 
+-- what was put at the start of a buffer are its first bytes, all of them
+pub put-first : {text l m : List ℕ} {made : ℕ} → Puts text 0 l m made → made ≤ length l → take made m ≡ text
+put-first {text} {l} {m} {made} p fits =
+    let long : 0 + length text ≡ made = sym (p .place) in
+    ap (take made) (p .leaves ∙ sets-eq text l 0 (omega arith))
+    ∙ take-at text (drop (0 + length text) l) made (omega arith)
+
 -- what a run wrote is what the bytes that it took print
-flushed : {s : Line} {piece l m : List ℕ} {r : Progress} → Ran s piece l m r
+pub flushed : {s : Line} {piece l m : List ℕ} {r : Progress} → Ran s piece l m r
     → take (r .made) m ≡ printed s (take (r .taken) piece)
-flushed {s} {piece} {l} {m} {r} ran =
-    let text = printed s (take (r .taken) piece) in
-    let long : 0 + length text ≡ r .made = sym (ran .puts .place) in
-    ap (take (r .made)) (ran .puts .leaves ∙ sets-eq text l 0 (omega (arith, ran .fits)))
-    ∙ take-at text (drop (0 + length text) l) (r .made) (omega arith)
+flushed ran = put-first (ran .puts) (ran .fits)
 
 -- runs over an input that comes in pieces: what a run did not take is taken by the next one, and what it made is
 -- written out

@@ -5,7 +5,7 @@ use mathlib.Core.Bool.{cond, _&&_}
 use mathlib.Core.List.{List, [], _∷_, _++_}
 use lib.ListN.{length, take}
 use lib.Dec.{eqb, ltb, leb}
-use Rattle.text.specs.Text.{NEWLINE}
+pub use Rattle.text.specs.Text.{NEWLINE}
 use Rattle.open_line.specs.OpenLine.{KEPT, pushed, nextLine}
 use Rattle.open_line.specs.declared.Line.{Line}
 use Rattle.answer_lines.specs.Printed.{wrongLine}

@@ -61,7 +61,8 @@ fn write_some(fd: i32, bytes: &[u8]) -> usize
     0
 }
 
-// All of the bytes; false where a write failed or took nothing, when a part may have been written.
+// All of the bytes: true only where the counts that the writes answered add up to their number; false where a write
+// failed or took nothing, when a part may have been written. Those counts have no name in a contract, so it has none.
 pub fn write_whole(fd: i32, bytes: &[u8]) -> bool {
     let mut done = 0;
     while done < bytes.len() {

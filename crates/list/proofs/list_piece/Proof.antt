@@ -1,95 +1,98 @@
--- `list::list_piece` is safe and ends: each run takes something, since there is room for a line (`takes`).
-use Prim.Native.Nat.{_-_, _≤_, _<_}
+-- `list::list_piece` meets its contract. The loop's invariant: the line that is open is the one after the bytes taken;
+-- what is left of the piece goes on from there (`after-part`). It ends, for each run takes something.
+use Prim.Native.Nat.{_+_, _-_, _≤_, _<_}
 use mathlib.Core.Path.{_≡_, refl, _∙_}
 use native.Mathlib.Omega.{arith}
-use lib.ListN.{length, drop, length-take, length-drop}
-use Rattle.listing.proofs.Streaming.{takes}
+use lib.ListN.{length, take, drop, length-take, length-drop}
+use Rattle.listing.specs.Stream.{after}
+use Rattle.listing.proofs.Streaming.{after-part}
 use Rattle.list.proofs.list_piece.Statement.{statement}
 use Rattle.list.proofs.list_piece.Tie as tie
 
 abbrev Inv-loop : tie.InvT-loop
-Inv-loop piece out₀ s₀ from₀ out s from = (from ≤ length piece) × (length out ≡ length out₀)
+Inv-loop piece out₀ s₀ from₀ out s from =
+    (from ≤ length piece) × ((s ≡ after s₀ (take from piece)) × (length out ≡ length out₀))
 
 abbrev μ-loop : tie.MeasureT-loop
 μ-loop piece out₀ s₀ from₀ out s from = length piece - from
 
 loop-holds : tie.Need-loop-holds Inv-loop μ-loop
-loop-holds c = (omega arith, refl)
+unfolding after
+loop-holds c = (omega arith, (refl, refl))
 
-sub-run : tie.Need-sub-run Inv-loop μ-loop
-sub-run c = omega arith
+sub-rest : tie.Need-sub-rest Inv-loop μ-loop
+sub-rest c = omega arith
 
-part-run-start : tie.Need-part-run-start Inv-loop μ-loop
-part-run-start c = omega arith
+part-rest-start : tie.Need-part-rest-start Inv-loop μ-loop
+part-rest-start c = omega arith
 
-part-run-end : tie.Need-part-run-end Inv-loop μ-loop
-part-run-end c = omega arith
+part-rest-end : tie.Need-part-rest-end Inv-loop μ-loop
+part-rest-end c = omega arith
 
-run-requires : tie.Need-run-requires Inv-loop μ-loop
-run-requires c κs = tt
+-- how long the rest of the piece is
+long : (c : tie.In-loop Inv-loop μ-loop) →
+    let l = c .before .before .before .before .args .piece .now in
+    let from = c .before .loop .from in
+    length (take (length l - from) (drop from l)) ≡ length l - from
+long c =
+    let l = c .before .before .before .before .args .piece .now in
+    let from = c .before .loop .from in
+    omega (arith, length-take (length l - from) (drop from l), length-drop from l)
 
--- a run leaves the buffer as long as it was; what it took lies within what was left, and is something
-kept : (c : tie.After-run Inv-loop μ-loop) → length (c .run .last .1 .1 .0)
-    ≡ length (c .before .before .before .before .before .before .before .args .out .now)
-kept c = c .run .kept .1 .1 .0 ∙ c .before .before .before .before .loop .inv .1
-
-within : (c : tie.After-run Inv-loop μ-loop) → c .run .result .taken
-    ≤ length (c .before .before .before .before .before .before .before .args .piece .now)
-    - c .before .before .before .before .loop .from
-within c =
-    let l = c .before .before .before .before .before .before .before .args .piece .now in
-    let from = c .before .before .before .before .loop .from in
-    omega (arith, c .run .ensures .within, length-take (length l - from) (drop from l))
-
-some : (c : tie.After-run Inv-loop μ-loop) → 0 < c .run .result .taken
-some c =
-    let l = c .before .before .before .before .before .before .before .args .piece .now in
-    let from = c .before .before .before .before .loop .from in
-    takes (c .run .ensures)
-    (omega (
-      arith,
-      c .before .before .before .before .loop .inv .1,
-      c .before .before .before .before .before .before .before .pre,
-    ))
-    (omega (
-      arith,
-      length-take (length l - from) (drop from l),
-      length-drop from l,
-      c .before .before .before .loop-test .taken,
-    ))
-
-write-made-requires : tie.Need-write-made-requires Inv-loop μ-loop
-write-made-requires c κs =
-    omega (
-      arith,
-      c .before .before .before .before .run .ensures .fits,
-      c .before .before .before .before .run .kept .1 .1 .0,
+list-some-requires : tie.Need-list-some-requires Inv-loop μ-loop
+list-some-requires c κs =
+    let turn = c .before .before in (
+      omega (arith, turn .before .loop .inv .1 .1, turn .before .before .before .before .pre),
+      omega (arith, long turn, turn .loop-test .taken),
     )
+
+-- a turn keeps the buffer's length, and takes something of what is left
+module _ (c : tie.After-list-some Inv-loop μ-loop) where
+  kept : length (c .list-some .last .1 .1 .0)
+      ≡ length (c .before .before .before .before .before .before .before .args .out .now)
+  kept = c .list-some .kept .1 .1 .0 ∙ c .before .before .before .before .loop .inv .1 .1
+
+  within : c .list-some .result .taken
+      ≤ length (c .before .before .before .before .before .before .before .args .piece .now)
+      - c .before .before .before .before .loop .from
+  within = omega (arith, c .list-some .ensures .0 .within, long (c .before .before .before))
+
+  further : c .list-some .result .line
+      ≡ after (c .before .before .before .before .before .before .before .args .line)
+      (take (c .before .before .before .before .loop .from + c .list-some .result .taken)
+      (c .before .before .before .before .before .before .before .args .piece .now))
+  further =
+      c .list-some .ensures .0 .left
+      ∙ after-part _ _ _ _ _ _ (c .before .before .before .before .loop .inv .1 .0) within
+
+add-from : tie.Need-add-from Inv-loop μ-loop
+add-from c = omega (arith, within (c .before .before .before .before))
 
 same-length : tie.Need-same-length Inv-loop μ-loop
 same-length c = kept (c .before .before .before .before .before .before)
 
 returns : tie.Need-returns Inv-loop μ-loop
-returns c = tt
-
-add-from : tie.Need-add-from Inv-loop μ-loop
-add-from c = omega (arith, within (c .before .before .before .before .before .before .before))
+returns c =
+    let g = c .before .before .before .before .before .before in
+    (record { within = omega (arith, within g); left = further g }, λ e. cc)
 
 loop-less : tie.Need-loop-less Inv-loop μ-loop
 loop-less c =
-    let ran = c .before .before .before .before .before .before .before in
-    omega (arith, within ran, some ran)
+    let g = c .before .before .before .before .before .before in
+    omega (arith, within g, g .list-some .ensures .1)
 
 loop-again : tie.Need-loop-again Inv-loop μ-loop
 loop-again c =
-    let ran = c .before .before .before .before .before .before .before in
-    (omega (arith, within ran), kept ran)
+    let g = c .before .before .before .before .before .before in
+    (omega (arith, within g), (further g, kept g))
 
 same-length-2 : tie.Need-same-length-2 Inv-loop μ-loop
-same-length-2 c = c .before .loop .inv .1
+same-length-2 c = c .before .loop .inv .1 .1
 
 returns-2 : tie.Need-returns-2 Inv-loop μ-loop
-returns-2 c = tt
+returns-2 c =
+    let inv = c .before .loop .inv in
+    (record { within = inv .0; left = inv .1 .0 }, λ e. omega arith)
 
 pub list-piece-spec : {M : Type 1} → statement M
 list-piece-spec =
@@ -98,14 +101,13 @@ list-piece-spec =
     Inv-loop
     μ-loop
     loop-holds
-    sub-run
-    part-run-start
-    part-run-end
-    run-requires
-    write-made-requires
+    sub-rest
+    part-rest-start
+    part-rest-end
+    list-some-requires
+    add-from
     same-length
     returns
-    add-from
     loop-less
     loop-again
     same-length-2
