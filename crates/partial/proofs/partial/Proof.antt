@@ -29,10 +29,10 @@ module _ (c : tie.After-take-apart) where
   apart = c .take-apart .ensures ∙ taken-good (start .args .n) good
 
 known-kind-requires : tie.Need-known-kind-requires
-known-kind-requires c κs = search needs
+known-kind-requires c κs = tt
 
 refused-requires : tie.Need-refused-requires
-refused-requires c κs = search needs
+refused-requires c κs = tt
 
 returns : tie.Need-returns
 returns c =
@@ -43,10 +43,10 @@ returns c =
     (c .refused .ensures ∙ s .0, s .1)
 
 good-index-requires : tie.Need-good-index-requires
-good-index-requires c κs = search needs
+good-index-requires c κs = tt
 
 refused-requires-2 : tie.Need-refused-requires-2
-refused-requires-2 c κs = search needs
+refused-requires-2 c κs = tt
 
 returns-2 : tie.Need-returns-2
 returns-2 c =
@@ -57,10 +57,10 @@ returns-2 c =
     (c .refused2 .ensures ∙ s .0, s .1)
 
 take-apart-requires : tie.Need-take-apart-requires
-take-apart-requires c κs = search needs
+take-apart-requires c κs = tt
 
 refused-requires-3 : tie.Need-refused-requires-3
-refused-requires-3 c κs = search needs
+refused-requires-3 c κs = tt
 
 returns-3 : tie.Need-returns-3
 returns-3 c =

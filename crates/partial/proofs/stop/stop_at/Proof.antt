@@ -61,13 +61,13 @@ module _ (q : tie.After-over) {m : List ℤ} {h : RunOutcome} where
   walk-of-r = Walked.of-r (kind q) (n q) (start q .args .parts) (start q .pre) (q .over .result) (q .over .ensures) _
 
 half-degree-requires : tie.Need-half-degree-requires
-half-degree-requires c κs = search needs
+half-degree-requires c κs = tt
 
 over-requires : tie.Need-over-requires
 over-requires c κs = let p = c .before in parts-few (p .args .n) (p .args .parts) (p .pre .parts) (p .pre .good)
 
 refused-requires : tie.Need-refused-requires
-refused-requires c κs = search needs
+refused-requires c κs = tt
 
 returns : tie.Need-returns
 returns c =
@@ -77,7 +77,7 @@ returns c =
     (c .refused .ensures ∙ s .0, s .1)
 
 refused-requires-2 : tie.Need-refused-requires-2
-refused-requires-2 c κs = search needs
+refused-requires-2 c κs = tt
 
 returns-2 : tie.Need-returns-2
 returns-2 c =
@@ -101,7 +101,7 @@ module _ (e : tie.Else2) where
   limit = read-limit w (start walked .fits .w) good
 
 refused-requires-3 : tie.Need-refused-requires-3
-refused-requires-3 c κs = search needs
+refused-requires-3 c κs = tt
 
 returns-3 : tie.Need-returns-3
 returns-3 c =
@@ -122,7 +122,7 @@ slice-aggregate-make-kept-half c =
     let q = walked (c .before .before) in sym (part-length q (omega arith) (omega arith))
 
 magnitude-requires : tie.Need-magnitude-requires
-magnitude-requires c κs = search needs
+magnitude-requires c κs = tt
 
 make-kept-half-requires : tie.Need-make-kept-half-requires
 make-kept-half-requires c κs =
@@ -134,7 +134,7 @@ make-kept-half-requires c κs =
     )
 
 refused-requires-4 : tie.Need-refused-requires-4
-refused-requires-4 c κs = search needs
+refused-requires-4 c κs = tt
 
 same-length : tie.Need-same-length
 same-length c = search needs
