@@ -4,6 +4,7 @@
 //
 // A reader is told the place of the byte before its word, and tells the place after it. From NOWHERE, which is told
 // where a word is not there, nothing can be read: so whoever reads to the end of a line has read all its words well.
+ghost use Prim.Native.Nat.{_≤_};
 ghost use Rattle.telling.specs.Lends.{Lends};
 use std::num::wrapping_add_u64;
 use std::num::wrapping_add_usize;
@@ -92,17 +93,17 @@ fn number(line: &[u8], at: usize, before: u8) -> Number {
     }
 }
 
-// So many numbers, four at most.
-pub fn numbers(line: &[u8], at: usize, count: usize) -> Row {
+// So many numbers.
+pub fn numbers(line: &[u8], at: usize, count: usize) -> Row
+    requires { ⌜ count ≤ 4 ⌝ }
+{
     let mut bits = [0u64; 4];
     let mut next = at;
     let mut i = 0;
-    while i < 4 {
-        if i < count {
-            let v = number(line, next, b' ');
-            bits[i] = v.bits;
-            next = v.next;
-        }
+    while i < count {
+        let v = number(line, next, b' ');
+        bits[i] = v.bits;
+        next = v.next;
         i += 1;
     }
     Row { bits, next }
@@ -113,7 +114,7 @@ pub fn signed(bits: u64) -> i64 {
     if bits < 9223372036854775808 {
         return bits as i64;
     }
-    -1 - (18446744073709551615 - bits) as i64
+    !((18446744073709551615 - bits) as i64)
 }
 
 // The first entries, so many, each set to this.

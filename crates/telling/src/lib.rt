@@ -31,10 +31,11 @@ pub fn of_bytes(asked: usize, a: &[u8]) -> usize
 }
 
 pub fn put(out: &mut [u8], at: usize, b: u8) -> usize {
+    let next = std::num::wrapping_add_usize(at, 1);
     if at < out.len() {
         out[at] = b;
     }
-    std::num::wrapping_add_usize(at, 1)
+    next
 }
 
 fn text(out: &mut [u8], at: usize, t: &[u8]) -> usize {
@@ -53,23 +54,20 @@ fn decimal(out: &mut [u8], at: usize, v: u64) -> usize {
     text(out, at, &t[..k])
 }
 
-// A number after a byte, and a minus where it is below 0.
+// A number after a byte. A minus is put down in any case, and the digits come after it or over it.
 pub fn signed(out: &mut [u8], at: usize, before: u8, c: i64) -> usize {
-    let mut next = put(out, at, before);
-    if c < 0 {
-        next = put(out, next, b'-');
-    }
-    decimal(out, next, magnitude(c))
+    let minus = put(out, at, before);
+    let after = put(out, minus, b'-');
+    let from = if c < 0 { after } else { minus };
+    decimal(out, from, magnitude(c))
 }
 
-// Numbers from the start of the line on, with a space between.
-pub fn numbers(out: &mut [u8], row: &[u64]) -> usize {
-    let mut next = 0;
+// The start of a line: the code, and the numbers that are told with it.
+pub fn start(out: &mut [u8], code: u64, row: &[u64]) -> usize {
+    let mut next = decimal(out, 0, code);
     let mut i = 0;
     while i < row.len() {
-        if 0 < i {
-            next = put(out, next, b' ');
-        }
+        next = put(out, next, b' ');
         next = decimal(out, next, row[i]);
         i += 1;
     }
@@ -78,7 +76,8 @@ pub fn numbers(out: &mut [u8], row: &[u64]) -> usize {
 
 // A sum for a buffer that is not spelled out.
 fn summed(out: &mut [u8], at: usize, sum: u64) -> usize {
-    decimal(out, text(out, at, b" #"), sum)
+    let next = text(out, at, b" #");
+    decimal(out, next, sum)
 }
 
 // What an entry adds to a sum.
@@ -163,7 +162,8 @@ pub fn bytes(out: &mut [u8], at: usize, a: &[u8], count: usize) -> usize {
     if BYTES < k {
         return summed(out, next, sum_bytes(&a[..k]));
     }
-    hex(out, text(out, next, b" x"), &a[..k])
+    let next = text(out, next, b" x");
+    hex(out, next, &a[..k])
 }
 
 // The line ends here, and is written.

@@ -17,7 +17,7 @@ fn polynomial(line: &[u8], buf: &mut [i64], out: &mut [u8]) -> usize {
     let v = asked.bits;
     let room = lent.count;
     let a = bonvedrick::bv_polynomial(v[0], v[1], signed(v[2]), signed(v[3]), &mut buf[..room]);
-    let at = telling::numbers(out, &[a.code, a.degree, a.additions, a.height, a.peak]);
+    let at = telling::start(out, a.code, &[a.degree, a.additions, a.height, a.peak]);
     let at = telling::signed(out, at, b' ', a.gain);
     telling::entries(out, at, buf, room)
 }
@@ -32,7 +32,7 @@ fn partial(line: &[u8], buf: &mut [i64], out: &mut [u8]) -> usize {
     let v = asked.bits;
     let room = lent.count;
     let a = bonvedrick::bv_partial(v[0], v[1], v[2], signed(v[3]), &mut buf[..room]);
-    let at = telling::numbers(out, &[a.code, a.degree, a.additions, a.due]);
+    let at = telling::start(out, a.code, &[a.degree, a.additions, a.due]);
     telling::entries(out, at, buf, room)
 }
 
@@ -53,7 +53,7 @@ fn step(comb: bool, line: &[u8], at: usize, buf: &mut [i64], out: &mut [u8]) -> 
     let v = asked.bits;
     let room = lent.count;
     let a = take_step(comb, v[0], signed(v[1]), &mut buf[..room]);
-    let at = telling::numbers(out, &[a.code, a.count]);
+    let at = telling::start(out, a.code, &[a.count]);
     telling::entries(out, at, buf, room)
 }
 
@@ -69,7 +69,7 @@ fn write(line: &[u8], buf: &mut [i64], bytes: &mut [u8], out: &mut [u8]) -> usiz
     let count = coeffs.count;
     let room = lent.count;
     let a = bonvedrick::bv_write(v[0], v[1], &buf[..count], &mut bytes[..room]);
-    let at = telling::numbers(out, &[a.code, a.degree, a.used, a.byte]);
+    let at = telling::start(out, a.code, &[a.degree, a.used, a.byte]);
     telling::bytes(out, at, bytes, room)
 }
 
@@ -83,7 +83,7 @@ fn read(line: &[u8], buf: &mut [i64], bytes: &mut [u8], out: &mut [u8]) -> usize
     let count = record.count;
     let room = lent.count;
     let a = bonvedrick::bv_read(&bytes[..count], &mut buf[..room]);
-    let at = telling::numbers(out, &[a.code, a.degree, a.used, a.kind, a.n, a.byte]);
+    let at = telling::start(out, a.code, &[a.degree, a.used, a.kind, a.n, a.byte]);
     telling::entries(out, at, buf, room)
 }
 
