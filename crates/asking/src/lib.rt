@@ -15,7 +15,7 @@ use telling::of_entries;
 pub const NOWHERE: usize = 18446744073709551615;
 
 // A number: a negative one as what it is modulo 2^64, and any other as it is.
-pub struct Number {
+pub struct Found {
     pub bits: u64,
     pub next: usize,
 }
@@ -59,7 +59,7 @@ fn digit(b: u8) -> u64 {
 }
 
 // The decimal digits that start at a place. More than a u64 holds wrap.
-fn digits(line: &[u8], from: usize) -> Number {
+fn digits(line: &[u8], from: usize) -> Found {
     let mut bits: u64 = 0;
     let mut i = from;
     while i < line.len() {
@@ -71,13 +71,13 @@ fn digits(line: &[u8], from: usize) -> Number {
         i += 1;
     }
     let next = if i == from { NOWHERE } else { i };
-    Number { bits, next }
+    Found { bits, next }
 }
 
 // The number that stands after a certain byte, which is at the place told.
-fn number(line: &[u8], at: usize, before: u8) -> Number {
+fn number(line: &[u8], at: usize, before: u8) -> Found {
     if byte_at(line, at) != before {
-        return Number {
+        return Found {
             bits: 0,
             next: NOWHERE,
         };
@@ -87,7 +87,7 @@ fn number(line: &[u8], at: usize, before: u8) -> Number {
         return digits(line, first);
     }
     let below = digits(line, wrapping_add_usize(first, 1));
-    Number {
+    Found {
         bits: wrapping_sub_u64(0, below.bits),
         next: below.next,
     }
