@@ -110,43 +110,41 @@ fn answer(line: &[u8], buf: &mut [i64], bytes: &mut [u8], out: &mut [u8]) -> usi
     telling::put(out, 0, b'?')
 }
 
-// A byte of the input: it goes to the line that is open, or ends it. Answers how long the open line is now.
-fn take(b: u8, open: usize, line: &mut [u8], buf: &mut [i64], bytes: &mut [u8], out: &mut [u8]) -> usize {
+// A byte of the input: it goes to the line that is open, or ends it. Answers how long the open line is now. A line that
+// is too long is taken for an empty one.
+fn take(b: u8, held: usize, line: &mut [u8], buf: &mut [i64], bytes: &mut [u8], out: &mut [u8]) -> usize {
     if b != 10 {
-        return telling::put(line, open, b);
+        return telling::put(line, held, b);
     }
-    let whole = telling::of_bytes(open, line);
-    let at = if whole == open {
-        answer(&line[..whole], buf, bytes, out)
-    } else {
-        telling::put(out, 0, b'?')
-    };
+    let length = if held <= line.len() { held } else { 0 };
+    let whole = telling::of_bytes(length, line);
+    let at = answer(&line[..whole], buf, bytes, out);
     telling::end(out, at);
     0
 }
 
 // A piece of the input.
-fn take_all(piece: &[u8], open: usize, line: &mut [u8], buf: &mut [i64], bytes: &mut [u8], out: &mut [u8]) -> usize {
-    let mut open = open;
+fn take_all(piece: &[u8], begun: usize, line: &mut [u8], buf: &mut [i64], bytes: &mut [u8], out: &mut [u8]) -> usize {
+    let mut held = begun;
     let mut i = 0;
     while i < piece.len() {
-        open = take(piece[i], open, line, buf, bytes, out);
+        held = take(piece[i], held, line, buf, bytes, out);
         i += 1;
     }
-    open
+    held
 }
 
 // Reads to the end of the input. A proved loop has to end, so it counts its turns down, from a number that no run uses
 // up.
 fn run(chunk: &mut [u8], line: &mut [u8], buf: &mut [i64], bytes: &mut [u8], out: &mut [u8]) {
-    let mut open = 0;
+    let mut held = 0;
     let mut more = true;
     let mut turns = u64::MAX;
     while more && turns > 0 {
         let got = streams::read_some(STDIN_FILENO, chunk);
         let n = got.count;
         more = 0 < n;
-        open = take_all(&chunk[..n], open, line, buf, bytes, out);
+        held = take_all(&chunk[..n], held, line, buf, bytes, out);
         turns -= 1;
     }
 }
