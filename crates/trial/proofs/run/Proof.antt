@@ -1,17 +1,23 @@
 -- `trial::run` is safe and ends: the measure is the number of turns that are left, and each buffer keeps its length.
+use mathlib.Core.Path.{_≡_}
 use native.Mathlib.Omega.{arith}
 use borrow.Author.Needs.{needs}
 use borrow.Author.Tests.{ltb-true}
+use lib.ListN.{length}
 use Rattle.trial.proofs.run.Statement.{statement}
 use Rattle.trial.proofs.run.Tie as tie
 
 abbrev Inv-loop : tie.InvT-loop
 Inv-loop chunk₀ line₀ buf₀ bytes₀ out₀ held₀ more₀ turns₀ chunk line buf bytes out held more turns =
-    ?
+    (length chunk ≡ length chunk₀)
+    × (length line ≡ length line₀)
+    × (length buf ≡ length buf₀)
+    × (length bytes ≡ length bytes₀)
+    × (length out ≡ length out₀)
 
 abbrev μ-loop : tie.MeasureT-loop
 μ-loop chunk₀ line₀ buf₀ bytes₀ out₀ held₀ more₀ turns₀ chunk line buf bytes out held more turns =
-    ?
+    turns
 
 loop-holds : tie.Need-loop-holds Inv-loop μ-loop
 loop-holds c = search needs
