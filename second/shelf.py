@@ -102,11 +102,11 @@ def reading():
     """Each record with bytes after it into more entries than needed, just enough, and one less; cut at every place."""
     for kind, n, count, record in records():
         for entries in (20, count + 1, count, count - 1):
-            yield "read", (), (record + b"\xaa\xbb\xcc", [77] * entries)
-        yield "read", (), (record, [77] * count)
+            yield "read", (), ([77] * entries, record + b"\xaa\xbb\xcc")
+        yield "read", (), ([77] * count, record)
         for end in range(len(record)):
-            yield "read", (), (record[:end], [77] * count)
-            yield "read", (), (record[:end], [77] * 20)
+            yield "read", (), ([77] * count, record[:end])
+            yield "read", (), ([77] * 20, record[:end])
 
 
 def changed(record, *bytes_at):
@@ -121,13 +121,13 @@ def damaging():
     """Each field wrong by itself and with others after it, in records of each place and width; a width not the least."""
     for kind, n, count, record in records():
         for j in range(2, 12):
-            for v in (0, 1, 2, 3, 4, 128) if j < 6 else (0, 3, 128):
-                yield "read", (), (changed(record + b"\xaa\xaa", (j, v)), [77] * 20)
+            for v in (0, 1, 2, 3, 4, 128) if j < 6 else (0, 128):
+                yield "read", (), ([77] * 20, changed(record + b"\xaa\xaa", (j, v)))
         for wrong in (((2, 0), (3, 0)), ((3, 5), (4, 0), (5, 0)), ((4, 0), (5, 0), (6, 0)), ((2, 3), (6, 200)), ((3, 9), (9, 1))):
-            yield "read", (), (changed(record, *wrong), [77] * 20)
-            yield "read", (), (changed(record, (1, 0x51), *wrong), [77] * 20)
+            yield "read", (), ([77] * 20, changed(record, *wrong))
+            yield "read", (), ([77] * 20, changed(record, (1, 0x51), *wrong))
         for w in (2, 4, 8):
-            yield "read", (), (changed(record, (3, w)) + bytes(8 * count), [77] * 20)
+            yield "read", (), ([77] * 20, changed(record, (3, w)) + bytes(8 * count))
 
 
 def marking():
@@ -137,22 +137,21 @@ def marking():
         for j in (0, 1):
             for v in range(256):
                 if record[j] != v:
-                    yield "read", (), (changed(record[:20], (j, v)), [77] * 3)
+                    yield "read", (), ([77] * 3, changed(record[:20], (j, v)))
 
 
 def storing():
-    """Polynomials, written and read back, with too little room too; and a record that fills the largest buffer."""
+    """Polynomials, written and read back, with too little room too; and long records of three widths."""
     for kind, n in ((1, 105), (2, 105), (1, 385), (1, 1155), (2, 1155), (1, 10465)):
         coeffs = polynomial(kind, n)
         for more in (0, 7, -1):
             size = 10 + len(coeffs) + more
             (code, *_), left = write(kind, n, coeffs, b"\xaa" * size)
             yield "write", (kind, n), (coeffs, b"\xaa" * size)
-            yield "read", (), (left, [77] * (len(coeffs) + 2))
-        yield "read", (), (write(kind, n, coeffs, bytes(size + 1))[1], [77] * (len(coeffs) - 1))
-    for v in (1, -128):
-        yield "write", (1, 65521), ([v] * 65521, b"\xaa" * 65536)
-    yield "write", (1, 8191), ([2**63 - 1] * 8191, b"\xaa" * 65536)
+            yield "read", (), ([77] * (len(coeffs) + 2), left)
+        yield "read", (), ([77] * (len(coeffs) - 1), write(kind, n, coeffs, bytes(size + 1))[1])
+    for n, v in ((8191, 1), (8191, -128), (2039, 2**63 - 1)):
+        yield "write", (1, n), ([v] * n, b"\xaa" * 20000)
 
 
 def cases():

@@ -9,7 +9,7 @@ import shelf
 import steps
 
 PRIME = 144115188075851879  # and (PRIME - 1) / 2 is prime
-SPELLED = {list: 64, bytes: 256}
+FEW = 64  # entries that are spelled out in an answer
 
 
 def polynomial(numbers, lent):
@@ -34,7 +34,7 @@ def write(numbers, coeffs, lent):
     return shelf.write(*numbers, coeffs, lent)
 
 
-def read(numbers, data, lent):
+def read(numbers, lent, data):
     return shelf.read(data, lent)
 
 
@@ -47,8 +47,8 @@ def spelled(buffer):
 
 
 def lent(buffer):
-    """A buffer in a request: as a run where it has more than one entry and all are the same."""
-    if len(buffer) > 1 and buffer.count(buffer[0]) == len(buffer):
+    """A buffer in a request: as a run where all its entries are the same."""
+    if buffer and buffer.count(buffer[0]) == len(buffer):
         return "%d*%d" % (len(buffer), buffer[0])
     return spelled(buffer) or "0*0"
 
@@ -63,7 +63,7 @@ def summed(buffer):
 
 def left(buffer):
     """A buffer in an answer."""
-    return spelled(buffer) if len(buffer) <= SPELLED[type(buffer)] else "#%d" % summed(buffer)
+    return spelled(buffer) if isinstance(buffer, bytes) or len(buffer) <= FEW else "#%d" % summed(buffer)
 
 
 def asked(name, numbers, buffers):

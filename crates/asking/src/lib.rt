@@ -1,16 +1,14 @@
-// An inner crate: what a line of the program `trial` asks, read word by word: numbers, and buffers of entries and of
-// bytes (second/README.md has the form). Little is promised, only that each function is safe and ends: what is made of
-// what was read is printed, and held to a stored output.
+// An inner crate: what a line of the program `trial` asks, read word by word: a name, numbers, and buffers of entries
+// and of bytes (second/README.md has the form). Little is promised, only that each function is safe and ends, and how
+// much of a buffer can be lent: what is made of what was read is printed, and held to a stored output.
 //
 // A reader is told the place of the byte before its word, and tells the place after it. From NOWHERE, which is told
 // where a word is not there, nothing can be read: so whoever reads to the end of a line has read all its words well.
 ghost use Prim.Native.Nat.{_≤_};
-ghost use Rattle.telling.specs.Lends.{Lends};
+ghost use Rattle.asking.specs.Lends.{Lends};
 use std::num::wrapping_add_u64;
 use std::num::wrapping_add_usize;
 use std::num::wrapping_sub_u64;
-use telling::of_bytes;
-use telling::of_entries;
 
 pub const NOWHERE: usize = 18446744073709551615;
 
@@ -20,9 +18,10 @@ pub struct Found {
     pub next: usize,
 }
 
-// Up to four numbers.
+// Up to four numbers, so too, and as what they are from -2^63 on.
 pub struct Row {
     pub bits: [u64; 4],
+    pub signed: [i64; 4],
     pub next: usize,
 }
 
@@ -37,16 +36,19 @@ fn byte_at(line: &[u8], at: usize) -> u8 {
     if at < line.len() { line[at] } else { 10 }
 }
 
-// Whether a line starts with a name.
-pub fn named(line: &[u8], name: &[u8]) -> bool {
+// The name that a line starts with, up to a space: a number in base 32 whose digits are its letters, a as 1. So no two
+// names of up to 12 letters are the same.
+pub fn name(line: &[u8]) -> Found {
+    let mut bits: u64 = 0;
     let mut i = 0;
-    while i < name.len() {
-        if byte_at(line, i) != name[i] {
-            return false;
+    while i < line.len() {
+        if line[i] == b' ' {
+            break;
         }
+        bits = bits % 576460752303423488 * 32 + (line[i] % 32) as u64;
         i += 1;
     }
-    true
+    Found { bits, next: i }
 }
 
 // What a digit counts for, in decimal or hexadecimal; 16 is none.
@@ -58,8 +60,11 @@ fn digit(b: u8) -> u64 {
     }
 }
 
-// The decimal digits that start at a place. More than a u64 holds wrap.
-fn digits(line: &[u8], from: usize) -> Found {
+// The number after a certain byte, which is to stand at the place told. More than a u64 holds wraps.
+fn number(line: &[u8], at: usize, before: u8) -> Found {
+    let first = wrapping_add_usize(at, 1);
+    let minus = byte_at(line, first) == b'-';
+    let from = if minus { wrapping_add_usize(first, 1) } else { first };
     let mut bits: u64 = 0;
     let mut i = from;
     while i < line.len() {
@@ -70,75 +75,72 @@ fn digits(line: &[u8], from: usize) -> Found {
         bits = wrapping_add_u64(bits % 1844674407370955162 * 10, d);
         i += 1;
     }
-    let next = if i == from { NOWHERE } else { i };
-    Found { bits, next }
-}
-
-// The number that stands after a certain byte, which is at the place told.
-fn number(line: &[u8], at: usize, before: u8) -> Found {
-    if byte_at(line, at) != before {
-        return Found {
-            bits: 0,
-            next: NOWHERE,
-        };
-    }
-    let first = wrapping_add_usize(at, 1);
-    if byte_at(line, first) != b'-' {
-        return digits(line, first);
-    }
-    let below = digits(line, wrapping_add_usize(first, 1));
+    let good = i != from && byte_at(line, at) == before;
     Found {
-        bits: wrapping_sub_u64(0, below.bits),
-        next: below.next,
+        bits: if minus { wrapping_sub_u64(0, bits) } else { bits },
+        next: if good { i } else { NOWHERE },
     }
 }
 
-// So many numbers.
-pub fn numbers(line: &[u8], at: usize, count: usize) -> Row
-    requires { ⌜ count ≤ 4 ⌝ }
-{
-    let mut bits = [0u64; 4];
-    let mut next = at;
-    let mut i = 0;
-    while i < count {
-        let v = number(line, next, b' ');
-        bits[i] = v.bits;
-        next = v.next;
-        i += 1;
-    }
-    Row { bits, next }
-}
-
-// The number that a u64 is modulo 2^64, from -2^63 on.
-pub fn signed(bits: u64) -> i64 {
+// The number from -2^63 on that a u64 is modulo 2^64.
+fn signed(bits: u64) -> i64 {
     if bits < 9223372036854775808 {
         return bits as i64;
     }
     !((18446744073709551615 - bits) as i64)
 }
 
-// The first entries, so many, each set to this.
-fn fill(buf: &mut [i64], count: usize, v: i64) {
+// Numbers, as many as have a space after them, and four at most.
+pub fn numbers(line: &[u8], at: usize) -> Row {
+    let mut bits = [0u64; 4];
+    let mut whole = [0i64; 4];
+    let mut next = at;
     let mut i = 0;
-    while i < buf.len() {
-        if i == count {
-            return;
+    while i < 4 {
+        let v = number(line, next, b' ');
+        if byte_at(line, v.next) != b' ' {
+            break;
         }
-        buf[i] = v;
+        bits[i] = v.bits;
+        whole[i] = signed(v.bits);
+        next = v.next;
         i += 1;
+    }
+    Row {
+        bits,
+        signed: whole,
+        next,
     }
 }
 
-// Entries with commas between.
-fn spelled(line: &[u8], at: usize, buf: &mut [i64]) -> Lent
+// How many of a buffer's entries can be lent where so many are asked for.
+fn of_entries(asked: usize, a: &[i64]) -> usize
+    ensures { λ r. ⌜ Lends r (now (a .entry)) ⌝ }
+{
+    if asked <= a.len() { asked } else { a.len() }
+}
+
+// The same of bytes.
+pub fn of_bytes(asked: usize, a: &[u8]) -> usize
+    ensures { λ r. ⌜ Lends r (now (a .entry)) ⌝ }
+{
+    if asked <= a.len() { asked } else { a.len() }
+}
+
+// Entries: a length, a star and what each of them holds; or two or more with commas between.
+pub fn entries(line: &[u8], at: usize, buf: &mut [i64]) -> Lent
     ensures { λ r. ⌜ Lends (r .count) (now (buf .exit)) ⌝ }
 {
-    let mut next = at;
+    let times = number(line, at, b' ');
+    let filling = number(line, times.next, b'*');
+    let run = filling.next != NOWHERE;
+    let most = if run { times.bits as usize } else { NOWHERE };
+    let mut next = if run { filling.next } else { at };
     let mut before = b' ';
     let mut count = 0;
     while count < buf.len() {
-        let v = number(line, next, before);
-        if v.next == NOWHERE {
+        let v = if run { filling } else { number(line, next, before) };
+        if count == most || v.next == NOWHERE {
             break;
         }
         buf[count] = signed(v.bits);
@@ -152,48 +154,28 @@ fn spelled(line: &[u8], at: usize, buf: &mut [i64]) -> Lent
     }
 }
 
-// Entries: a length, a star and what each of them is, or spelled out.
-pub fn entries(line: &[u8], at: usize, buf: &mut [i64]) -> Lent
+// Bytes: a length, a star and what each of them holds; or in hexadecimal after an x, two digits each; or none, where
+// the line ends.
+pub fn bytes(line: &[u8], at: usize, buf: &mut [u8]) -> Lent
     ensures { λ r. ⌜ Lends (r .count) (now (buf .exit)) ⌝ }
 {
-    let count = number(line, at, b' ');
-    let filling = number(line, count.next, b'*');
-    if filling.next == NOWHERE {
-        return spelled(line, at, buf);
-    }
-    fill(buf, count.bits as usize, signed(filling.bits));
-    Lent {
-        count: of_entries(count.bits as usize, buf),
-        next: filling.next,
-    }
-}
-
-fn fill_bytes(buf: &mut [u8], count: usize, v: u8) {
-    let mut i = 0;
-    while i < buf.len() {
-        if i == count {
-            return;
-        }
-        buf[i] = v;
-        i += 1;
-    }
-}
-
-// Bytes in hexadecimal, two digits each.
-fn hex(line: &[u8], from: usize, buf: &mut [u8]) -> Lent
-    ensures { λ r. ⌜ Lends (r .count) (now (buf .exit)) ⌝ }
-{
-    let mut next = from;
+    let times = number(line, at, b' ');
+    let filling = number(line, times.next, b'*');
+    let run = filling.next != NOWHERE;
+    let most = if run { times.bits as usize } else { NOWHERE };
+    let spelled = byte_at(line, wrapping_add_usize(at, 1)) == b'x';
+    let mut next = if run { filling.next } else if spelled { wrapping_add_usize(at, 2) } else { at };
     let mut count = 0;
     while count < buf.len() {
         let high = digit(byte_at(line, next));
         let low = digit(byte_at(line, wrapping_add_usize(next, 1)));
-        if 15 < high || 15 < low {
+        if count == most || (!run && (high == 16 || low == 16)) {
             break;
         }
-        buf[count] = (high % 16 * 16 + low % 16) as u8;
+        let v = if run { filling.bits } else { high % 16 * 16 + low % 16 };
+        buf[count] = (v % 256) as u8;
         count += 1;
-        next = wrapping_add_usize(next, 2);
+        next = if run { next } else { wrapping_add_usize(next, 2) };
     }
     Lent {
         count: of_bytes(count, buf),
@@ -201,19 +183,11 @@ fn hex(line: &[u8], from: usize, buf: &mut [u8]) -> Lent
     }
 }
 
-// Bytes: a length, a star and what each of them is, or spelled out after an x.
-pub fn bytes(line: &[u8], at: usize, buf: &mut [u8]) -> Lent
-    ensures { λ r. ⌜ Lends (r .count) (now (buf .exit)) ⌝ }
-{
-    let first = wrapping_add_usize(at, 1);
-    if byte_at(line, first) == b'x' {
-        return hex(line, wrapping_add_usize(first, 1), buf);
+// A byte put into a line at a place, if it has room there; answers the next place.
+pub fn put(line: &mut [u8], at: usize, b: u8) -> usize {
+    let next = wrapping_add_usize(at, 1);
+    if at < line.len() {
+        line[at] = b;
     }
-    let count = number(line, at, b' ');
-    let filling = number(line, count.next, b'*');
-    fill_bytes(buf, count.bits as usize, (filling.bits % 256) as u8);
-    Lent {
-        count: of_bytes(count.bits as usize, buf),
-        next: filling.next,
-    }
+    next
 }

@@ -1,4 +1,4 @@
--- `asking::numbers` is safe and ends: there are four places, and no more are asked for.
+-- `asking::numbers` is safe and ends: there are four places.
 use Prim.Native.Nat.{_-_, _≤_}
 use mathlib.Core.Path.{_≡_}
 use borrow.Author.Needs.{needs}
@@ -7,10 +7,10 @@ use Rattle.asking.proofs.numbers.Statement.{statement}
 use Rattle.asking.proofs.numbers.Tie as tie
 
 abbrev Inv-loop : tie.InvT-loop
-Inv-loop line at count bits₀ next₀ i₀ bits next i = (i ≤ count) × (length bits ≡ 4)
+Inv-loop line at bits₀ whole₀ next₀ i₀ bits whole next i = (i ≤ 4) × (length bits ≡ 4) × (length whole ≡ 4)
 
 abbrev μ-loop : tie.MeasureT-loop
-μ-loop line at count bits₀ next₀ i₀ bits next i = count - i
+μ-loop line at bits₀ whole₀ next₀ i₀ bits whole next i = 4 - i
 
 loop-holds : tie.Need-loop-holds Inv-loop μ-loop
 loop-holds c = search needs
@@ -18,11 +18,23 @@ loop-holds c = search needs
 number-requires : tie.Need-number-requires Inv-loop μ-loop
 number-requires c κs = search needs
 
+byte-at-requires : tie.Need-byte-at-requires Inv-loop μ-loop
+byte-at-requires c κs = search needs
+
 mul-bits : tie.Need-mul-bits Inv-loop μ-loop
 mul-bits c = search needs
 
 array-write-bits : tie.Need-array-write-bits Inv-loop μ-loop
 array-write-bits c = search needs
+
+signed-requires : tie.Need-signed-requires Inv-loop μ-loop
+signed-requires c κs = search needs
+
+mul-whole : tie.Need-mul-whole Inv-loop μ-loop
+mul-whole c = search needs
+
+array-set-from-whole : tie.Need-array-set-from-whole Inv-loop μ-loop
+array-set-from-whole c = search needs
 
 add-i : tie.Need-add-i Inv-loop μ-loop
 add-i c = search needs
@@ -36,6 +48,9 @@ loop-again c = search needs
 returns : tie.Need-returns Inv-loop μ-loop
 returns c = search needs
 
+returns-2 : tie.Need-returns-2 Inv-loop μ-loop
+returns-2 c = search needs
+
 pub numbers-spec : {M : Type 1} → statement M
 numbers-spec =
     tie.close
@@ -44,9 +59,14 @@ numbers-spec =
     μ-loop
     loop-holds
     number-requires
+    byte-at-requires
     mul-bits
     array-write-bits
+    signed-requires
+    mul-whole
+    array-set-from-whole
     add-i
     loop-less
     loop-again
-    returns)
+    returns
+    returns-2)

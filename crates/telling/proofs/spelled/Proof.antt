@@ -1,19 +1,21 @@
--- `telling::spelled` is safe and ends: the place stays within the slice, and the buffer keeps its length.
+-- `telling::spelled` is safe and ends: the place stays within the slice.
 use Prim.Native.Nat.{_-_, _≤_}
-use mathlib.Core.Path.{_≡_}
 use borrow.Author.Needs.{needs}
 use lib.ListN.{length}
 use Rattle.telling.proofs.spelled.Statement.{statement}
 use Rattle.telling.proofs.spelled.Tie as tie
 
 abbrev Inv-loop : tie.InvT-loop
-Inv-loop out₀ at a next₀ before₀ i₀ out next before i = (i ≤ length a) × (length out ≡ length out₀)
+Inv-loop a i₀ t3 t4 i = i ≤ length a
 
 abbrev μ-loop : tie.MeasureT-loop
-μ-loop out₀ at a next₀ before₀ i₀ out next before i = length a - i
+μ-loop a i₀ t3 t4 i = length a - i
 
 loop-holds : tie.Need-loop-holds Inv-loop μ-loop
 loop-holds c = search needs
+
+slice-aggregate-signed : tie.Need-slice-aggregate-signed Inv-loop μ-loop
+slice-aggregate-signed c = search needs
 
 mul-signed : tie.Need-mul-signed Inv-loop μ-loop
 mul-signed c = search needs
@@ -24,6 +26,18 @@ shared-slice-copy-out-signed c = search needs
 signed-requires : tie.Need-signed-requires Inv-loop μ-loop
 signed-requires c κs = search needs
 
+slice-aggregate-signed-2 : tie.Need-slice-aggregate-signed-2 Inv-loop μ-loop
+slice-aggregate-signed-2 c = search needs
+
+mul-signed-2 : tie.Need-mul-signed-2 Inv-loop μ-loop
+mul-signed-2 c = search needs
+
+shared-slice-copy-out-signed-2 : tie.Need-shared-slice-copy-out-signed-2 Inv-loop μ-loop
+shared-slice-copy-out-signed-2 c = search needs
+
+signed-requires-2 : tie.Need-signed-requires-2 Inv-loop μ-loop
+signed-requires-2 c κs = search needs
+
 add-i : tie.Need-add-i Inv-loop μ-loop
 add-i c = search needs
 
@@ -32,9 +46,6 @@ loop-less c = search needs
 
 loop-again : tie.Need-loop-again Inv-loop μ-loop
 loop-again c = search needs
-
-same-length : tie.Need-same-length Inv-loop μ-loop
-same-length c = search needs
 
 returns : tie.Need-returns Inv-loop μ-loop
 returns c = search needs
@@ -46,11 +57,15 @@ spelled-spec =
     Inv-loop
     μ-loop
     loop-holds
+    slice-aggregate-signed
     mul-signed
     shared-slice-copy-out-signed
     signed-requires
+    slice-aggregate-signed-2
+    mul-signed-2
+    shared-slice-copy-out-signed-2
+    signed-requires-2
     add-i
     loop-less
     loop-again
-    same-length
     returns)

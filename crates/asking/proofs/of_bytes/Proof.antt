@@ -1,8 +1,8 @@
--- `telling::of_bytes` meets its contract: so many first bytes, where there are so many, are so many.
+-- `asking::of_bytes` meets its contract: so many first bytes, where there are so many, are so many.
 use native.Mathlib.Omega.{arith}
 use lib.ListN.{length-take}
-use Rattle.telling.proofs.of_bytes.Statement.{statement}
-use Rattle.telling.proofs.of_bytes.Tie as tie
+use Rattle.asking.proofs.of_bytes.Statement.{statement}
+use Rattle.asking.proofs.of_bytes.Tie as tie
 
 returns : tie.Need-returns
 returns c = (omega arith, rw length-take (omega arith))

@@ -1,15 +1,24 @@
--- `asking::digits` is safe and ends: it reads on to the end of the line at most.
+-- `asking::number` is safe and ends: it reads on to the end of the line at most.
 use Prim.Native.Nat.{_-_, _≤_}
 use borrow.Author.Needs.{needs}
 use lib.ListN.{length}
-use Rattle.asking.proofs.digits.Statement.{statement}
-use Rattle.asking.proofs.digits.Tie as tie
+use Rattle.asking.proofs.number.Statement.{statement}
+use Rattle.asking.proofs.number.Tie as tie
 
 abbrev Inv-loop : tie.InvT-loop
-Inv-loop line from bits₀ i₀ bits i = from ≤ i
+Inv-loop line at before first minus from bits₀ i₀ bits i = from ≤ i
 
 abbrev μ-loop : tie.MeasureT-loop
-μ-loop line from bits₀ i₀ bits i = length line - i
+μ-loop line at before first minus from bits₀ i₀ bits i = length line - i
+
+wrapping-add-usize-requires : tie.Need-wrapping-add-usize-requires Inv-loop μ-loop
+wrapping-add-usize-requires c κs = search needs
+
+byte-at-requires : tie.Need-byte-at-requires Inv-loop μ-loop
+byte-at-requires c κs = search needs
+
+wrapping-add-usize-requires-2 : tie.Need-wrapping-add-usize-requires-2 Inv-loop μ-loop
+wrapping-add-usize-requires-2 c κs = search needs
 
 loop-holds : tie.Need-loop-holds Inv-loop μ-loop
 loop-holds c = search needs
@@ -35,18 +44,27 @@ loop-less c = search needs
 loop-again : tie.Need-loop-again Inv-loop μ-loop
 loop-again c = search needs
 
+byte-at-requires-2 : tie.Need-byte-at-requires-2 Inv-loop μ-loop
+byte-at-requires-2 c κs = search needs
+
+wrapping-sub-u64-requires : tie.Need-wrapping-sub-u64-requires Inv-loop μ-loop
+wrapping-sub-u64-requires c κs = search needs
+
 returns : tie.Need-returns Inv-loop μ-loop
 returns c = search needs
 
 returns-2 : tie.Need-returns-2 Inv-loop μ-loop
 returns-2 c = search needs
 
-pub digits-spec : {M : Type 1} → statement M
-digits-spec =
+pub number-spec : {M : Type 1} → statement M
+number-spec =
     tie.close
     (tie.spec
     Inv-loop
     μ-loop
+    wrapping-add-usize-requires
+    byte-at-requires
+    wrapping-add-usize-requires-2
     loop-holds
     shared-slice-read-digit
     digit-requires
@@ -55,5 +73,7 @@ digits-spec =
     add-i
     loop-less
     loop-again
+    byte-at-requires-2
+    wrapping-sub-u64-requires
     returns
     returns-2)

@@ -1,28 +1,34 @@
--- `asking::spelled` is safe and ends: the buffer keeps its length, and the place stays within it.
+-- `asking::entries` is safe and ends: the buffer keeps its length, and the place stays within it.
 use Prim.Native.Nat.{_-_, _≤_}
 use mathlib.Core.Path.{_≡_}
 use borrow.Author.Needs.{needs}
 use lib.ListN.{length}
-use Rattle.asking.proofs.spelled.Statement.{statement}
-use Rattle.asking.proofs.spelled.Tie as tie
+use Rattle.asking.proofs.entries.Statement.{statement}
+use Rattle.asking.proofs.entries.Tie as tie
 
 abbrev Inv-loop : tie.InvT-loop
-Inv-loop line at buf₀ next₀ before₀ count₀ buf next before count = (count ≤ length buf₀) × (length buf ≡ length buf₀)
+Inv-loop line at buf₀ filling run most next₀ before₀ count₀ buf next before count = (count ≤ length buf₀) × (length buf ≡ length buf₀)
 
 abbrev μ-loop : tie.MeasureT-loop
-μ-loop line at buf₀ next₀ before₀ count₀ buf next before count = length buf₀ - count
-
-loop-holds : tie.Need-loop-holds Inv-loop μ-loop
-loop-holds c = search needs
+μ-loop line at buf₀ filling run most next₀ before₀ count₀ buf next before count = length buf₀ - count
 
 number-requires : tie.Need-number-requires Inv-loop μ-loop
 number-requires c κs = search needs
 
+number-requires-2 : tie.Need-number-requires-2 Inv-loop μ-loop
+number-requires-2 c κs = search needs
+
+loop-holds : tie.Need-loop-holds Inv-loop μ-loop
+loop-holds c = search needs
+
+number-requires-3 : tie.Need-number-requires-3 Inv-loop μ-loop
+number-requires-3 c κs = search needs
+
 signed-requires : tie.Need-signed-requires Inv-loop μ-loop
 signed-requires c κs = search needs
 
-mul-t8 : tie.Need-mul-t8 Inv-loop μ-loop
-mul-t8 c = search needs
+mul-t15 : tie.Need-mul-t15 Inv-loop μ-loop
+mul-t15 c = search needs
 
 slice-set-from-buf : tie.Need-slice-set-from-buf Inv-loop μ-loop
 slice-set-from-buf c = search needs
@@ -45,16 +51,18 @@ same-length c = search needs
 returns : tie.Need-returns Inv-loop μ-loop
 returns c = search needs
 
-pub spelled-spec : {M : Type 1} → statement M
-spelled-spec =
+pub entries-spec : {M : Type 1} → statement M
+entries-spec =
     tie.close
     (tie.spec
     Inv-loop
     μ-loop
-    loop-holds
     number-requires
+    number-requires-2
+    loop-holds
+    number-requires-3
     signed-requires
-    mul-t8
+    mul-t15
     slice-set-from-buf
     add-count
     loop-less
