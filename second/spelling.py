@@ -47,8 +47,8 @@ def spelled(buffer):
 
 
 def lent(buffer):
-    """A buffer in a request: as a run where all its entries are the same."""
-    if buffer and buffer.count(buffer[0]) == len(buffer):
+    """A buffer in a request: entries as a run where all are the same."""
+    if isinstance(buffer, list) and buffer and buffer.count(buffer[0]) == len(buffer):
         return "%d*%d" % (len(buffer), buffer[0])
     return spelled(buffer) or "0*0"
 

@@ -51,20 +51,23 @@ pub fn name(line: &[u8]) -> Found {
     Found { bits, next: i }
 }
 
-// What a digit counts for, in decimal or hexadecimal; 16 is none.
-fn digit(b: u8) -> u64 {
+// What a digit counts for, in decimal or hexadecimal; 256 is none.
+fn digit(b: u8) -> u64
+    ensures { λ r. ⌜ r ≤ 256 ⌝ }
+{
     match b {
         48..=57 => (b - 48) as u64,
         97..=102 => (b - 87) as u64,
-        _ => 16,
+        _ => 256,
     }
 }
 
 // The number after a certain byte, which is to stand at the place told. More than a u64 holds wraps.
 fn number(line: &[u8], at: usize, before: u8) -> Found {
     let first = wrapping_add_usize(at, 1);
+    let second = wrapping_add_usize(at, 2);
     let minus = byte_at(line, first) == b'-';
-    let from = if minus { wrapping_add_usize(first, 1) } else { first };
+    let from = if minus { second } else { first };
     let mut bits: u64 = 0;
     let mut i = from;
     while i < line.len() {
@@ -154,28 +157,23 @@ pub fn entries(line: &[u8], at: usize, buf: &mut [i64]) -> Lent
     }
 }
 
-// Bytes: a length, a star and what each of them holds; or in hexadecimal after an x, two digits each; or none, where
-// the line ends.
+// Bytes: in hexadecimal after an x, two digits each; or none, where the line ends.
 pub fn bytes(line: &[u8], at: usize, buf: &mut [u8]) -> Lent
     ensures { λ r. ⌜ Lends (r .count) (now (buf .exit)) ⌝ }
 {
-    let times = number(line, at, b' ');
-    let filling = number(line, times.next, b'*');
-    let run = filling.next != NOWHERE;
-    let most = if run { times.bits as usize } else { NOWHERE };
-    let spelled = byte_at(line, wrapping_add_usize(at, 1)) == b'x';
-    let mut next = if run { filling.next } else if spelled { wrapping_add_usize(at, 2) } else { at };
+    let first = wrapping_add_usize(at, 2);
+    let mut next = if byte_at(line, wrapping_add_usize(at, 1)) == b'x' { first } else { at };
     let mut count = 0;
     while count < buf.len() {
         let high = digit(byte_at(line, next));
         let low = digit(byte_at(line, wrapping_add_usize(next, 1)));
-        if count == most || (!run && (high == 16 || low == 16)) {
+        let v = high * 16 + low;
+        if 255 < v {
             break;
         }
-        let v = if run { filling.bits } else { high % 16 * 16 + low % 16 };
-        buf[count] = (v % 256) as u8;
+        buf[count] = v as u8;
         count += 1;
-        next = if run { next } else { wrapping_add_usize(next, 2) };
+        next = wrapping_add_usize(next, 2);
     }
     Lent {
         count: of_bytes(count, buf),

@@ -1,5 +1,6 @@
 -- `asking::name` is safe and ends: the place stays within the line.
 use Prim.Native.Nat.{_-_, _≤_}
+use native.Mathlib.Omega.{arith}
 use borrow.Author.Needs.{needs}
 use lib.ListN.{length}
 use Rattle.asking.proofs.name.Statement.{statement}
@@ -12,31 +13,31 @@ abbrev μ-loop : tie.MeasureT-loop
 μ-loop line bits₀ i₀ bits i = length line - i
 
 loop-holds : tie.Need-loop-holds Inv-loop μ-loop
-loop-holds c = search needs
+loop-holds c = omega arith
 
 shared-slice-read-if1 : tie.Need-shared-slice-read-if1 Inv-loop μ-loop
-shared-slice-read-if1 c = search needs
+shared-slice-read-if1 c = omega arith
 
 mul-bits : tie.Need-mul-bits Inv-loop μ-loop
-mul-bits c = search needs
+mul-bits c = omega arith
 
 shared-slice-read-bits : tie.Need-shared-slice-read-bits Inv-loop μ-loop
-shared-slice-read-bits c = search needs
+shared-slice-read-bits c = omega arith
 
 cast-bits : tie.Need-cast-bits Inv-loop μ-loop
-cast-bits c = search needs
+cast-bits c = omega arith
 
 add-bits : tie.Need-add-bits Inv-loop μ-loop
-add-bits c = search needs
+add-bits c = omega arith
 
 add-i : tie.Need-add-i Inv-loop μ-loop
-add-i c = search needs
+add-i c = omega arith
 
 loop-less : tie.Need-loop-less Inv-loop μ-loop
-loop-less c = search needs
+loop-less c = omega arith
 
 loop-again : tie.Need-loop-again Inv-loop μ-loop
-loop-again c = search needs
+loop-again c = omega arith
 
 returns : tie.Need-returns Inv-loop μ-loop
 returns c = search needs

@@ -1,6 +1,7 @@
 -- `asking::numbers` is safe and ends: there are four places.
 use Prim.Native.Nat.{_-_, _≤_}
 use mathlib.Core.Path.{_≡_}
+use native.Mathlib.Omega.{arith}
 use borrow.Author.Needs.{needs}
 use lib.ListN.{length}
 use Rattle.asking.proofs.numbers.Statement.{statement}
@@ -13,34 +14,34 @@ abbrev μ-loop : tie.MeasureT-loop
 μ-loop line at bits₀ whole₀ next₀ i₀ bits whole next i = 4 - i
 
 loop-holds : tie.Need-loop-holds Inv-loop μ-loop
-loop-holds c = search needs
+loop-holds c = omega arith
 
 number-requires : tie.Need-number-requires Inv-loop μ-loop
-number-requires c κs = search needs
+number-requires c κs = tt
 
 byte-at-requires : tie.Need-byte-at-requires Inv-loop μ-loop
-byte-at-requires c κs = search needs
+byte-at-requires c κs = tt
 
 mul-bits : tie.Need-mul-bits Inv-loop μ-loop
-mul-bits c = search needs
+mul-bits c = omega arith
 
 array-write-bits : tie.Need-array-write-bits Inv-loop μ-loop
-array-write-bits c = search needs
+array-write-bits c = omega arith
 
 signed-requires : tie.Need-signed-requires Inv-loop μ-loop
-signed-requires c κs = search needs
+signed-requires c κs = tt
 
 mul-whole : tie.Need-mul-whole Inv-loop μ-loop
-mul-whole c = search needs
+mul-whole c = omega arith
 
 array-set-from-whole : tie.Need-array-set-from-whole Inv-loop μ-loop
-array-set-from-whole c = search needs
+array-set-from-whole c = omega arith
 
 add-i : tie.Need-add-i Inv-loop μ-loop
-add-i c = search needs
+add-i c = omega arith
 
 loop-less : tie.Need-loop-less Inv-loop μ-loop
-loop-less c = search needs
+loop-less c = omega arith
 
 loop-again : tie.Need-loop-again Inv-loop μ-loop
 loop-again c = search needs

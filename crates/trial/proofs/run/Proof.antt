@@ -14,10 +14,10 @@ abbrev μ-loop : tie.MeasureT-loop
 μ-loop chunk₀ line₀ buf₀ space₀ held₀ more₀ turns₀ chunk line buf space held more turns = turns
 
 loop-holds : tie.Need-loop-holds Inv-loop μ-loop
-loop-holds c = search needs
+loop-holds c = omega arith
 
 read-some-requires : tie.Need-read-some-requires Inv-loop μ-loop
-read-some-requires c κs = search needs
+read-some-requires c κs = tt
 
 slice-reshare-prefix-take-all : tie.Need-slice-reshare-prefix-take-all Inv-loop μ-loop
 slice-reshare-prefix-take-all c = search needs
@@ -26,7 +26,7 @@ slice-aggregate-take-all : tie.Need-slice-aggregate-take-all Inv-loop μ-loop
 slice-aggregate-take-all c = search needs
 
 take-all-requires : tie.Need-take-all-requires Inv-loop μ-loop
-take-all-requires c κs = search needs
+take-all-requires c κs = tt
 
 sub-turns : tie.Need-sub-turns Inv-loop μ-loop
 sub-turns c = omega (arith, ltb-true)
@@ -35,7 +35,7 @@ loop-less : tie.Need-loop-less Inv-loop μ-loop
 loop-less c = omega (arith, ltb-true)
 
 loop-again : tie.Need-loop-again Inv-loop μ-loop
-loop-again c = search needs
+loop-again c = omega arith
 
 same-length : tie.Need-same-length Inv-loop μ-loop
 same-length c = search needs
@@ -50,7 +50,7 @@ same-length-4 : tie.Need-same-length-4 Inv-loop μ-loop
 same-length-4 c = search needs
 
 returns : tie.Need-returns Inv-loop μ-loop
-returns c = search needs
+returns c = tt
 
 same-length-5 : tie.Need-same-length-5 Inv-loop μ-loop
 same-length-5 c = search needs
@@ -65,7 +65,7 @@ same-length-8 : tie.Need-same-length-8 Inv-loop μ-loop
 same-length-8 c = search needs
 
 returns-2 : tie.Need-returns-2 Inv-loop μ-loop
-returns-2 c = search needs
+returns-2 c = tt
 
 pub run-spec : {M : Type 1} → statement M
 run-spec =
