@@ -80,7 +80,11 @@ fn number(line: &[u8], at: usize, before: u8) -> Found {
     }
     let good = i != from && byte_at(line, at) == before;
     Found {
-        bits: if minus { wrapping_sub_u64(0, bits) } else { bits },
+        bits: if minus {
+            wrapping_sub_u64(0, bits)
+        } else {
+            bits
+        },
         next: if good { i } else { NOWHERE },
     }
 }
@@ -142,7 +146,11 @@ pub fn entries(line: &[u8], at: usize, buf: &mut [i64]) -> Lent
     let mut before = b' ';
     let mut count = 0;
     while count < buf.len() {
-        let v = if run { filling } else { number(line, next, before) };
+        let v = if run {
+            filling
+        } else {
+            number(line, next, before)
+        };
         if count == most || v.next == NOWHERE {
             break;
         }
@@ -162,7 +170,11 @@ pub fn bytes(line: &[u8], at: usize, buf: &mut [u8]) -> Lent
     ensures { λ r. ⌜ Lends (r .count) (now (buf .exit)) ⌝ }
 {
     let first = wrapping_add_usize(at, 2);
-    let mut next = if byte_at(line, wrapping_add_usize(at, 1)) == b'x' { first } else { at };
+    let mut next = if byte_at(line, wrapping_add_usize(at, 1)) == b'x' {
+        first
+    } else {
+        at
+    };
     let mut count = 0;
     while count < buf.len() {
         let high = digit(byte_at(line, next));

@@ -108,7 +108,13 @@ fn take(b: u8, held: usize, line: &mut [u8], buf: &mut [i64], space: &mut [u8]) 
 }
 
 // A piece of the input.
-fn take_all(piece: &[u8], begun: usize, line: &mut [u8], buf: &mut [i64], space: &mut [u8]) -> usize {
+fn take_all(
+    piece: &[u8],
+    begun: usize,
+    line: &mut [u8],
+    buf: &mut [i64],
+    space: &mut [u8],
+) -> usize {
     let mut held = begun;
     let mut i = 0;
     while i < piece.len() {
