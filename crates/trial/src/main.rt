@@ -19,42 +19,33 @@ const WRITE: u64 = 24716933;
 
 const READ: u64 = 594980;
 
-fn polynomial(asked: Row, entries: &mut [i64]) {
-    let v = asked.bits;
-    let s = asked.signed;
-    let a = bonvedrick::bv_polynomial(v[0], v[1], s[2], s[3], entries);
+fn polynomial(kind: u64, n: u64, h: i64, w: i64, entries: &mut [i64]) {
+    let a = bonvedrick::bv_polynomial(kind, n, h, w, entries);
     telling::numbers(&[a.code, a.degree, a.additions, a.height, a.peak]);
     telling::signed(b" ", a.gain);
     telling::entries(entries);
 }
 
-fn partial(asked: Row, entries: &mut [i64]) {
-    let v = asked.bits;
-    let s = asked.signed;
-    let a = bonvedrick::bv_partial(v[0], v[1], v[2], s[3], entries);
+fn partial(kind: u64, n: u64, j: u64, w: i64, entries: &mut [i64]) {
+    let a = bonvedrick::bv_partial(kind, n, j, w, entries);
     telling::numbers(&[a.code, a.degree, a.additions, a.due]);
     telling::entries(entries);
 }
 
-fn comb(asked: Row, entries: &mut [i64]) {
-    let v = asked.bits;
-    let s = asked.signed;
-    let a = bonvedrick::bv_comb(v[0], s[1], entries);
+fn comb(size: u64, w: i64, entries: &mut [i64]) {
+    let a = bonvedrick::bv_comb(size, w, entries);
     telling::numbers(&[a.code, a.count]);
     telling::entries(entries);
 }
 
-fn accumulate(asked: Row, entries: &mut [i64]) {
-    let v = asked.bits;
-    let s = asked.signed;
-    let a = bonvedrick::bv_accumulate(v[0], s[1], entries);
+fn accumulate(size: u64, w: i64, entries: &mut [i64]) {
+    let a = bonvedrick::bv_accumulate(size, w, entries);
     telling::numbers(&[a.code, a.count]);
     telling::entries(entries);
 }
 
-fn write(asked: Row, entries: &[i64], bytes: &mut [u8]) {
-    let v = asked.bits;
-    let a = bonvedrick::bv_write(v[0], v[1], entries, bytes);
+fn write(kind: u64, n: u64, entries: &[i64], bytes: &mut [u8]) {
+    let a = bonvedrick::bv_write(kind, n, entries, bytes);
     telling::numbers(&[a.code, a.degree, a.used, a.byte]);
     telling::bytes(bytes);
 }
@@ -67,12 +58,14 @@ fn read(entries: &mut [i64], bytes: &[u8]) {
 
 // A request by its name.
 fn ask(name: u64, asked: Row, entries: &mut [i64], bytes: &mut [u8]) {
+    let v = asked.bits;
+    let s = asked.signed;
     match name {
-        POLYNOMIAL => polynomial(asked, entries),
-        PARTIAL => partial(asked, entries),
-        COMB => comb(asked, entries),
-        ACCUMULATE => accumulate(asked, entries),
-        WRITE => write(asked, entries, bytes),
+        POLYNOMIAL => polynomial(v[0], v[1], s[2], s[3], entries),
+        PARTIAL => partial(v[0], v[1], v[2], s[3], entries),
+        COMB => comb(v[0], s[1], entries),
+        ACCUMULATE => accumulate(v[0], s[1], entries),
+        WRITE => write(v[0], v[1], entries, bytes),
         READ => read(entries, bytes),
         _ => {
             io::write_all(STDOUT_FILENO, b"?\n");
