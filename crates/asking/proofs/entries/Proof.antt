@@ -8,7 +8,8 @@ use Rattle.asking.proofs.entries.Statement.{statement}
 use Rattle.asking.proofs.entries.Tie as tie
 
 abbrev Inv-loop : tie.InvT-loop
-Inv-loop line at buf₀ filling run most next₀ before₀ count₀ buf next before count = (count ≤ length buf₀) × (length buf ≡ length buf₀)
+Inv-loop line at buf₀ filling run most next₀ before₀ count₀ buf next before count =
+    (count ≤ length buf₀) × (length buf ≡ length buf₀)
 
 abbrev μ-loop : tie.MeasureT-loop
 μ-loop line at buf₀ filling run most next₀ before₀ count₀ buf next before count = length buf₀ - count

@@ -8,7 +8,8 @@ use Rattle.trial.proofs.take_all.Statement.{statement}
 use Rattle.trial.proofs.take_all.Tie as tie
 
 abbrev Inv-loop : tie.InvT-loop
-Inv-loop piece begun line₀ buf₀ space₀ held₀ i₀ line buf space held i = (i ≤ length piece) × (length line ≡ length line₀) × (length buf ≡ length buf₀) × (length space ≡ length space₀)
+Inv-loop piece begun line₀ buf₀ space₀ held₀ i₀ line buf space held i =
+    (i ≤ length piece) × (length line ≡ length line₀) × (length buf ≡ length buf₀) × (length space ≡ length space₀)
 
 abbrev μ-loop : tie.MeasureT-loop
 μ-loop piece begun line₀ buf₀ space₀ held₀ i₀ line buf space held i = length piece - i
