@@ -9,7 +9,8 @@ use Rattle.trial.proofs.run.Tie as tie
 
 abbrev Inv-loop : tie.InvT-loop
 Inv-loop chunk₀ line₀ buf₀ space₀ held₀ more₀ turns₀ chunk line buf space held more turns =
-    (length chunk ≡ length chunk₀) × (length line ≡ length line₀) × (length buf ≡ length buf₀) × (length space ≡ length space₀)
+    (length chunk ≡ length chunk₀)
+    × (length line ≡ length line₀) × (length buf ≡ length buf₀) × (length space ≡ length space₀)
 
 abbrev μ-loop : tie.MeasureT-loop
 μ-loop chunk₀ line₀ buf₀ space₀ held₀ more₀ turns₀ chunk line buf space held more turns = turns
