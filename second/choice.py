@@ -1,10 +1,11 @@
-"""Which requests the trials make. The Rattle programs ask for the same ones, and print what they asked."""
+"""Which indices the trial asks for."""
 
 from whole import primes
 
 MOST = 65535
 ALL_TO = 400
 LARGEST_LIMIT = 2**63 - 1
+FILLING = 4 * 10**18  # what lent entries hold: no coefficient is as large
 
 
 def odd_primes(n):
@@ -53,7 +54,7 @@ def choice():
 
 
 def table():
-    """The indices of the table trial, in its order."""
+    """The indices of the table, in its order."""
     return list(range(1, ALL_TO + 1)) + choice()
 
 

@@ -1,0 +1,45 @@
+"""Every request of the trial, each said once: (name, numbers, buffers), in the order of crates/trial/stdin."""
+
+import choice
+import over
+import refusals
+import shelf
+import steps
+from choice import FILLING, LARGEST_LIMIT
+from kept import degree
+from whole import divisors_below
+
+
+def lent(room):
+    """Entries to be lent, all different where they are few."""
+    return [FILLING + i for i in range(room)] if room <= 64 else [FILLING] * room
+
+
+def edges():
+    """The requests at the edges of the rules."""
+    for *numbers, room in refusals.POLYNOMIALS:
+        yield "polynomial", numbers, (lent(room),)
+    for *numbers, room in refusals.PARTIALS:
+        yield "partial", numbers, (lent(room),)
+
+
+def table():
+    """Both kinds of each index, in a few entries more than needed, and of some in all that can be lent."""
+    for place, n in enumerate(choice.table()):
+        for kind in (1, 2):
+            rooms = [degree(kind, n) + 4] + [65536] * (place % 25 == 0)
+            for room in rooms:
+                yield "polynomial", (kind, n, LARGEST_LIMIT, LARGEST_LIMIT), ([FILLING] * room,)
+
+
+def stops():
+    """Every stop, and one more, which is refused."""
+    for r in choice.PARTIAL_ORDERS:
+        for kind in (1, 2):
+            for j in range(len(divisors_below(r)) + 2):
+                yield "partial", (kind, r, j, LARGEST_LIMIT), ([FILLING] * refusals.ROOM,)
+
+
+def cases():
+    for some in (edges, steps.cases, shelf.cases, stops, over.cases, table):
+        yield from some()
