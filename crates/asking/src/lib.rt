@@ -5,7 +5,9 @@
 // A reader is told the place of the byte before its word, and tells the place after it. From NOWHERE, which is told
 // where a word is not there, nothing can be read: so whoever reads to the end of a line has read all its words well.
 ghost use Prim.Native.Nat.{_≤_};
+ghost use lib.ListN.{length};
 ghost use Rattle.asking.specs.Lends.{Lends};
+use digits::byte_at;
 use std::num::wrapping_add_u64;
 use std::num::wrapping_add_usize;
 use std::num::wrapping_sub_u64;
@@ -29,11 +31,6 @@ pub struct Row {
 pub struct Lent {
     pub count: usize,
     pub next: usize,
-}
-
-// The byte at a place, and past the end a newline, which no line holds.
-fn byte_at(line: &[u8], at: usize) -> u8 {
-    if at < line.len() { line[at] } else { 10 }
 }
 
 // The name that a line starts with, up to a space: a number in base 32 whose digits are its letters, a as 1. So no two
@@ -128,19 +125,20 @@ fn of_entries(asked: usize, a: &[i64]) -> usize
 }
 
 // The same of bytes.
-pub fn of_bytes(asked: usize, a: &[u8]) -> usize
+fn of_bytes(asked: usize, a: &[u8]) -> usize
     ensures { λ r. ⌜ Lends r (now (a .entry)) ⌝ }
 {
     if asked <= a.len() { asked } else { a.len() }
 }
 
-// Entries: a length, a star and what each of them holds; or two or more with commas between.
+// Entries: a length, a star and what each of them holds; or two or more with commas between. More than there are is not
+// cut but no good word.
 pub fn entries(line: &[u8], at: usize, buf: &mut [i64]) -> Lent
     ensures { λ r. ⌜ Lends (r .count) (now (buf .exit)) ⌝ }
 {
     let times = number(line, at, b' ');
     let filling = number(line, times.next, b'*');
-    let run = filling.next != NOWHERE;
+    let run = filling.next != NOWHERE && times.bits <= buf.len() as u64;
     let most = if run { times.bits as usize } else { NOWHERE };
     let mut next = if run { filling.next } else { at };
     let mut before = b' ';
@@ -193,11 +191,17 @@ pub fn bytes(line: &[u8], at: usize, buf: &mut [u8]) -> Lent
     }
 }
 
-// A byte put into a line at a place, if it has room there; answers the next place.
-pub fn put(line: &mut [u8], at: usize, b: u8) -> usize {
-    let next = wrapping_add_usize(at, 1);
-    if at < line.len() {
-        line[at] = b;
+// Where the line that begins at a place ends: at its newline, or at the end.
+pub fn line_end(input: &[u8], from: usize) -> usize
+    requires { ⌜ from ≤ length (now input) ⌝ }
+    ensures { λ r. ⌜ (from ≤ r) × (r ≤ length (now (input .entry))) ⌝ }
+{
+    let mut i = from;
+    while i < input.len() {
+        if input[i] == b'\n' {
+            return i;
+        }
+        i += 1;
     }
-    next
+    i
 }

@@ -29,8 +29,8 @@ number-requires-3 c κs = tt
 signed-requires : tie.Need-signed-requires Inv-loop μ-loop
 signed-requires c κs = tt
 
-mul-t15 : tie.Need-mul-t15 Inv-loop μ-loop
-mul-t15 c = omega arith
+mul-t18 : tie.Need-mul-t18 Inv-loop μ-loop
+mul-t18 c = omega arith
 
 slice-set-from-buf : tie.Need-slice-set-from-buf Inv-loop μ-loop
 slice-set-from-buf c = omega arith
@@ -64,7 +64,7 @@ entries-spec =
     loop-holds
     number-requires-3
     signed-requires
-    mul-t15
+    mul-t18
     slice-set-from-buf
     add-count
     loop-less
