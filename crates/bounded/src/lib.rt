@@ -1,7 +1,7 @@
 // Inner: nothing here is offered to callers; the `requires` is shown by `outlines` and `steps`. One step under a
 // working limit w, on entries whose magnitudes are bounded: where none can pass w it needs no test, and where all can
 // be added and taken away it needs that of w alone.
-use accumulates::accumulate;
+use accumulates::accumulate_or_undo;
 use combs::comb;
 use combs::comb_or_undo;
 use heights::larger;
@@ -9,7 +9,7 @@ use heights::magnitude;
 use heights::smaller;
 use passes::ADDABLE;
 use passes::Sort;
-use tested_accumulates::accumulate_or_undo;
+use passes::Test;
 ghost use Prim.Native.Nat.{ℕ, _+_, _*_, _≤_, _<_};
 ghost use mathlib.Core.Path.{_≡_};
 ghost use mathlib.Core.Bool.{true, false};
@@ -18,7 +18,8 @@ ghost use Rattle.definitions.specs.Steps.{entries, largest, stepOver, stepList}
 ghost use Rattle.step_laws.specs.Bound.{Bounded, growth};
 ghost use Rattle.step_laws.specs.WorkingLimit.{Workable};
 ghost use Rattle.passes.specs.Sorts.{sortMeans};
-ghost use Rattle.passes.specs.Passes.{addable, Narrow, SteppedOrUndone};
+ghost use Rattle.passes.specs.Asked.{AskedOfStep};
+ghost use Rattle.passes.specs.Passes.{addable, SteppedOrUndone};
 ghost use Rattle.bounded.specs.Outcome.{StepOutcomeIs};
 
 // The outcome of one step: a value that passes the working limit, or the bound of the magnitudes after it.
@@ -30,6 +31,9 @@ pub struct StepOutcome {
 // 2^47: up to here a look is not worth its time. A step on up to 2^15 entries stays within the largest limit, and under
 // a smaller one the entries' own magnitudes are mostly no better.
 const LARGE: u64 = 140737488355328;
+
+// 2^63 - 1, the largest working limit: what no value passes leaves no i64.
+const LARGEST: u64 = 9223372036854775807;
 
 // How often a step of size d can add the largest magnitude of n entries to itself.
 pub fn times_added(sort: Sort, d: u64, n: u64) -> u64
@@ -60,18 +64,20 @@ fn untested_step(sort: Sort, a: &mut [i64], d: usize)
 {
     match sort {
         Sort::Comb => comb(a, d),
-        Sort::Accumulate => accumulate(a, d),
+        Sort::Accumulate => {
+            accumulate_or_undo(Test::Known, LARGEST, a, d);
+        }
     }
 }
 
 // The step of either sort, whole; or, where a value passes w, nothing.
-fn step_or_undo(sort: Sort, narrow: bool, w: u64, a: &mut [i64], d: usize) -> bool
-    requires { ⌜ (1 ≤ d) × (d ≤ length (now a)) × Workable w × (narrow ≡ true → Narrow w (now a)) ⌝ }
+fn step_or_undo(sort: Sort, test: Test, w: u64, a: &mut [i64], d: usize) -> bool
+    requires { ⌜ (1 ≤ d) × (d ≤ length (now a)) × Workable w × AskedOfStep test w (sortMeans sort) d (now a) ⌝ }
     ensures { λ r. ⌜ SteppedOrUndone w (sortMeans sort) d (now (a .entry)) (now (a .exit)) r ⌝ }
 {
     match sort {
-        Sort::Comb => comb_or_undo(narrow, w, a, d),
-        Sort::Accumulate => accumulate_or_undo(narrow, w, a, d),
+        Sort::Comb => comb_or_undo(test, w, a, d),
+        Sort::Accumulate => accumulate_or_undo(test, w, a, d),
     }
 }
 
@@ -80,7 +86,7 @@ fn take_wide(a: &mut [i64], sort: Sort, d: u64, bound: u64, w: u64) -> StepOutco
     requires { ⌜ (1 ≤ d) × (d < length (now a)) × Bounded bound (entries (now a)) × Workable w ⌝ }
     ensures { λ r. ⌜ StepOutcomeIs w (sortMeans sort) d bound (now (a .entry)) (now (a .exit)) r ⌝ }
 {
-    let done = step_or_undo(sort, false, w, a, d as usize);
+    let done = step_or_undo(sort, Test::Wide, w, a, d as usize);
     StepOutcome {
         over: !done,
         bound: larger(bound, w),
@@ -95,7 +101,7 @@ fn take_narrow(a: &mut [i64], sort: Sort, d: u64, bound: u64, w: u64) -> StepOut
     ensures { λ r. ⌜ StepOutcomeIs w (sortMeans sort) d bound (now (a .entry)) (now (a .exit)) r ⌝ }
 {
     let most = smaller(w, ADDABLE);
-    if step_or_undo(sort, true, most, a, d as usize) {
+    if step_or_undo(sort, Test::Narrow, most, a, d as usize) {
         return StepOutcome {
             over: false,
             bound: larger(bound, most),

@@ -19,3 +19,12 @@ pub enum Sort {
     Comb,
     Accumulate,
 }
+
+// How a value is held to a working limit. It is known that none passes it, so nothing is tested; or the numbers are
+// small enough for the value to be taken, and only that is tested; or it is first asked whether it can be taken. It is
+// a constant wherever a loop is called, so that the compiler keeps one of the three.
+pub enum Test {
+    Known,
+    Narrow,
+    Wide,
+}
