@@ -52,11 +52,11 @@ module _ (d : ℕ) where
         wide k h = omega (arith, mod-lt k one)
 
     -- what is asked of the step is asked of the next place
-    pub asked-second : {w : ℕ} → ((k : ℕ) → k < x → Found w d l k) → d ≤ x → x < length l → (t : Test)
+    pub asked-second : (w : ℕ) → ((k : ℕ) → k < x → Found w d l k) → d ≤ x → x < length l → (t : Test)
         → AskedOfStep t w accumulate d l → AskedAt t w accumulate d m x
     unfolding entries stepped
-    asked-second {w} found from b Known none =
+    asked-second w found from b Known none =
         ap (inRange w) (second-is from b) ∙ not-over-each accumulate d l w none x from b
-    asked-second found from b Narrow n =
+    asked-second w found from b Narrow n =
         let s = still-narrow (second-tested found) n .small in (s x, s (x - d))
-    asked-second found from b Wide _ = tt
+    asked-second w found from b Wide _ = tt

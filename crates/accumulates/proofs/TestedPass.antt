@@ -70,13 +70,13 @@ still-narrow {w} {d} {c} {end} {l} {m} p n = record { limit = n .limit; small = 
 -- the chains below c are taken, and then a group of the others
 module _ {w d c : ℕ} (one : 1 ≤ d) {l m : List ℤ} (p : Tested w d 0 c (length l) l m) where
   -- what is asked of the step is asked of the group
-  pub asked-still : {to : ℕ} (t : Test) → AskedOfStep t w accumulate d l → AskedOfGroup t w d c to m
+  pub asked-still : (to : ℕ) (t : Test) → AskedOfStep t w accumulate d l → AskedOfGroup t w d c to m
   unfolding stepped
-  asked-still Known none x low high below b from =
+  asked-still to Known none = λ x low high below b from.
       let in′ : x < length l = omega (arith, p .taken .len) in
       ap (inRange w) (same-new one (p .taken) x low in′) ∙ not-over-each accumulate d l w none x from in′
-  asked-still Narrow n = still-narrow p n
-  asked-still Wide _ = tt
+  asked-still to Narrow n = still-narrow p n
+  asked-still to Wide _ = tt
 
   module _ {to : ℕ} {m′ : List ℤ} (up : c ≤ to) where
     -- to its end

@@ -20,8 +20,11 @@ Inv-loop test w a₀ d to c₀ a c = (c ≤ to) × Tested w d 0 c (length a₀) 
 abbrev μ-loop : tie.MeasureT-loop
 μ-loop test w a₀ d to c₀ a c = to - c
 
-longer-chains-requires : tie.Need-longer-chains-requires Inv-loop μ-loop
-longer-chains-requires c κs = omega arith
+sub-smaller : tie.Need-sub-smaller Inv-loop μ-loop
+sub-smaller c = omega arith
+
+smaller-requires : tie.Need-smaller-requires Inv-loop μ-loop
+smaller-requires c κs = tt
 
 loop-holds : tie.Need-loop-holds Inv-loop μ-loop
 loop-holds c = let p = c .before .args in (omega arith, none-tested (p .w) (p .d) (p .a .now))
@@ -41,12 +44,11 @@ take-next-requires c κs =
     let t = g .loop .inv .1 in (
       (
         w .0,
-        w .2,
-        omega (arith, w .1, n .longer-chains .ensures),
-        omega (arith, w .1, n .longer-chains .ensures, t .taken .len),
+        omega (arith, w .1, n .smaller .ensures),
+        omega (arith, w .1, n .smaller .ensures, t .taken .len),
         p .2,
       ),
-      (λ e. still-narrow t (p .3 e), w .3),
+      (w .2, asked-still (p .0) t _ (n .before .args .test) (p .3)),
     )
 
 -- what stands where a group stopped short
@@ -73,7 +75,7 @@ undo-requires c κs =
     let p = n .before in (
       p .pre .0,
       omega arith,
-      omega (arith, w .1, n .longer-chains .ensures),
+      omega (arith, w .1, n .smaller .ensures),
       at .0,
       omega (arith, at .1),
       record { before = p .args .a .now; stopped = put-back (c .before) },
@@ -123,7 +125,7 @@ returns-2 c =
     let n = c .before .before in
     let p = n .before in
     let i = c .before .loop .inv in
-    all-tested (p .pre .0) (omega (arith, n .longer-chains .ensures)) (i .1)
+    all-tested (p .pre .0) (omega (arith, n .smaller .ensures)) (i .1)
 
 pub chains-or-undo-spec : {M : Type 1} → statement M
 chains-or-undo-spec =
@@ -131,7 +133,8 @@ chains-or-undo-spec =
     (tie.spec
     Inv-loop
     μ-loop
-    longer-chains-requires
+    sub-smaller
+    smaller-requires
     loop-holds
     sub-next-width
     next-width-requires

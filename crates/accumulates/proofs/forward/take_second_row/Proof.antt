@@ -49,7 +49,8 @@ step-entry-within-requires c κs =
       i .0,
       omega arith,
       p .pre .2,
-      asked-second (p .args .d) (p .pre .0) (p .args .a .now) (i .2) (i .3) (i .0) (omega (arith, i .2 .len))
+      asked-second (p .args .d) (p .pre .0) (p .args .a .now) (i .2) (p .args .w) (i .3) (i .0)
+          (omega (arith, i .2 .len))
           (p .args .test) (p .pre .3),
     )
 
