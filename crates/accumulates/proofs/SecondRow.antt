@@ -1,7 +1,7 @@
 -- Chains of at most two entries, taken as one row: what is added to an entry is one of the first ones, which stay.
 use mathlib.Core.Path.{_≡_, refl, sym, _∙_, ap, ap₂}
 use mathlib.Core.List.{List}
-use Prim.Native.Nat.{ℕ, _-_, _%_, _<_, _≤_}
+use Prim.Native.Nat.{ℕ, zero, suc, _-_, _%_, _<_, _≤_}
 use native.Mathlib.Nat.{mod-lt, not-suc-le-zero}
 use native.Mathlib.Omega.{arith}
 use lib.ListN.{length}
@@ -10,8 +10,6 @@ use Rattle.definitions.specs.Integers.{_⊕_}
 use Rattle.definitions.specs.Steps.{accumulate, accumulated, entries, inRange, stepped}
 use Rattle.step_laws.specs.Accumulated.{accumulated-from, accumulated-below}
 use Rattle.step_laws.specs.Step.{not-over-each}
-use Rattle.passes.specs.declared.Test.{Test}
-use Rattle.passes.specs.declared.Test.the-variants.{Known, Narrow, Wide}
 use Rattle.passes.specs.Passes.{newEntry, Split}
 use Rattle.passes.specs.Asked.{AskedAt, AskedOfStep}
 use Rattle.chains.specs.Tested.{Found, Tested}
@@ -52,11 +50,11 @@ module _ (d : ℕ) where
         wide k h = omega (arith, mod-lt k one)
 
     -- what is asked of the step is asked of the next place
-    pub asked-second : (w : ℕ) → ((k : ℕ) → k < x → Found w d l k) → d ≤ x → x < length l → (t : Test)
+    pub asked-second : (w : ℕ) → ((k : ℕ) → k < x → Found w d l k) → d ≤ x → x < length l → (t : ℕ)
         → AskedOfStep t w accumulate d l → AskedAt t w accumulate d m x
     unfolding entries stepped
-    asked-second w found from b Known none =
+    asked-second w found from b zero none =
         ap (inRange w) (second-is from b) ∙ not-over-each accumulate d l w none x from b
-    asked-second w found from b Narrow n =
+    asked-second w found from b (suc zero) n =
         let s = still-narrow (second-tested found) n .small in (s x, s (x - d))
-    asked-second w found from b Wide _ = tt
+    asked-second w found from b (suc (suc _)) _ = tt

@@ -3,7 +3,7 @@
 use mathlib.Core.Path.{_≡_, sym, _∙_, ap, ap₂}
 use mathlib.Core.Bool.{Bool, true, false, true≢false, cond}
 use mathlib.Core.List.{List}
-use Prim.Native.Nat.{ℕ, _-_, _%_, _<_, _≤_, min}
+use Prim.Native.Nat.{ℕ, zero, suc, _-_, _%_, _<_, _≤_, min}
 use native.Mathlib.Nat.{mod-eq-sub-mod, not-suc-le-zero, lt-of-lt-of-le}
 use native.Mathlib.Omega.{arith}
 use borrow.Author.Tests.{lt-ltb, le-ltb}
@@ -17,10 +17,7 @@ use Rattle.step_laws.specs.Accumulated.{accumulated-from}
 use Rattle.step_laws.specs.Signed.{range-in}
 use Rattle.step_laws.specs.Tests.{by-order}
 use Rattle.step_laws.specs.Step.{not-over-each}
-use Rattle.passes.specs.declared.Test.{Test}
-use Rattle.passes.specs.declared.Test.the-variants.{Known, Narrow, Wide}
-use Rattle.passes.specs.Passes as passes
-use Rattle.passes.specs.Passes.{addable, SteppedOrUndone}
+use Rattle.passes.specs.Passes.{addable, Narrow, SteppedOrUndone}
 use Rattle.passes.specs.Asked.{AskedOfStep}
 use Rattle.passes.proofs.Tested.{whole}
 use Rattle.chains.specs.Tested.{AskedOfGroup, Tested}
@@ -47,8 +44,7 @@ by-taken d full to stop x P whole part late none =
     (λ h. rw (le-ltb (x % d) full l, le-ltb (x % d) to h) (none l h)))
 
 -- a narrow list stays so: each entry is an old one or a value within w
-pub still-narrow : {w d c end : ℕ} {l m : List ℤ} → Tested w d 0 c end l m → passes.Narrow w l
-    → passes.Narrow w m
+pub still-narrow : {w d c end : ℕ} {l m : List ℤ} → Tested w d 0 c end l m → Narrow w l → Narrow w m
 unfolding entries
 still-narrow {w} {d} {c} {end} {l} {m} p n = record { limit = n .limit; small = small }
   where
@@ -70,13 +66,13 @@ still-narrow {w} {d} {c} {end} {l} {m} p n = record { limit = n .limit; small = 
 -- the chains below c are taken, and then a group of the others
 module _ {w d c : ℕ} (one : 1 ≤ d) {l m : List ℤ} (p : Tested w d 0 c (length l) l m) where
   -- what is asked of the step is asked of the group
-  pub asked-still : (to : ℕ) (t : Test) → AskedOfStep t w accumulate d l → AskedOfGroup t w d c to m
+  pub asked-still : (to t : ℕ) → AskedOfStep t w accumulate d l → AskedOfGroup t w d c to m
   unfolding stepped
-  asked-still to Known none = λ x low high below b from.
+  asked-still to zero none = λ x low high below b from.
       let in′ : x < length l = omega (arith, p .taken .len) in
       ap (inRange w) (same-new one (p .taken) x low in′) ∙ not-over-each accumulate d l w none x from in′
-  asked-still to Narrow n = still-narrow p n
-  asked-still to Wide _ = tt
+  asked-still to (suc zero) n = still-narrow p n
+  asked-still to (suc (suc _)) _ = tt
 
   module _ {to : ℕ} {m′ : List ℤ} (up : c ≤ to) where
     -- to its end

@@ -11,35 +11,35 @@ ghost use Rattle.chains.specs.Chains.{Each};
 ghost use Rattle.chains.specs.Tested.{AskedOfGroup, Inside, Tested, StoppedBy};
 ghost use Rattle.accumulates.specs.Widths.{WidthOf, KnownWidth};
 use chains::take_group;
+use passes::KNOWN;
+use passes::NARROW;
 use passes::Sort;
-use passes::Test;
+use passes::WIDE;
 use passes::step_entry_within;
 
 // How many chains the next group has, of those that are left: untested, sixteen, or at most eight; tested, at most six,
 // since beside what the test needs the registers hold no more sums; one where each sum is first asked for whether it
 // can be taken.
-pub(crate) fn next_width(test: Test, left: usize) -> usize
+pub(crate) fn next_width(test: u8, left: usize) -> usize
     requires { ⌜ 1 ≤ left ⌝ }
     ensures { λ r. ⌜ (1 ≤ r) × (r ≤ left) × WidthOf test r ⌝ }
 {
-    match test {
-        Test::Known => {
-            if 16 <= left {
-                return 16;
-            }
-            if 8 <= left {
-                return 8;
-            }
-            left
+    if test == KNOWN {
+        if 16 <= left {
+            return 16;
         }
-        Test::Narrow => {
-            if 6 <= left {
-                return 6;
-            }
-            left
+        if 8 <= left {
+            return 8;
         }
-        Test::Wide => 1,
+        return left;
     }
+    if test == NARROW {
+        if 6 <= left {
+            return 6;
+        }
+        return left;
+    }
+    1
 }
 
 // So many chains, untested. Each number has its own loop, with its sums in registers, and size 1, which has one chain,
@@ -51,18 +51,18 @@ fn take_known(w: u64, a: &mut [i64], c: usize, d: usize, g: usize) -> usize
     ensures { λ r. ⌜ StoppedBy w d c (now (a .entry)) r ⌝ }
 {
     if d == 1 {
-        return take_group(Test::Known, w, &mut [0; 1], a, 0, 1);
+        return take_group(KNOWN, w, &mut [0; 1], a, 0, 1);
     }
     match g {
-        16 => take_group(Test::Known, w, &mut [0; 16], a, c, d),
-        8 => take_group(Test::Known, w, &mut [0; 8], a, c, d),
-        7 => take_group(Test::Known, w, &mut [0; 7], a, c, d),
-        6 => take_group(Test::Known, w, &mut [0; 6], a, c, d),
-        5 => take_group(Test::Known, w, &mut [0; 5], a, c, d),
-        4 => take_group(Test::Known, w, &mut [0; 4], a, c, d),
-        3 => take_group(Test::Known, w, &mut [0; 3], a, c, d),
-        2 => take_group(Test::Known, w, &mut [0; 2], a, c, d),
-        _ => take_group(Test::Known, w, &mut [0; 1], a, c, d),
+        16 => take_group(KNOWN, w, &mut [0; 16], a, c, d),
+        8 => take_group(KNOWN, w, &mut [0; 8], a, c, d),
+        7 => take_group(KNOWN, w, &mut [0; 7], a, c, d),
+        6 => take_group(KNOWN, w, &mut [0; 6], a, c, d),
+        5 => take_group(KNOWN, w, &mut [0; 5], a, c, d),
+        4 => take_group(KNOWN, w, &mut [0; 4], a, c, d),
+        3 => take_group(KNOWN, w, &mut [0; 3], a, c, d),
+        2 => take_group(KNOWN, w, &mut [0; 2], a, c, d),
+        _ => take_group(KNOWN, w, &mut [0; 1], a, c, d),
     }
 }
 
@@ -73,31 +73,33 @@ fn take_narrow(w: u64, a: &mut [i64], c: usize, d: usize, g: usize) -> usize
     ensures { λ r. ⌜ StoppedBy w d c (now (a .entry)) r ⌝ }
 {
     match g {
-        6 => take_group(Test::Narrow, w, &mut [0; 6], a, c, d),
-        5 => take_group(Test::Narrow, w, &mut [0; 5], a, c, d),
-        4 => take_group(Test::Narrow, w, &mut [0; 4], a, c, d),
-        3 => take_group(Test::Narrow, w, &mut [0; 3], a, c, d),
-        2 => take_group(Test::Narrow, w, &mut [0; 2], a, c, d),
-        _ => take_group(Test::Narrow, w, &mut [0; 1], a, c, d),
+        6 => take_group(NARROW, w, &mut [0; 6], a, c, d),
+        5 => take_group(NARROW, w, &mut [0; 5], a, c, d),
+        4 => take_group(NARROW, w, &mut [0; 4], a, c, d),
+        3 => take_group(NARROW, w, &mut [0; 3], a, c, d),
+        2 => take_group(NARROW, w, &mut [0; 2], a, c, d),
+        _ => take_group(NARROW, w, &mut [0; 1], a, c, d),
     }
 }
 
 // The next group.
-pub(crate) fn take_next(test: Test, w: u64, a: &mut [i64], c: usize, d: usize, g: usize) -> usize
+pub(crate) fn take_next(test: u8, w: u64, a: &mut [i64], c: usize, d: usize, g: usize) -> usize
     requires { ⌜ (1 ≤ g) × (c + g ≤ d) × (c + g + d ≤ length (now a)) × Workable w ⌝ }
     requires { ⌜ WidthOf test g × AskedOfGroup test w d c (c + g) (now a) ⌝ }
     ensures { λ r. ⌜ Tested w d c (c + g) r (now (a .entry)) (now (a .exit)) ⌝ }
     ensures { λ r. ⌜ StoppedBy w d c (now (a .entry)) r ⌝ }
 {
-    match test {
-        Test::Known => take_known(w, a, c, d, g),
-        Test::Narrow => take_narrow(w, a, c, d, g),
-        Test::Wide => take_group(Test::Wide, w, &mut [0; 1], a, c, d),
+    if test == KNOWN {
+        return take_known(w, a, c, d, g);
     }
+    if test == NARROW {
+        return take_narrow(w, a, c, d, g);
+    }
+    take_group(WIDE, w, &mut [0; 1], a, c, d)
 }
 
 // Where no chain has more than two entries the second ones are neighbours, and what is added to them is not changed.
-pub(crate) fn take_second_row(test: Test, w: u64, a: &mut [i64], d: usize) -> usize
+pub(crate) fn take_second_row(test: u8, w: u64, a: &mut [i64], d: usize) -> usize
     requires { ⌜ (1 ≤ d) × (d ≤ length (now a)) × Workable w × AskedOfStep test w accumulate d (now a) ⌝ }
     ensures { λ r. ⌜ Tested w d 0 d r (now (a .entry)) (now (a .exit)) ⌝ }
     ensures { λ r. ⌜ StoppedBy w d 0 (now (a .entry)) r ⌝ }

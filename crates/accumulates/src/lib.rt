@@ -15,22 +15,9 @@ use forward::next_width;
 use forward::take_next;
 use forward::take_second_row;
 use heights::smaller;
-use passes::Test;
-
-fn second_row_or_undo(test: Test, w: u64, a: &mut [i64], d: usize) -> bool
-    requires { ⌜ (1 ≤ d) × (d ≤ length (now a)) × Workable w × AskedOfStep test w accumulate d (now a) ⌝ }
-    ensures { λ r. ⌜ SteppedOrUndone w accumulate d (now (a .entry)) (now (a .exit)) r ⌝ }
-{
-    let stop = take_second_row(test, w, a, d);
-    if stop == a.len() {
-        return true;
-    }
-    undo(a, d, 0, d, stop);
-    false
-}
 
 // The chains that have more than one entry, group by group.
-fn chains_or_undo(test: Test, w: u64, a: &mut [i64], d: usize) -> bool
+fn chains_or_undo(test: u8, w: u64, a: &mut [i64], d: usize) -> bool
     requires { ⌜ (1 ≤ d) × (d ≤ length (now a)) × Workable w × AskedOfStep test w accumulate d (now a) ⌝ }
     ensures { λ r. ⌜ SteppedOrUndone w accumulate d (now (a .entry)) (now (a .exit)) r ⌝ }
 {
@@ -49,12 +36,17 @@ fn chains_or_undo(test: Test, w: u64, a: &mut [i64], d: usize) -> bool
 }
 
 // The accumulate, whole; or, where a value passes w, nothing.
-pub fn accumulate_or_undo(test: Test, w: u64, a: &mut [i64], d: usize) -> bool
+pub fn accumulate_or_undo(test: u8, w: u64, a: &mut [i64], d: usize) -> bool
     requires { ⌜ (1 ≤ d) × (d ≤ length (now a)) × Workable w × AskedOfStep test w accumulate d (now a) ⌝ }
     ensures { λ r. ⌜ SteppedOrUndone w accumulate d (now (a .entry)) (now (a .exit)) r ⌝ }
 {
-    if a.len() <= d + d {
-        return second_row_or_undo(test, w, a, d);
+    if d + d < a.len() {
+        return chains_or_undo(test, w, a, d);
     }
-    chains_or_undo(test, w, a, d)
+    let stop = take_second_row(test, w, a, d);
+    if stop == a.len() {
+        return true;
+    }
+    undo(a, d, 0, d, stop);
+    false
 }

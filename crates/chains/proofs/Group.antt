@@ -3,7 +3,7 @@
 use mathlib.Core.Path.{_≡_, refl, sym, _∙_, ap, ap₂, subst}
 use mathlib.Core.Bool.{false}
 use mathlib.Core.List.{List}
-use Prim.Native.Nat.{ℕ, _+_, _-_, _%_, _<_, _≤_}
+use Prim.Native.Nat.{ℕ, zero, suc, _+_, _-_, _%_, _<_, _≤_}
 use native.Mathlib.Nat.{mod-eq-of-lt, mod-eq-sub-mod, add-mod-right}
 use native.Mathlib.Omega.{arith}
 use lib.ListN.{length, getD}
@@ -14,10 +14,7 @@ use Rattle.step_laws.specs.Accumulated.{accumulated-from, accumulated-below}
 use Rattle.step_laws.specs.Chain.{in-row, next-row}
 use Rattle.step_laws.specs.Signed.{range-in}
 use Rattle.step_laws.specs.Tests.{by-order}
-use Rattle.passes.specs.declared.Test.{Test}
-use Rattle.passes.specs.declared.Test.the-variants.{Known, Narrow, Wide}
-use Rattle.passes.specs.Passes as passes
-use Rattle.passes.specs.Passes.{addable}
+use Rattle.passes.specs.Passes.{addable, Narrow}
 use Rattle.chains.specs.Chains.{sumAt, RowTaken, Each, Taken}
 use Rattle.chains.specs.Tested.{AskedInRow, FoundInRow, Found, AskedOfGroup, Tested, StoppedBy}
 
@@ -121,7 +118,7 @@ module _ (d c g : ℕ) (one : 1 ≤ d) (room : c + g ≤ d) where
         ∙ sym (accumulated-from d (entries l) (k + j) one (omega (arith, p .from)))
 
     -- a sum is one of the first entries, or a value within w
-    small-sum : passes.Narrow w l → (j : ℕ) → j < g → k + j < length l → (x : ℕ) → x + d ≡ k + j
+    small-sum : Narrow w l → (j : ℕ) → j < g → k + j < length l → (x : ℕ) → x + d ≡ k + j
         → natAbs (accumulated d (entries l) x) ≤ addable
     small-sum n j h b x e =
         by-order x d (λ low. rw (accumulated-below d (entries l) x low) (n .small x))
@@ -135,18 +132,18 @@ module _ (d c g : ℕ) (one : 1 ≤ d) (room : c + g ≤ d) where
         ))
 
     -- what is asked of the group is asked of the row
-    pub asked-row : (t : Test) → AskedOfGroup t w d c (c + g) l → (j : ℕ) → j < g → k + j < length l
+    pub asked-row : (t : ℕ) → AskedOfGroup t w d c (c + g) l → (j : ℕ) → j < g → k + j < length l
         → AskedInRow t w s a k j
     unfolding entries
-    asked-row Known asked j h b =
+    asked-row zero asked j h b =
         let r = member k (p .first) j h in
         ap (inRange w) (row-sum j h b)
         ∙ asked (k + j) (omega (arith, r)) (omega (arith, r)) b b (omega (arith, p .from))
-    asked-row Narrow n j h b = (
+    asked-row (suc zero) n j h b = (
       rw (p .tested .taken .later (k + j) (omega arith) b) (n .small (k + j)),
       rw (p .sums j h) (small-sum n j h b (k - d + j) (omega (arith, p .from))),
     )
-    asked-row Wide _ j h b = tt
+    asked-row (suc (suc _)) _ j h b = tt
 
     -- its first q entries
     module _ {q : ℕ} {s′ a′ : List ℤ} (r : RowTaken k q s a s′ a′) (most : q ≤ g) (in′ : k + q ≤ length l)

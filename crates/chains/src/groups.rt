@@ -7,11 +7,10 @@ ghost use Rattle.step_laws.specs.WorkingLimit.{Workable};
 ghost use Rattle.chains.specs.Tested.{AskedOfGroup, Tested, StoppedBy};
 use crate::rows::first_row;
 use crate::rows::take_row;
-use passes::Test;
 
 // As many chains as there are sums in s, whatever these are, up to the first place whose sum would pass w, which is
 // answered; or all, and the number of entries is.
-pub fn take_group(test: Test, w: u64, s: &mut [i64], a: &mut [i64], c: usize, d: usize) -> usize
+pub fn take_group(test: u8, w: u64, s: &mut [i64], a: &mut [i64], c: usize, d: usize) -> usize
     requires { ⌜ (1 ≤ length (now s)) × (c + length (now s) ≤ d) × (c + length (now s) + d ≤ length (now a)) ⌝ }
     requires { ⌜ Workable w × AskedOfGroup test w d c (c + length (now s)) (now a) ⌝ }
     ensures { λ r. ⌜ Tested w d c (c + length (now (s .entry))) r (now (a .entry)) (now (a .exit)) ⌝ }

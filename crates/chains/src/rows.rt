@@ -13,7 +13,6 @@ ghost use Rattle.step_laws.specs.WorkingLimit.{Workable};
 ghost use Rattle.chains.specs.Chains.{sumAt, RowTaken};
 ghost use Rattle.chains.specs.Tested.{AskedInRow, FoundInRow};
 use passes::Sort;
-use passes::Test;
 use passes::new_value;
 use passes::passes_test;
 use passes::put;
@@ -36,7 +35,7 @@ pub(crate) fn first_row(s: &mut [i64], a: &[i64], c: usize)
 // The entry at q of the row that begins at k, with its chain's sum added, is the entry from now on, and its chain's
 // sum, where it is within w; tells whether it is. That an entry fits its type is known where it is read, and an undoing
 // needs it.
-fn take_entry(test: Test, w: u64, s: &mut [i64], a: &mut [i64], k: usize, q: usize) -> bool
+fn take_entry(test: u8, w: u64, s: &mut [i64], a: &mut [i64], k: usize, q: usize) -> bool
     requires { ⌜ (q < length (now s)) × (k + q < length (now a)) × Workable w
         × AskedInRow test w (now s) (now a) k q ⌝ }
     ensures { λ r.
@@ -61,7 +60,7 @@ fn take_entry(test: Test, w: u64, s: &mut [i64], a: &mut [i64], k: usize, q: usi
 
 // The first m entries of a row, up to one that would pass w; answers how many were taken.
 pub(crate) fn take_row(
-    test: Test,
+    test: u8,
     w: u64,
     s: &mut [i64],
     a: &mut [i64],

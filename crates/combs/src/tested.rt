@@ -12,13 +12,14 @@ ghost use Rattle.step_laws.specs.WorkingLimit.{Workable};
 ghost use Rattle.passes.specs.Asked.{AskedOfStep};
 ghost use Rattle.passes.specs.Passes.{SteppedOrUndone};
 ghost use Rattle.combs.specs.Combs.{ReadTo, TestedTo, Undoable};
+use crate::comb;
+use passes::KNOWN;
 use passes::Sort;
-use passes::Test;
 use passes::step_entry;
 use passes::step_entry_within;
 
 // Takes the places from the top down, and stops where the next value passes w; answers the place down to which it took.
-fn take_tested(test: Test, w: u64, a: &mut [i64], d: usize) -> usize
+fn take_tested(test: u8, w: u64, a: &mut [i64], d: usize) -> usize
     requires { ⌜ (d ≤ length (now a)) × Workable w × AskedOfStep test w comb d (now a) ⌝ }
     ensures { λ r. ⌜ TestedTo w d (now (a .entry)) (now (a .exit)) r ⌝ }
     ensures { λ r. ⌜ (d < r → inRange w (stepped comb d (entries (now (a .entry))) (r - 1)) ≡ false) ⌝ }
@@ -47,10 +48,14 @@ fn undo(a: &mut [i64], d: usize, from: usize)
 }
 
 // The comb, whole; or, where a value passes w, nothing.
-pub fn comb_or_undo(test: Test, w: u64, a: &mut [i64], d: usize) -> bool
+pub fn comb_or_undo(test: u8, w: u64, a: &mut [i64], d: usize) -> bool
     requires { ⌜ (1 ≤ d) × (d ≤ length (now a)) × Workable w × AskedOfStep test w comb d (now a) ⌝ }
     ensures { λ r. ⌜ SteppedOrUndone w comb d (now (a .entry)) (now (a .exit)) r ⌝ }
 {
+    if test == KNOWN {
+        comb(a, d);
+        return true;
+    }
     let t = take_tested(test, w, a, d);
     if t == d {
         return true;

@@ -12,8 +12,9 @@ ghost use Rattle.passes.specs.Sorts.{sortMeans};
 ghost use Rattle.passes.specs.Passes.{newValue, newEntry, putFour};
 ghost use Rattle.passes.specs.Asked.{Asked, AskedAt};
 use crate::ADDABLE;
+use crate::KNOWN;
+use crate::NARROW;
 use crate::Sort;
-use crate::Test;
 use range::difference_fits;
 use range::sum_fits;
 use range::within;
@@ -53,20 +54,20 @@ fn new_value_within(sort: Sort, w: u64, x: i64, y: i64) -> bool
 }
 
 // The test of a step, as far as it is not known what it comes to.
-pub fn passes_test(sort: Sort, test: Test, w: u64, x: i64, y: i64) -> bool
+pub fn passes_test(sort: Sort, test: u8, w: u64, x: i64, y: i64) -> bool
     requires { ⌜ Workable w × Asked test w (sortMeans sort) x y ⌝ }
     ensures { λ r. ⌜ r ≡ inRange w (newValue (sortMeans sort) x y) ⌝ }
 {
-    match test {
-        Test::Known => true,
-        Test::Narrow => new_value_within(sort, w, x, y),
-        Test::Wide => {
-            if new_value_fits(sort, x, y) {
-                return new_value_within(sort, w, x, y);
-            }
-            false
-        }
+    if test == KNOWN {
+        return true;
     }
+    if test == NARROW {
+        return new_value_within(sort, w, x, y);
+    }
+    if new_value_fits(sort, x, y) {
+        return new_value_within(sort, w, x, y);
+    }
+    false
 }
 
 pub fn new_entry(sort: Sort, a: &[i64], i: usize, d: usize) -> i64
@@ -112,7 +113,7 @@ pub fn step_entry(sort: Sort, a: &mut [i64], i: usize, d: usize)
 
 // The step at one place where its value is within w, each entry read once; tells whether it is. That an entry fits its
 // type is known where it is read, and an undoing needs it.
-pub fn step_entry_within(sort: Sort, test: Test, w: u64, a: &mut [i64], i: usize, d: usize) -> bool
+pub fn step_entry_within(sort: Sort, test: u8, w: u64, a: &mut [i64], i: usize, d: usize) -> bool
     requires { ⌜ (d ≤ i) × (i < length (now a)) × Workable w × AskedAt test w (sortMeans sort) d (now a) i ⌝ }
     ensures { λ r.
         ⌜ (r ≡ inRange w (newEntry (sortMeans sort) d (now (a .entry)) i)) × SFits w64 (entries (now (a .entry)) i) ⌝ }

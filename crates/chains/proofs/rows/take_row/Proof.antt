@@ -6,11 +6,10 @@ use native.Mathlib.Nat.{not-suc-le-zero}
 use native.Mathlib.Omega.{arith}
 use borrow.Author.Tests.{not-true, not-false}
 use lib.ListN.{length}
-use Rattle.definitions.specs.Steps.{inRange}
 use Rattle.step_laws.specs.Tests.{by-order}
 use Rattle.chains.specs.Chains.{RowTaken}
 use Rattle.chains.specs.Tested.{FoundInRow}
-use Rattle.chains.proofs.RowTaken.{row-start, row-took, row-left, next-old, next-sum}
+use Rattle.chains.proofs.RowTaken.{row-start, row-took, row-left, next-old, next-told}
 use Rattle.chains.proofs.rows.take_row.Statement.{statement}
 use Rattle.chains.proofs.rows.take_row.Tie as tie
 
@@ -70,7 +69,7 @@ returns-2 c =
         row-left r (omega (arith, r .sums)) (omega (arith, r .len)) (t .result) (t .ensures .1 .0)
             (t .ensures .1 .1) no,
       ),
-      (i .2, λ _. ap (inRange (g .before .args .w)) (sym (next-sum r)) ∙ sym (t .ensures .0 .0) ∙ no),
+      (i .2, λ _. next-told r (g .before .args .w) (t .ensures .0 .0) no),
     )
 
 add-q : tie.Need-add-q Inv-loop μ-loop
@@ -93,7 +92,7 @@ loop-again c =
           (λ high.
           let same : g .loop .q ≡ j = omega arith in
           subst (FoundInRow (p .w) (p .s .now) (p .a .now) (p .k)) same (
-            ap (inRange (p .w)) (sym (next-sum r)) ∙ sym (t .ensures .0 .0) ∙ yes,
+            next-told r (p .w) (t .ensures .0 .0) yes,
             rw (next-old r) at (t .ensures .0 .1),
           )),
     )

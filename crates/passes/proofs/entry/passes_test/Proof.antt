@@ -34,47 +34,35 @@ module _ (p : tie.Start) where
       → SFits w64 (newValue (sortMeans (p .args .sort)) (seen (p .args .x)) (seen (p .args .y)))
   taken t = rw seen-value (range-fits value t)
 
-enum-told : tie.Need-enum-told
-enum-told c = search needs
-
-enum-told-2 : tie.Need-enum-told-2
-enum-told-2 c = search needs
+returns : tie.Need-returns
+returns c = sym (rw (c .if1 .taken) at (c .before .pre .1))
 
 new-value-within-requires : tie.Need-new-value-within-requires
 new-value-within-requires c κs =
     let p = c .before .before in
-    let small = rw (c .enum-told2 .given .1) at (p .pre .1) in
+    let small = rw (c .if2 .taken) at (p .pre .1) in
     (p .pre .0, taken p (small-in-range (sortMeans (p .args .sort)) (p .args .x) (p .args .y) (small .0) (small .1)))
 
-enum-told-3 : tie.Need-enum-told-3
-enum-told-3 c = search needs
+returns-2 : tie.Need-returns-2
+returns-2 c = let p = c .before .before .before in within p (p .args .w) (c .new-value-within .ensures)
 
 new-value-fits-requires : tie.Need-new-value-fits-requires
 new-value-fits-requires c κs = search needs
 
 new-value-within-requires-2 : tie.Need-new-value-within-requires-2
 new-value-within-requires-2 c κs =
-    let f = c .before in
-    let p = f .before .before .before in
-    (p .pre .0, taken p (sym (within p largest (f .new-value-fits .ensures)) ∙ c .if1 .taken))
-
-returns : tie.Need-returns
-returns c =
-    let p = c .before .before .before .before .before in within p (p .args .w) (c .new-value-within2 .ensures)
-
-returns-2 : tie.Need-returns-2
-returns-2 c = sym (rw (c .enum-told .given .1) at (c .before .before .pre .1))
+    let p = c .before .before .before .before in
+    (p .pre .0, taken p (sym (within p largest (c .before .new-value-fits .ensures)) ∙ c .if3 .taken))
 
 returns-3 : tie.Need-returns-3
 returns-3 c =
-    let p = c .before .before .before in within p (p .args .w) (c .new-value-within .ensures)
+    let p = c .before .before .before .before .before in within p (p .args .w) (c .new-value-within2 .ensures)
 
 returns-4 : tie.Need-returns-4
 returns-4 c =
-    let f = c .before in
-    let p = f .before .before .before in
-    let none : inRange largest (value p) ≡ false = sym (within p largest (f .new-value-fits .ensures))
-    ∙ c .if1 .left in
+    let p = c .before .before .before .before in
+    let none : inRange largest (value p) ≡ false = sym (within p largest (c .before .new-value-fits .ensures))
+    ∙ c .if3 .left in
     sym (not-true-is (inRange (p .args .w) (value p))
     (λ t. true≢false (sym (range-more (p .pre .0 .1) (value p) t) ∙ none)))
 
@@ -82,13 +70,10 @@ pub passes-test-spec : {M : Type 1} → statement M
 passes-test-spec =
     tie.close
     (tie.spec
-    enum-told
-    enum-told-2
+    returns
     new-value-within-requires
-    enum-told-3
+    returns-2
     new-value-fits-requires
     new-value-within-requires-2
-    returns
-    returns-2
     returns-3
     returns-4)
