@@ -2,19 +2,20 @@
 // working limit w, on entries whose magnitudes are bounded: where none can pass w it needs no test, and where all can
 // be added and taken away it needs that of w alone.
 use accumulates::accumulate_or_undo;
-use combs::comb;
 use combs::comb_or_undo;
 use heights::larger;
 use heights::magnitude;
 use heights::smaller;
 use passes::ADDABLE;
+use passes::KNOWN;
+use passes::NARROW;
 use passes::Sort;
-use passes::Test;
+use passes::WIDE;
 ghost use Prim.Native.Nat.{ℕ, _+_, _*_, _≤_, _<_};
 ghost use mathlib.Core.Path.{_≡_};
-ghost use mathlib.Core.Bool.{true, false};
+ghost use mathlib.Core.Bool.{true};
 ghost use lib.ListN.{length};
-ghost use Rattle.definitions.specs.Steps.{entries, largest, stepOver, stepList};
+ghost use Rattle.definitions.specs.Steps.{entries};
 ghost use Rattle.step_laws.specs.Bound.{Bounded, growth};
 ghost use Rattle.step_laws.specs.WorkingLimit.{Workable};
 ghost use Rattle.passes.specs.Sorts.{sortMeans};
@@ -31,9 +32,6 @@ pub struct StepOutcome {
 // 2^47: up to here a look is not worth its time. A step on up to 2^15 entries stays within the largest limit, and under
 // a smaller one the entries' own magnitudes are mostly no better.
 const LARGE: u64 = 140737488355328;
-
-// 2^63 - 1, the largest working limit: what no value passes leaves no i64.
-const LARGEST: u64 = 9223372036854775807;
 
 // How often a step of size d can add the largest magnitude of n entries to itself.
 pub fn times_added(sort: Sort, d: u64, n: u64) -> u64
@@ -57,21 +55,8 @@ pub fn stays_within(bound: u64, times: u64, w: u64) -> bool
     bound <= (w - bound) / times
 }
 
-// The step of either sort, of which it is known that no value leaves the range.
-fn untested_step(sort: Sort, a: &mut [i64], d: usize)
-    requires { ⌜ (1 ≤ d) × (d < length (now a)) × (stepOver largest (sortMeans sort) d (now a) ≡ false) ⌝ }
-    ensures { λ _. ⌜ now (a .exit) ≡ stepList (sortMeans sort) d (now (a .entry)) ⌝ }
-{
-    match sort {
-        Sort::Comb => comb(a, d),
-        Sort::Accumulate => {
-            accumulate_or_undo(Test::Known, LARGEST, a, d);
-        }
-    }
-}
-
 // The step of either sort, whole; or, where a value passes w, nothing.
-fn step_or_undo(sort: Sort, test: Test, w: u64, a: &mut [i64], d: usize) -> bool
+fn step_or_undo(sort: Sort, test: u8, w: u64, a: &mut [i64], d: usize) -> bool
     requires { ⌜ (1 ≤ d) × (d ≤ length (now a)) × Workable w × AskedOfStep test w (sortMeans sort) d (now a) ⌝ }
     ensures { λ r. ⌜ SteppedOrUndone w (sortMeans sort) d (now (a .entry)) (now (a .exit)) r ⌝ }
 {
@@ -86,7 +71,7 @@ fn take_wide(a: &mut [i64], sort: Sort, d: u64, bound: u64, w: u64) -> StepOutco
     requires { ⌜ (1 ≤ d) × (d < length (now a)) × Bounded bound (entries (now a)) × Workable w ⌝ }
     ensures { λ r. ⌜ StepOutcomeIs w (sortMeans sort) d bound (now (a .entry)) (now (a .exit)) r ⌝ }
 {
-    let done = step_or_undo(sort, Test::Wide, w, a, d as usize);
+    let done = step_or_undo(sort, WIDE, w, a, d as usize);
     StepOutcome {
         over: !done,
         bound: larger(bound, w),
@@ -101,7 +86,7 @@ fn take_narrow(a: &mut [i64], sort: Sort, d: u64, bound: u64, w: u64) -> StepOut
     ensures { λ r. ⌜ StepOutcomeIs w (sortMeans sort) d bound (now (a .entry)) (now (a .exit)) r ⌝ }
 {
     let most = smaller(w, ADDABLE);
-    if step_or_undo(sort, Test::Narrow, most, a, d as usize) {
+    if step_or_undo(sort, NARROW, most, a, d as usize) {
         return StepOutcome {
             over: false,
             bound: larger(bound, most),
@@ -125,7 +110,7 @@ pub fn take_bounded(a: &mut [i64], sort: Sort, d: u64, bound: u64, w: u64) -> St
     let times = times_added(sort, d, n);
     if stays_within(bound, times, w) {
         let grown = bound * times + bound;
-        untested_step(sort, a, d as usize);
+        step_or_undo(sort, KNOWN, w, a, d as usize);
         return StepOutcome {
             over: false,
             bound: grown,

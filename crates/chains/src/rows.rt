@@ -59,14 +59,7 @@ fn take_entry(test: u8, w: u64, s: &mut [i64], a: &mut [i64], k: usize, q: usize
 }
 
 // The first m entries of a row, up to one that would pass w; answers how many were taken.
-pub(crate) fn take_row(
-    test: u8,
-    w: u64,
-    s: &mut [i64],
-    a: &mut [i64],
-    k: usize,
-    m: usize,
-) -> usize
+pub(crate) fn take_row(test: u8, w: u64, s: &mut [i64], a: &mut [i64], k: usize, m: usize) -> usize
     requires { ⌜ (m ≤ length (now s)) × (k + m ≤ length (now a)) × Workable w ⌝ }
     requires { ⌜ ((j : ℕ) → j < m → AskedInRow test w (now s) (now a) k j) ⌝ }
     ensures { λ r. ⌜ (r ≤ m) × RowTaken k r (now (s .entry)) (now (a .entry)) (now (s .exit)) (now (a .exit)) ⌝ }

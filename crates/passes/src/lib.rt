@@ -25,5 +25,7 @@ pub enum Sort {
 // a constant wherever a loop is called, so that the compiler keeps one of the three: as a number, since an enum is
 // handed on by its address, and the compiler sees too late which one stands there.
 pub const KNOWN: u8 = 0;
+
 pub const NARROW: u8 = 1;
+
 pub const WIDE: u8 = 2;
