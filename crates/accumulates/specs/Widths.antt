@@ -2,10 +2,7 @@
 use Prim.Native.Nat.{ℕ, zero, suc, _<_, _≤_}
 use mathlib.Core.Path.{_≡_}
 
-abbrev pub KnownWidth : ℕ → Type 0
-KnownWidth g = (g ≤ 16) × (g < 16 → g ≤ 8)
-
 abbrev pub WidthOf : ℕ → ℕ → Type 0
-WidthOf zero g = KnownWidth g
+WidthOf zero g = (g ≤ 16) × (g < 16 → g ≤ 8)
 WidthOf (suc zero) g = g ≤ 6
 WidthOf (suc (suc _)) g = g ≡ 1

@@ -6,10 +6,8 @@ ghost use lib.ListN.{length};
 ghost use Rattle.definitions.specs.Steps.{accumulate};
 ghost use Rattle.step_laws.specs.WorkingLimit.{Workable};
 ghost use Rattle.passes.specs.Asked.{AskedOfStep};
-ghost use Rattle.passes.specs.Passes.{Narrow};
-ghost use Rattle.chains.specs.Chains.{Each};
-ghost use Rattle.chains.specs.Tested.{AskedOfGroup, Inside, Tested, StoppedBy};
-ghost use Rattle.accumulates.specs.Widths.{WidthOf, KnownWidth};
+ghost use Rattle.chains.specs.Tested.{GroupAsked, GroupTaken};
+ghost use Rattle.accumulates.specs.Widths.{WidthOf};
 use chains::take_group;
 use passes::KNOWN;
 use passes::NARROW;
@@ -45,10 +43,8 @@ pub(crate) fn next_width(test: u8, left: usize) -> usize
 // So many chains, untested. Each number has its own loop, with its sums in registers, and size 1, which has one chain,
 // a loop whose stride is known.
 fn take_known(w: u64, a: &mut [i64], c: usize, d: usize, g: usize) -> usize
-    requires { ⌜ (1 ≤ g) × (c + g ≤ d) × (c + g + d ≤ length (now a)) × Workable w ⌝ }
-    requires { ⌜ KnownWidth g × Each d c (c + g) (length (now a)) (now a) (Inside w d (now a)) ⌝ }
-    ensures { λ r. ⌜ Tested w d c (c + g) r (now (a .entry)) (now (a .exit)) ⌝ }
-    ensures { λ r. ⌜ StoppedBy w d c (now (a .entry)) r ⌝ }
+    requires { ⌜ GroupAsked 0 w d c (c + g) (now a) × WidthOf 0 g ⌝ }
+    ensures { λ r. ⌜ GroupTaken w d c (c + g) (now (a .entry)) (now (a .exit)) r ⌝ }
 {
     if d == 1 {
         return take_group(KNOWN, w, &mut [0; 1], a, 0, 1);
@@ -68,9 +64,8 @@ fn take_known(w: u64, a: &mut [i64], c: usize, d: usize, g: usize) -> usize
 
 // So many chains, at most six, of entries that can all be added.
 fn take_narrow(w: u64, a: &mut [i64], c: usize, d: usize, g: usize) -> usize
-    requires { ⌜ (1 ≤ g) × (g ≤ 6) × (c + g ≤ d) × (c + g + d ≤ length (now a)) × Workable w × Narrow w (now a) ⌝ }
-    ensures { λ r. ⌜ Tested w d c (c + g) r (now (a .entry)) (now (a .exit)) ⌝ }
-    ensures { λ r. ⌜ StoppedBy w d c (now (a .entry)) r ⌝ }
+    requires { ⌜ GroupAsked 1 w d c (c + g) (now a) × WidthOf 1 g ⌝ }
+    ensures { λ r. ⌜ GroupTaken w d c (c + g) (now (a .entry)) (now (a .exit)) r ⌝ }
 {
     match g {
         6 => take_group(NARROW, w, &mut [0; 6], a, c, d),
@@ -84,10 +79,8 @@ fn take_narrow(w: u64, a: &mut [i64], c: usize, d: usize, g: usize) -> usize
 
 // The next group.
 pub(crate) fn take_next(test: u8, w: u64, a: &mut [i64], c: usize, d: usize, g: usize) -> usize
-    requires { ⌜ (1 ≤ g) × (c + g ≤ d) × (c + g + d ≤ length (now a)) × Workable w ⌝ }
-    requires { ⌜ WidthOf test g × AskedOfGroup test w d c (c + g) (now a) ⌝ }
-    ensures { λ r. ⌜ Tested w d c (c + g) r (now (a .entry)) (now (a .exit)) ⌝ }
-    ensures { λ r. ⌜ StoppedBy w d c (now (a .entry)) r ⌝ }
+    requires { ⌜ GroupAsked test w d c (c + g) (now a) × WidthOf test g ⌝ }
+    ensures { λ r. ⌜ GroupTaken w d c (c + g) (now (a .entry)) (now (a .exit)) r ⌝ }
 {
     if test == KNOWN {
         return take_known(w, a, c, d, g);
@@ -101,8 +94,7 @@ pub(crate) fn take_next(test: u8, w: u64, a: &mut [i64], c: usize, d: usize, g: 
 // Where no chain has more than two entries the second ones are neighbours, and what is added to them is not changed.
 pub(crate) fn take_second_row(test: u8, w: u64, a: &mut [i64], d: usize) -> usize
     requires { ⌜ (1 ≤ d) × (d ≤ length (now a)) × Workable w × AskedOfStep test w accumulate d (now a) ⌝ }
-    ensures { λ r. ⌜ Tested w d 0 d r (now (a .entry)) (now (a .exit)) ⌝ }
-    ensures { λ r. ⌜ StoppedBy w d 0 (now (a .entry)) r ⌝ }
+    ensures { λ r. ⌜ GroupTaken w d 0 d (now (a .entry)) (now (a .exit)) r ⌝ }
 {
     let mut x = d;
     while x < a.len() {

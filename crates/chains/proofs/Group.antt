@@ -16,7 +16,7 @@ use Rattle.step_laws.specs.Signed.{range-in}
 use Rattle.step_laws.specs.Tests.{by-order}
 use Rattle.passes.specs.Passes.{addable, Narrow}
 use Rattle.chains.specs.Chains.{sumAt, RowTaken, Each, Taken}
-use Rattle.chains.specs.Tested.{AskedInRow, FoundInRow, Found, AskedOfGroup, Tested, StoppedBy}
+use Rattle.chains.specs.Tested.{AskedInRow, FoundInRow, Found, AskedOfGroup, Tested, GroupTaken}
 
 -- the chains from c on, as many as there are sums, are taken and tested before the row that begins at k
 pub record GroupAt (w d c g k : ℕ) (l a s : List ℤ) : Type 0 where
@@ -148,7 +148,7 @@ module _ (d c g : ℕ) (one : 1 ≤ d) (room : c + g ≤ d) where
     -- its first q entries
     module _ {q : ℕ} {s′ a′ : List ℤ} (r : RowTaken k q s a s′ a′) (most : q ≤ g) (in′ : k + q ≤ length l)
         (found : (j : ℕ) → j < q → FoundInRow w s a k j) where
-      pub row-tested : Tested w d c (c + g) (k + q) l a′
+      row-tested : Tested w d c (c + g) (k + q) l a′
       row-tested =
           record {
             taken = record {
@@ -173,15 +173,18 @@ module _ (d c g : ℕ) (one : 1 ≤ d) (room : c + g ≤ d) where
           t = p .tested .taken
 
       -- the next one would pass w, or there is none
-      pub row-stopped : (k + q < length l → (q < g) × (inRange w (sumAt s a k q) ≡ false)) → StoppedBy w d c l (k + q)
-      row-stopped out = (
-        omega (arith, p .from),
-        in′,
-        λ short. (
-          omega (arith, member k (p .first) q (out short .0)),
-          ap (inRange w) (sym (row-sum q (out short .0) short)) ∙ out short .1,
-        ),
-      )
+      pub row-stopped : (k + q < length l → (q < g) × (inRange w (sumAt s a k q) ≡ false))
+          → GroupTaken w d c (c + g) l a′ (k + q)
+      row-stopped out =
+          record {
+            tested = row-tested;
+            first = omega (arith, p .from);
+            most = in′;
+            over = λ short. (
+              omega (arith, member k (p .first) q (out short .0)),
+              ap (inRange w) (sym (row-sum q (out short .0) short)) ∙ out short .1,
+            );
+          }
 
     -- a whole one
     pub row-ahead : {s′ a′ : List ℤ} → RowTaken k g s a s′ a′ → k + g ≤ length l
@@ -209,22 +212,27 @@ module _ (d c g : ℕ) (one : 1 ≤ d) (room : c + g ≤ d) where
         }
 
     -- past the last one
-    pub group-ended : length l ≤ k → Tested w d c (c + g) (length l) l a
-    group-ended past =
+    pub group-ended : d ≤ length l → length l ≤ k → GroupTaken w d c (c + g) l a (length l)
+    group-ended long past =
         let t = p .tested .taken in
         record {
-          taken = record {
-            len = t .len;
-            new = λ x low high below b. t .new x low high (omega arith) b;
-            lower = t .lower;
-            upper = t .upper;
-            later = λ x h b. absurd (early b h);
+          tested = record {
+            taken = record {
+              len = t .len;
+              new = λ x low high below b. t .new x low high (omega arith) b;
+              lower = t .lower;
+              upper = t .upper;
+              later = λ x h b. absurd (early b h);
+            };
+            found = λ x low high below b. p .tested .found x low high (omega arith) b;
           };
-          found = λ x low high below b. p .tested .found x low high (omega arith) b;
+          first = long;
+          most = omega arith;
+          over = λ short. absurd (early short (omega arith));
         }
 
 -- the same, its numbers written otherwise
-pub settled : {w d c to to′ end end′ : ℕ} {l m : List ℤ} → to ≡ to′ → end ≡ end′ → Tested w d c to end l m
-    → Tested w d c to′ end′ l m
-settled {w} {d} {c} {to} {end′ = end′} {l} {m} e f t =
-    subst (λ x. Tested w d c x end′ l m) e (subst (λ y. Tested w d c to y l m) f t)
+pub settled : {w d c to to′ r r′ : ℕ} {l m : List ℤ} → to ≡ to′ → r ≡ r′ → GroupTaken w d c to l m r
+    → GroupTaken w d c to′ l m r′
+settled {w} {d} {c} {to} {r′ = r′} {l} {m} e f t =
+    subst (λ x. GroupTaken w d c x l m r′) e (subst (GroupTaken w d c to l m) f t)

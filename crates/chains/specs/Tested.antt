@@ -9,6 +9,7 @@ use mir.Syntax.{w64}
 use mir.Val.{SFits}
 use Rattle.definitions.specs.Integers.{0ℤ}
 use Rattle.definitions.specs.Steps.{accumulate, accumulated, inRange, entries}
+use Rattle.step_laws.specs.WorkingLimit.{Workable}
 use Rattle.passes.specs.Passes.{Narrow}
 use Rattle.passes.specs.Asked.{Asked}
 use Rattle.chains.specs.Chains.{sumAt, Each, Taken}
@@ -38,10 +39,17 @@ pub record Tested (w d from to end : ℕ) (l m : List ℤ) : Type 0 where
   pub taken : Taken d from to end l m
   pub found : Each d from to end l (Found w d l)
 
--- the place r at which it stopped, in one of the chains from `from` on: the value there would pass w; or it came to the
--- end
-abbrev pub StoppedBy : ℕ → ℕ → ℕ → List ℤ → ℕ → Type 0
-StoppedBy w d from l r =
-    (d ≤ r)
-    × (r ≤ length l)
-    × (r < length l → (from ≤ r % d) × (inRange w (accumulated d (entries l) r) ≡ false))
+-- what is asked of a group, the chains from `from` on and below `to`
+pub record GroupAsked (t w d from to : ℕ) (l : List ℤ) : Type 0 where
+  pub some : from < to
+  pub room : to ≤ d
+  pub long : to + d ≤ length l
+  pub limit : Workable w
+  pub asked : AskedOfGroup t w d from to l
+
+-- and what comes of it: it is taken up to r, where the value would pass w; or r is the end
+pub record GroupTaken (w d from to : ℕ) (l m : List ℤ) (r : ℕ) : Type 0 where
+  pub tested : Tested w d from to r l m
+  pub first : d ≤ r
+  pub most : r ≤ length l
+  pub over : r < length l → (from ≤ r % d) × (inRange w (accumulated d (entries l) r) ≡ false)

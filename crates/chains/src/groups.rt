@@ -1,20 +1,17 @@
 // A group: neighbouring chains, from that of the remainder c on, side by side and row by row. The last row may be a
 // part of one.
 
-ghost use Prim.Native.Nat.{_+_, _≤_};
+ghost use Prim.Native.Nat.{_+_};
 ghost use lib.ListN.{length};
-ghost use Rattle.step_laws.specs.WorkingLimit.{Workable};
-ghost use Rattle.chains.specs.Tested.{AskedOfGroup, Tested, StoppedBy};
+ghost use Rattle.chains.specs.Tested.{GroupAsked, GroupTaken};
 use crate::rows::first_row;
 use crate::rows::take_row;
 
 // As many chains as there are sums in s, whatever these are, up to the first place whose sum would pass w, which is
 // answered; or all, and the number of entries is.
 pub fn take_group(test: u8, w: u64, s: &mut [i64], a: &mut [i64], c: usize, d: usize) -> usize
-    requires { ⌜ (1 ≤ length (now s)) × (c + length (now s) ≤ d) × (c + length (now s) + d ≤ length (now a)) ⌝ }
-    requires { ⌜ Workable w × AskedOfGroup test w d c (c + length (now s)) (now a) ⌝ }
-    ensures { λ r. ⌜ Tested w d c (c + length (now (s .entry))) r (now (a .entry)) (now (a .exit)) ⌝ }
-    ensures { λ r. ⌜ StoppedBy w d c (now (a .entry)) r ⌝ }
+    requires { ⌜ GroupAsked test w d c (c + length (now s)) (now a) ⌝ }
+    ensures { λ r. ⌜ GroupTaken w d c (c + length (now (s .entry))) (now (a .entry)) (now (a .exit)) r ⌝ }
 {
     first_row(s, a, c);
     let mut k = c + d;

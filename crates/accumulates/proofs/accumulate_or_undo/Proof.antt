@@ -38,7 +38,7 @@ returns-2 c =
     let t = c .before .before .take-second-row in
     let p = c .before .before .before .before .before in
     all-tested (p .pre .0) (omega arith)
-    (settled refl (omega (arith, t .ensures .0 .taken .len)) (t .ensures .0))
+    (settled refl (omega (arith, t .ensures .tested .taken .len)) (t .ensures) .tested)
 
 -- where it stopped short
 module _ (c : tie.Else2) where
@@ -54,17 +54,17 @@ module _ (c : tie.Else2) where
   found : Stopped (p .args .d) 0 (p .args .d) stop (p .args .a .now) left
   found =
       stopped (p .pre .0) (none-tested (p .args .w) (p .args .d) (p .args .a .now)) (omega arith)
-      (c .before .before .take-second-row .ensures .0)
+      (c .before .before .take-second-row .ensures .tested)
 
 undo-requires : tie.Need-undo-requires
 undo-requires c κs =
     let e = c .before in
-    let t = e .before .before .take-second-row .ensures .1 in (
+    let t = e .before .before .take-second-row .ensures in (
       p e .pre .0,
       omega arith,
       omega arith,
-      t .0,
-      omega (arith, t .1, found e .len),
+      t .first,
+      omega (arith, t .most, found e .len),
       record { before = p e .args .a .now; stopped = found e },
     )
 
@@ -75,9 +75,9 @@ returns-3 : tie.Need-returns-3
 unfolding stepped
 returns-3 c =
     let e = c .before .before .before in
-    let t = e .before .before .take-second-row .ensures .1 in
-    let short : stop e < length (p e .args .a .now) = omega (arith, t .1, found e .len) in
-    undone (stop e) (t .0) short (t .2 short .1) (c .before .undo .ensures (p e .args .a .now) (found e))
+    let t = e .before .before .take-second-row .ensures in
+    let short : stop e < length (p e .args .a .now) = omega (arith, t .most, found e .len) in
+    undone (stop e) (t .first) short (t .over short .1) (c .before .undo .ensures (p e .args .a .now) (found e))
 
 pub accumulate-or-undo-spec : {M : Type 1} → statement M
 accumulate-or-undo-spec =

@@ -42,13 +42,14 @@ take-next-requires c κs =
     let n = g .before in
     let p = n .before .pre in
     let t = g .loop .inv .1 in (
-      (
-        w .0,
-        omega (arith, w .1, n .smaller .ensures),
-        omega (arith, w .1, n .smaller .ensures, t .taken .len),
-        p .2,
-      ),
-      (w .2, asked-still (p .0) t _ (n .before .args .test) (p .3)),
+      record {
+        some = omega (arith, w .0);
+        room = omega (arith, w .1, n .smaller .ensures);
+        long = omega (arith, w .1, n .smaller .ensures, t .taken .len);
+        limit = p .2;
+        asked = asked-still (p .0) t _ (n .before .args .test) (p .3);
+      },
+      w .2,
     )
 
 -- what stands where a group stopped short
@@ -61,7 +62,7 @@ put-back : (c : tie.Then1 Inv-loop μ-loop)
     (c .before .before .take-next .last .1 .1 .0)
 put-back c =
     let g = c .before .before .before .before .before .before in
-    stopped (g .before .before .pre .0) (g .loop .inv .1) (omega arith) (c .before .before .take-next .ensures .0)
+    stopped (g .before .before .pre .0) (g .loop .inv .1) (omega arith) (c .before .before .take-next .ensures .tested)
 
 add-undo : tie.Need-add-undo Inv-loop μ-loop
 add-undo c =
@@ -70,14 +71,14 @@ add-undo c =
 undo-requires : tie.Need-undo-requires Inv-loop μ-loop
 undo-requires c κs =
     let w = c .before .before .before .before .before .next-width .ensures in
-    let at = c .before .before .before .take-next .ensures .1 in
+    let at = c .before .before .before .take-next .ensures in
     let n = c .before .before .before .before .before .before .before .before in
     let p = n .before in (
       p .pre .0,
       omega arith,
       omega (arith, w .1, n .smaller .ensures),
-      at .0,
-      omega (arith, at .1),
+      at .first,
+      omega (arith, at .most),
       record { before = p .args .a .now; stopped = put-back (c .before) },
     )
 
@@ -94,11 +95,11 @@ returns c =
     let g = i .before .before .before .before .before .before in
     let p = g .before .before in
     let q = g .loop .inv .1 in
-    let at = t .ensures .1 in
+    let at = t .ensures in
     let short : t .result < length (g .loop .a) = omega arith in
     let in′ : t .result < length (p .args .a .now) = omega (arith, q .taken .len) in
-    let out = at .2 short in
-    undone (t .result) (at .0) in′
+    let out = at .over short in
+    undone (t .result) (at .first) in′
     (ap (inRange (p .args .w)) (sym (same-new (p .pre .0) (q .taken) (t .result) (out .0) in′)) ∙ out .1)
     (c .before .undo .ensures (p .args .a .now) (put-back i))
 
@@ -114,7 +115,7 @@ loop-again c =
     let g = c .before .before .before .before .before .before in (
       omega (arith, c .before .before .before .before .next-width .ensures .1),
       tested-after (g .before .before .pre .0) (g .loop .inv .1) (omega arith)
-          (settled refl (omega (arith, t .ensures .1 .1)) (t .ensures .0)),
+          (settled refl (omega (arith, t .ensures .most)) (t .ensures) .tested),
     )
 
 same-length-2 : tie.Need-same-length-2 Inv-loop μ-loop

@@ -9,8 +9,7 @@ use Rattle.accumulates.proofs.forward.take_next.Statement.{statement}
 use Rattle.accumulates.proofs.forward.take_next.Tie as tie
 
 take-known-requires : tie.Need-take-known-requires
-take-known-requires c κs =
-    let p = c .before .before .pre in (p .0, rw (c .before .if1 .taken) at (p .1))
+take-known-requires c κs = rw (c .before .if1 .taken) at (c .before .before .pre)
 
 same-length : tie.Need-same-length
 same-length c = search needs
@@ -19,10 +18,7 @@ returns : tie.Need-returns
 returns c = search needs
 
 take-narrow-requires : tie.Need-take-narrow-requires
-take-narrow-requires c κs =
-    let p = c .before .before .before .pre in
-    let q = rw (c .before .if2 .taken) at (p .1) in
-    (p .0 .0, q .0, p .0 .1, p .0 .2, p .0 .3, q .1)
+take-narrow-requires c κs = rw (c .before .if2 .taken) at (c .before .before .before .pre)
 
 same-length-2 : tie.Need-same-length-2
 same-length-2 c = search needs
@@ -34,22 +30,27 @@ slice-aggregate-take-group : tie.Need-slice-aggregate-take-group
 slice-aggregate-take-group c = search needs
 
 one : (c : tie.Else2) → c .before .before .args .g ≡ 1
-one c = one-wide (c .before .before .args .test) (c .before .if1 .left) (c .if2 .left) (c .before .before .pre .1 .0)
+one c = one-wide (c .before .before .args .test) (c .before .if1 .left) (c .if2 .left) (c .before .before .pre .1)
 
 take-group-requires : tie.Need-take-group-requires
 take-group-requires c κs =
     let e = one (c .before .before) in
-    let p = c .before .before .before .before .pre in
-    ((omega arith, omega (arith, e, p .0), omega (arith, e, p .0)), (p .0 .3, tt))
+    let p = c .before .before .before .before .pre .0 in
+    record {
+      some = omega arith;
+      room = omega (arith, e, p .room);
+      long = omega (arith, e, p .long);
+      limit = p .limit;
+      asked = tt;
+    }
 
 same-length-3 : tie.Need-same-length-3
 same-length-3 c = search needs
 
 returns-3 : tie.Need-returns-3
 returns-3 c =
-    let t = c .before .before .take-group in
     let e = c .before .before .before .before .before in
-    (settled (ap (λ x. e .before .before .args .c + x) (sym (one e))) refl (t .ensures .0), t .ensures .1)
+    settled (ap (λ x. e .before .before .args .c + x) (sym (one e))) refl (c .before .before .take-group .ensures)
 
 pub take-next-spec : {M : Type 1} → statement M
 take-next-spec =

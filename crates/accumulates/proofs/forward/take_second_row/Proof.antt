@@ -68,19 +68,18 @@ returns c =
     let g = c .before .before .before .before .before in
     let p = g .before in
     let i = g .loop .inv in
-    let s = c .before .before .step-entry-within in (
-      rw (refused c) (sofar g),
-      (
-        i .0,
-        i .1,
-        λ short. (
-          omega arith,
-          ap (inRange (p .args .w))
-              (sym (second-is (p .args .d) (p .pre .0) (p .args .a .now) (i .2) (i .0) short))
-              ∙ sym (rw (not-true (s .result) (c .if1 .taken)) at (s .ensures .0 .0)),
-        ),
-      ),
-    )
+    let s = c .before .before .step-entry-within in
+    record {
+      tested = rw (refused c) (sofar g);
+      first = i .0;
+      most = i .1;
+      over = λ short. (
+        omega arith,
+        ap (inRange (p .args .w))
+            (sym (second-is (p .args .d) (p .pre .0) (p .args .a .now) (i .2) (i .0) short))
+            ∙ sym (rw (not-true (s .result) (c .if1 .taken)) at (s .ensures .0 .0)),
+      );
+    }
 
 add-x : tie.Need-add-x Inv-loop μ-loop
 add-x c = omega arith
@@ -122,7 +121,7 @@ returns-2 : tie.Need-returns-2 Inv-loop μ-loop
 returns-2 c =
     let g = c .before in
     let i = g .loop .inv in
-    (sofar g, (i .0, i .1, λ short. absurd (none c short)))
+    record { tested = sofar g; first = i .0; most = i .1; over = λ short. absurd (none c short) }
 
 pub take-second-row-spec : {M : Type 1} → statement M
 take-second-row-spec =

@@ -9,8 +9,8 @@ use lib.ListN.{length}
 use lib.IntN.{ℤ}
 use Rattle.definitions.specs.Steps.{inRange}
 use Rattle.chains.specs.Chains.{sumAt, RowTaken}
-use Rattle.chains.specs.Tested.{AskedOfGroup, AskedInRow, FoundInRow, Tested, StoppedBy}
-use Rattle.chains.proofs.Group.{GroupAt, group-start, asked-row, row-tested, row-stopped, row-ahead, group-ended}
+use Rattle.chains.specs.Tested.{AskedOfGroup, AskedInRow, FoundInRow, GroupTaken}
+use Rattle.chains.proofs.Group.{GroupAt, group-start, asked-row, row-stopped, row-ahead, group-ended}
 use Rattle.chains.proofs.Group.{settled}
 use Rattle.chains.proofs.groups.take_group.Statement.{statement}
 use Rattle.chains.proofs.groups.take_group.Tie as tie
@@ -63,12 +63,12 @@ asked c j h b =
     let p = start e in
     asked-row (p .args .d) (p .args .c) (many e) (some e) (room e) (c .loop .k) (c .loop .inv) (p .args .test)
     (subst (λ x. AskedOfGroup (p .args .test) (p .args .w) (p .args .d) (p .args .c) (p .args .c + x) (p .args .a .now))
-    (sym (same e)) (p .pre .1 .1)) j (omega (arith, c .loop .inv .many)) b
+    (sym (same e)) (p .pre .asked)) j (omega (arith, c .loop .inv .many)) b
 
 take-row-requires : tie.Need-take-row-requires Inv-loop μ-loop
 take-row-requires c κs =
     let g = c .before .before .before in (
-      (omega arith, omega arith, start (g .before) .pre .1 .0),
+      (omega arith, omega arith, start (g .before) .pre .limit),
       λ j h. asked g j h (omega (arith, g .loop .inv .tested .taken .len)),
     )
 
@@ -86,24 +86,18 @@ module _ (g : tie.At-loop Inv-loop μ-loop) where
   abbrev p : tie.Start Inv-loop μ-loop
   p = start (g .before)
 
-  none : length (g .loop .a) < length (p .args .a .now) → ⊥
-  none h = omega (arith, g .loop .inv .tested .taken .len)
-
   stopped : {q : ℕ} {s′ a′ : List ℤ} → RowTaken (g .loop .k) q (g .loop .s) (g .loop .a) s′ a′ → q ≤ many (g .before)
       → g .loop .k + q ≤ length (p .args .a .now)
       → ((j : ℕ) → j < q → FoundInRow (p .args .w) (g .loop .s) (g .loop .a) (g .loop .k) j)
       → (g .loop .k + q < length (p .args .a .now)
       → (q < many (g .before)) × (inRange (p .args .w) (sumAt (g .loop .s) (g .loop .a) (g .loop .k) q) ≡ false))
-      → Tested (p .args .w) (p .args .d) (p .args .c) (p .args .c + length (p .args .s .now)) (g .loop .k + q)
-      (p .args .a .now) a′
-      × StoppedBy (p .args .w) (p .args .d) (p .args .c) (p .args .a .now) (g .loop .k + q)
+      → GroupTaken (p .args .w) (p .args .d) (p .args .c) (p .args .c + length (p .args .s .now)) (p .args .a .now) a′
+      (g .loop .k + q)
   stopped r most in′ found out =
       let e = g .before in
-      let q = p .args in (
-        settled (ap (λ x. q .c + x) (same e)) refl
-            (row-tested (q .d) (q .c) (many e) (some e) (room e) (g .loop .k) (g .loop .inv) r most in′ found),
-        row-stopped (q .d) (q .c) (many e) (some e) (room e) (g .loop .k) (g .loop .inv) r most in′ found out,
-      )
+      let q = p .args in
+      settled (ap (λ x. q .c + x) (same e)) refl
+      (row-stopped (q .d) (q .c) (many e) (some e) (room e) (g .loop .k) (g .loop .inv) r most in′ found out)
 
 returns : tie.Need-returns Inv-loop μ-loop
 returns c =
@@ -143,11 +137,10 @@ returns-2 c =
     let g = c .before .before in
     let e = g .before in
     let p = start e .args in
-    let i = g .loop .inv in (
-      settled (ap (λ x. p .c + x) (same e)) (sym (i .tested .taken .len))
-          (group-ended (p .d) (p .c) (many e) (some e) (room e) (g .loop .k) i (omega (arith, i .tested .taken .len))),
-      (omega (arith, i .tested .taken .len), omega (arith, i .tested .taken .len), λ short. absurd (none g short)),
-    )
+    let i = g .loop .inv in
+    settled (ap (λ x. p .c + x) (same e)) (sym (i .tested .taken .len))
+    (group-ended (p .d) (p .c) (many e) (some e) (room e) (g .loop .k) i (omega arith)
+    (omega (arith, i .tested .taken .len)))
 
 sub-take-row : tie.Need-sub-take-row Inv-loop μ-loop
 sub-take-row c = omega arith
@@ -155,7 +148,7 @@ sub-take-row c = omega arith
 take-row-requires-2 : tie.Need-take-row-requires-2 Inv-loop μ-loop
 take-row-requires-2 c κs =
     let g = c .before .before .before .before in (
-      (omega arith, omega arith, start (g .before) .pre .1 .0),
+      (omega arith, omega arith, start (g .before) .pre .limit),
       λ j h. asked g j (omega arith) (omega (arith, g .loop .inv .tested .taken .len)),
     )
 
