@@ -2,6 +2,7 @@
 -- tested.
 use Prim.Native.Nat.{ℕ, _+_, _-_, _<_, _≤_}
 use mathlib.Core.Path.{_≡_, sym, _∙_, ap, subst}
+use mathlib.Core.Bool.{true}
 use native.Mathlib.Nat.{not-suc-le-zero}
 use native.Mathlib.Omega.{arith}
 use borrow.Author.Tests.{not-true, not-false}
@@ -84,7 +85,7 @@ loop-again c =
     let g = c .before .before .before .before .before .before .before .before in
     let p = g .before .args in
     let r = g .loop .inv .1 in
-    let yes = not-false _ (c .if2 .left) in (
+    let yes : t .result ≡ true = not-false _ (c .if2 .left) in (
       omega arith,
       row-took r (omega (arith, r .sums)) (omega (arith, r .len)) (t .result) (t .ensures .1 .0) (t .ensures .1 .1) yes,
       λ j h.
