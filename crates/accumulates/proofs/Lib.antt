@@ -1,5 +1,4 @@
 -- Laws that the functions' proofs share.
-mod OneChain
 mod Pass
 mod TestedPass
 mod SecondRow

@@ -1,3 +1,2 @@
--- What the contracts of `accumulates` cite beside `definitions`, `passes` and `chains`.
-pub mod Widths
+-- What the contracts of `accumulates` cite beside those of the crates beneath it.
 pub mod Stopped

@@ -2,7 +2,7 @@
 // a time as have their sums in registers: up to the first value that would pass the working limit w, and back.
 
 mod back;
-mod forward;
+mod second;
 
 ghost use Prim.Native.Nat.{_≤_};
 ghost use lib.ListN.{length};
@@ -11,10 +11,10 @@ ghost use Rattle.step_laws.specs.WorkingLimit.{Workable};
 ghost use Rattle.passes.specs.Asked.{AskedOfStep};
 ghost use Rattle.passes.specs.Passes.{SteppedOrUndone};
 use back::undo;
-use forward::next_width;
-use forward::take_next;
-use forward::take_second_row;
+use groups::next_width;
+use groups::take_next;
 use heights::smaller;
+use second::take_second_row;
 
 // The chains that have more than one entry, group by group.
 fn chains_or_undo(test: u8, w: u64, a: &mut [i64], d: usize) -> bool

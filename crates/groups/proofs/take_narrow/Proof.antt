@@ -1,12 +1,12 @@
--- `accumulates::forward::take_narrow` meets its contract: each arm takes as many chains as it has sums.
+-- `groups::take_narrow` meets its contract: each arm takes as many chains as it has sums.
 use mathlib.Core.Path.{_≡_, refl, sym, ap, subst}
 use Prim.Native.Nat.{ℕ, _+_}
 use native.Mathlib.Omega.{arith}
 use borrow.Author.Needs.{needs}
 use Rattle.chains.specs.Tested.{GroupAsked}
 use Rattle.chains.proofs.Group.{settled}
-use Rattle.accumulates.proofs.forward.take_narrow.Statement.{statement}
-use Rattle.accumulates.proofs.forward.take_narrow.Tie as tie
+use Rattle.groups.proofs.take_narrow.Statement.{statement}
+use Rattle.groups.proofs.take_narrow.Tie as tie
 
 -- what is asked of a group of so many chains
 asked : (p : tie.Start) {n : ℕ} → p .args .g ≡ n

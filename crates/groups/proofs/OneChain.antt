@@ -2,7 +2,7 @@
 use mathlib.Core.Path.{_≡_, refl}
 use Prim.Native.Nat.{ℕ, zero, suc, _≤_, _<_}
 use native.Mathlib.Omega.{arith}
-use Rattle.accumulates.specs.Widths.{WidthOf}
+use Rattle.groups.specs.Widths.{WidthOf}
 
 module _ {g : ℕ} where
   pub less : {n : ℕ} → g ≤ n → (g ≡ n → ⊥) → g < n

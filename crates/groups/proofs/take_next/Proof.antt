@@ -1,12 +1,12 @@
--- `accumulates::forward::take_next` meets its contract: each way to test has its own groups.
+-- `groups::take_next` meets its contract: each way to test has its own groups.
 use mathlib.Core.Path.{_≡_, refl, sym, ap}
 use Prim.Native.Nat.{_+_}
 use native.Mathlib.Omega.{arith}
 use borrow.Author.Needs.{needs}
 use Rattle.chains.proofs.Group.{settled}
-use Rattle.accumulates.proofs.OneChain.{one-wide}
-use Rattle.accumulates.proofs.forward.take_next.Statement.{statement}
-use Rattle.accumulates.proofs.forward.take_next.Tie as tie
+use Rattle.groups.proofs.OneChain.{one-wide}
+use Rattle.groups.proofs.take_next.Statement.{statement}
+use Rattle.groups.proofs.take_next.Tie as tie
 
 take-known-requires : tie.Need-take-known-requires
 take-known-requires c κs = rw (c .before .if1 .taken) at (c .before .before .pre)

@@ -1,24 +1,18 @@
-// The way forward: the next group of chains, or the second row, up to the first value that would pass the working limit
-// w. The way to test is a constant where a group is called.
+// Inner: each `requires` is shown by the caller `accumulates`. The next group of an accumulate's chains: how many it
+// has, by how it is tested, and the loop for so many. The way to test is a constant where a group is called.
 
 ghost use Prim.Native.Nat.{_+_, _≤_};
-ghost use lib.ListN.{length};
-ghost use Rattle.definitions.specs.Steps.{accumulate};
-ghost use Rattle.step_laws.specs.WorkingLimit.{Workable};
-ghost use Rattle.passes.specs.Asked.{AskedOfStep};
 ghost use Rattle.chains.specs.Tested.{GroupAsked, GroupTaken};
-ghost use Rattle.accumulates.specs.Widths.{WidthOf};
+ghost use Rattle.groups.specs.Widths.{WidthOf};
 use chains::take_group;
 use passes::KNOWN;
 use passes::NARROW;
-use passes::Sort;
 use passes::WIDE;
-use passes::step_entry_within;
 
 // How many chains the next group has, of those that are left: untested, sixteen, or at most eight; tested, at most six,
 // since beside what the test needs the registers hold no more sums; one where each sum is first asked for whether it
 // can be taken.
-pub(crate) fn next_width(test: u8, left: usize) -> usize
+pub fn next_width(test: u8, left: usize) -> usize
     requires { ⌜ 1 ≤ left ⌝ }
     ensures { λ r. ⌜ (1 ≤ r) × (r ≤ left) × WidthOf test r ⌝ }
 {
@@ -78,7 +72,7 @@ fn take_narrow(w: u64, a: &mut [i64], c: usize, d: usize, g: usize) -> usize
 }
 
 // The next group.
-pub(crate) fn take_next(test: u8, w: u64, a: &mut [i64], c: usize, d: usize, g: usize) -> usize
+pub fn take_next(test: u8, w: u64, a: &mut [i64], c: usize, d: usize, g: usize) -> usize
     requires { ⌜ GroupAsked test w d c (c + g) (now a) × WidthOf test g ⌝ }
     ensures { λ r. ⌜ GroupTaken w d c (c + g) (now (a .entry)) (now (a .exit)) r ⌝ }
 {
@@ -89,19 +83,4 @@ pub(crate) fn take_next(test: u8, w: u64, a: &mut [i64], c: usize, d: usize, g: 
         return take_narrow(w, a, c, d, g);
     }
     take_group(WIDE, w, &mut [0; 1], a, c, d)
-}
-
-// Where no chain has more than two entries the second ones are neighbours, and what is added to them is not changed.
-pub(crate) fn take_second_row(test: u8, w: u64, a: &mut [i64], d: usize) -> usize
-    requires { ⌜ (1 ≤ d) × (d ≤ length (now a)) × Workable w × AskedOfStep test w accumulate d (now a) ⌝ }
-    ensures { λ r. ⌜ GroupTaken w d 0 d (now (a .entry)) (now (a .exit)) r ⌝ }
-{
-    let mut x = d;
-    while x < a.len() {
-        if !step_entry_within(Sort::Accumulate, test, w, a, x, d) {
-            return x;
-        }
-        x += 1;
-    }
-    x
 }

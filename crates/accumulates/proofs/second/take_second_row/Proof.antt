@@ -1,4 +1,4 @@
--- `accumulates::forward::take_second_row` meets its contract. The loop's invariant: the entries below x are the
+-- `accumulates::second::take_second_row` meets its contract. The loop's invariant: the entries below x are the
 -- accumulate's, and tested.
 use Prim.Native.Nat.{ℕ, _+_, _-_, _<_, _≤_}
 use mathlib.Core.Path.{_≡_, refl, sym, _∙_, ap, subst}
@@ -12,8 +12,8 @@ use Rattle.passes.specs.Passes.{Split}
 use Rattle.passes.proofs.Split.{moved-up}
 use Rattle.chains.specs.Tested.{Found, Tested}
 use Rattle.accumulates.proofs.SecondRow.{second-start, second-is, second-tested, asked-second}
-use Rattle.accumulates.proofs.forward.take_second_row.Statement.{statement}
-use Rattle.accumulates.proofs.forward.take_second_row.Tie as tie
+use Rattle.accumulates.proofs.second.take_second_row.Statement.{statement}
+use Rattle.accumulates.proofs.second.take_second_row.Tie as tie
 
 abbrev Inv-loop : tie.InvT-loop
 Inv-loop test w a₀ d x₀ a x =

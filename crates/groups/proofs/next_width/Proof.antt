@@ -1,10 +1,10 @@
--- `accumulates::forward::next_width` meets its contract: of each way to test, the widths that there are loops for.
+-- `groups::next_width` meets its contract: of each way to test, the widths that there are loops for.
 use mathlib.Core.Path.{_≡_, refl}
 use Prim.Native.Nat.{ℕ, zero, suc, _≤_}
 use native.Mathlib.Omega.{arith}
-use Rattle.accumulates.specs.Widths.{WidthOf}
-use Rattle.accumulates.proofs.forward.next_width.Statement.{statement}
-use Rattle.accumulates.proofs.forward.next_width.Tie as tie
+use Rattle.groups.specs.Widths.{WidthOf}
+use Rattle.groups.proofs.next_width.Statement.{statement}
+use Rattle.groups.proofs.next_width.Tie as tie
 
 returns : tie.Need-returns
 returns c = rw (c .before .if1 .taken) (omega arith, omega arith, (omega arith, λ h. omega arith))

@@ -1,4 +1,4 @@
--- `accumulates::forward::take_known` meets its contract: each arm takes as many chains as it has sums, and of size 1
+-- `groups::take_known` meets its contract: each arm takes as many chains as it has sums, and of size 1
 -- there is one chain, the first.
 use mathlib.Core.Path.{_≡_, refl, sym, ap, subst}
 use Prim.Native.Nat.{ℕ, _+_}
@@ -6,9 +6,9 @@ use native.Mathlib.Omega.{arith}
 use borrow.Author.Needs.{needs}
 use Rattle.chains.specs.Tested.{GroupAsked}
 use Rattle.chains.proofs.Group.{settled}
-use Rattle.accumulates.proofs.OneChain.{less, one-left}
-use Rattle.accumulates.proofs.forward.take_known.Statement.{statement}
-use Rattle.accumulates.proofs.forward.take_known.Tie as tie
+use Rattle.groups.proofs.OneChain.{less, one-left}
+use Rattle.groups.proofs.take_known.Statement.{statement}
+use Rattle.groups.proofs.take_known.Tie as tie
 
 -- what is asked of a group of so many chains
 asked : (p : tie.Start) {n : ℕ} → p .args .g ≡ n
