@@ -1,3 +1,5 @@
 -- Laws that the functions' proofs share.
-mod Fitting
-mod OneChain
+mod Pass
+mod TestedPass
+mod SecondRow
+mod PutBack

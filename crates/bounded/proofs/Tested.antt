@@ -48,3 +48,8 @@ module _ {s : Sort} {d : ℕ} {l m : List ℤ} where
       → StepOutcomeIs w s d b l m (record { over = not r; bound = max b w })
   either true t h = done t refl (omega arith) h
   either false t h = undone t refl (λ k. omega arith)
+
+  -- where it is known that none passes the limit
+  pub known : {w : ℕ} (r : Bool) → SteppedOrUndone w s d l m r → stepOver w s d l ≡ false → m ≡ stepList s d l
+  known true t none = t .leaves
+  known false t none = absurd (true≢false (sym (t .over) ∙ none))

@@ -1,24 +1,26 @@
 // Inner: nothing here is offered to callers; the `requires` is shown by `outlines` and `steps`. One step under a
 // working limit w, on entries whose magnitudes are bounded: where none can pass w it needs no test, and where all can
 // be added and taken away it needs that of w alone.
-use accumulates::accumulate;
-use combs::comb;
+use accumulates::accumulate_or_undo;
 use combs::comb_or_undo;
 use heights::larger;
 use heights::magnitude;
 use heights::smaller;
 use passes::ADDABLE;
+use passes::KNOWN;
+use passes::NARROW;
 use passes::Sort;
-use tested_accumulates::accumulate_or_undo;
+use passes::WIDE;
 ghost use Prim.Native.Nat.{ℕ, _+_, _*_, _≤_, _<_};
 ghost use mathlib.Core.Path.{_≡_};
-ghost use mathlib.Core.Bool.{true, false};
+ghost use mathlib.Core.Bool.{true};
 ghost use lib.ListN.{length};
-ghost use Rattle.definitions.specs.Steps.{entries, largest, stepOver, stepList};
+ghost use Rattle.definitions.specs.Steps.{entries};
 ghost use Rattle.step_laws.specs.Bound.{Bounded, growth};
 ghost use Rattle.step_laws.specs.WorkingLimit.{Workable};
 ghost use Rattle.passes.specs.Sorts.{sortMeans};
-ghost use Rattle.passes.specs.Passes.{addable, Narrow, SteppedOrUndone};
+ghost use Rattle.passes.specs.Asked.{AskedOfStep};
+ghost use Rattle.passes.specs.Passes.{addable, SteppedOrUndone};
 ghost use Rattle.bounded.specs.Outcome.{StepOutcomeIs};
 
 // The outcome of one step: a value that passes the working limit, or the bound of the magnitudes after it.
@@ -53,25 +55,14 @@ pub fn stays_within(bound: u64, times: u64, w: u64) -> bool
     bound <= (w - bound) / times
 }
 
-// The step of either sort, of which it is known that no value leaves the range.
-fn untested_step(sort: Sort, a: &mut [i64], d: usize)
-    requires { ⌜ (1 ≤ d) × (d < length (now a)) × (stepOver largest (sortMeans sort) d (now a) ≡ false) ⌝ }
-    ensures { λ _. ⌜ now (a .exit) ≡ stepList (sortMeans sort) d (now (a .entry)) ⌝ }
-{
-    match sort {
-        Sort::Comb => comb(a, d),
-        Sort::Accumulate => accumulate(a, d),
-    }
-}
-
 // The step of either sort, whole; or, where a value passes w, nothing.
-fn step_or_undo(sort: Sort, narrow: bool, w: u64, a: &mut [i64], d: usize) -> bool
-    requires { ⌜ (1 ≤ d) × (d ≤ length (now a)) × Workable w × (narrow ≡ true → Narrow w (now a)) ⌝ }
+fn step_or_undo(sort: Sort, test: u8, w: u64, a: &mut [i64], d: usize) -> bool
+    requires { ⌜ (1 ≤ d) × (d ≤ length (now a)) × Workable w × AskedOfStep test w (sortMeans sort) d (now a) ⌝ }
     ensures { λ r. ⌜ SteppedOrUndone w (sortMeans sort) d (now (a .entry)) (now (a .exit)) r ⌝ }
 {
     match sort {
-        Sort::Comb => comb_or_undo(narrow, w, a, d),
-        Sort::Accumulate => accumulate_or_undo(narrow, w, a, d),
+        Sort::Comb => comb_or_undo(test, w, a, d),
+        Sort::Accumulate => accumulate_or_undo(test, w, a, d),
     }
 }
 
@@ -80,7 +71,7 @@ fn take_wide(a: &mut [i64], sort: Sort, d: u64, bound: u64, w: u64) -> StepOutco
     requires { ⌜ (1 ≤ d) × (d < length (now a)) × Bounded bound (entries (now a)) × Workable w ⌝ }
     ensures { λ r. ⌜ StepOutcomeIs w (sortMeans sort) d bound (now (a .entry)) (now (a .exit)) r ⌝ }
 {
-    let done = step_or_undo(sort, false, w, a, d as usize);
+    let done = step_or_undo(sort, WIDE, w, a, d as usize);
     StepOutcome {
         over: !done,
         bound: larger(bound, w),
@@ -95,7 +86,7 @@ fn take_narrow(a: &mut [i64], sort: Sort, d: u64, bound: u64, w: u64) -> StepOut
     ensures { λ r. ⌜ StepOutcomeIs w (sortMeans sort) d bound (now (a .entry)) (now (a .exit)) r ⌝ }
 {
     let most = smaller(w, ADDABLE);
-    if step_or_undo(sort, true, most, a, d as usize) {
+    if step_or_undo(sort, NARROW, most, a, d as usize) {
         return StepOutcome {
             over: false,
             bound: larger(bound, most),
@@ -119,7 +110,7 @@ pub fn take_bounded(a: &mut [i64], sort: Sort, d: u64, bound: u64, w: u64) -> St
     let times = times_added(sort, d, n);
     if stays_within(bound, times, w) {
         let grown = bound * times + bound;
-        untested_step(sort, a, d as usize);
+        step_or_undo(sort, KNOWN, w, a, d as usize);
         return StepOutcome {
             over: false,
             bound: grown,

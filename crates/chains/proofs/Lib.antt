@@ -1,5 +1,3 @@
--- Laws that the functions' proofs share, here and in the crates above.
-pub mod RowTaken
+-- Laws that the functions' proofs share, here, in `groups` and in `accumulates`.
+mod RowTaken
 pub mod Group
-pub mod Pass
-pub mod SecondRow

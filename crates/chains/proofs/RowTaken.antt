@@ -8,6 +8,7 @@ use native.Mathlib.Omega.{arith}
 use lib.ListN.{length, getD, set, length-set}
 use lib.IntN.{ℤ}
 use Rattle.definitions.specs.Integers.{0ℤ}
+use Rattle.definitions.specs.Steps.{inRange}
 use Rattle.passes.proofs.Split.{getD-set-by}
 use Rattle.chains.specs.Chains.{sumAt, RowTaken}
 
@@ -27,8 +28,12 @@ module _ {k q : ℕ} {s a s′ a′ : List ℤ} (r : RowTaken k q s a s′ a′)
   pub next-old : getD a′ (k + q) 0ℤ ≡ getD a (k + q) 0ℤ
   next-old = r .others (k + q) (λ from below. omega arith)
 
-  pub next-sum : sumAt s′ a′ k q ≡ sumAt s a k q
+  next-sum : sumAt s′ a′ k q ≡ sumAt s a k q
   next-sum = rw (next-old, r .waiting q (omega arith))
+
+  -- so its test is that of the row's own value
+  pub next-told : (w : ℕ) {t b : Bool} → t ≡ inRange w (sumAt s′ a′ k q) → t ≡ b → inRange w (sumAt s a k q) ≡ b
+  next-told w told e = ap (inRange w) (sym next-sum) ∙ sym told ∙ e
 
   module _ (b : q < length s) (c : k + q < length a) where
     abbrev v : ℤ

@@ -1,11 +1,8 @@
-// Inner: each `requires` is shown by the callers `accumulates` and `tested_chains`. A group of neighbouring chains
-// of an accumulate, side by side: the entries whose places leave one remainder of division by d are taken together,
-// with a running sum, so that each is read once and written once, and what was stored is never read back.
+// Inner: each `requires` is shown by the caller `groups`. A group of neighbouring chains of an accumulate, side by
+// side: the entries whose places leave one remainder of division by d are taken together, with a running sum, so that
+// each is read once and written once, and what was stored is never read back.
 
 mod groups;
 mod rows;
-mod widths;
 
 pub use groups::take_group;
-pub use rows::first_row;
-pub use widths::longer_chains;

@@ -3,7 +3,7 @@
 use mathlib.Core.Path.{_≡_, sym, _∙_, ap, subst}
 use mathlib.Core.Bool.{true}
 use mathlib.Core.List.{List}
-use Prim.Native.Nat.{ℕ, _+_, _<_, _≤_}
+use Prim.Native.Nat.{ℕ, zero, suc, _+_, _-_, _<_, _≤_}
 use native.Mathlib.Nat.{not-le-of-lt}
 use native.Mathlib.Omega.{arith}
 use lib.ListN.{length, set, List·getD-eq-default}
@@ -14,8 +14,10 @@ use Rattle.definitions.specs.Integers.{0ℤ}
 use Rattle.definitions.specs.Steps.{comb, accumulate, stepped, inRange, entries}
 use Rattle.step_laws.specs.Bound.{Bounded}
 use Rattle.step_laws.specs.Signed.{range-in}
+use Rattle.step_laws.specs.Step.{not-over-each}
 use Rattle.step_laws.specs.Tests.{by-order}
 use Rattle.passes.specs.Passes.{newEntry, addable, Narrow}
+use Rattle.passes.specs.Asked.{AskedAt, AskedOfStep}
 use Rattle.combs.specs.Combs.{ReadTo, TestedTo}
 use Rattle.combs.proofs.CombedTo.{start, new-is, next, back, old-is}
 
@@ -53,7 +55,7 @@ module _ {w d : ℕ} {l m : List ℤ} {i : ℕ} (p : TestedTo w d l m i) where
       }
 
   -- each entry is an old one or a value within w
-  pub still-small : Narrow w l → Bounded addable (entries m)
+  still-small : Narrow w l → Bounded addable (entries m)
   unfolding entries
   still-small n k =
       by-order k (length l)
@@ -61,6 +63,15 @@ module _ {w d : ℕ} {l m : List ℤ} {i : ℕ} (p : TestedTo w d l m i) where
       by-order k i (λ low. rw (p .read .done .split .below k low b) (n .small k))
       (λ high. rw (p .read .done .split .above k high b) (omega (arith, range-in w _ (p .inside k high b)))))
       (λ out. rw (List·getD-eq-default m 0ℤ {n = k} (omega arith)) (omega arith))
+
+  -- what is asked of the step is asked of the next place
+  pub asked-next : (k : ℕ) → d ≤ k → k < i → (t : ℕ) → AskedOfStep t w comb d l → AskedAt t w comb d m k
+  unfolding entries
+  asked-next k h b zero none =
+      ap (inRange w) (new-is (p .read .done) k h b)
+      ∙ not-over-each comb d l w none k h (omega (arith, p .read .done .most))
+  asked-next k h b (suc zero) n = (still-small n k, still-small n (k - d))
+  asked-next k h b (suc (suc _)) _ = tt
 
 -- one place back
 module _ {d : ℕ} {l m : List ℤ} {i : ℕ} (p : ReadTo d l m i) (one : 1 ≤ d) (b : i < length l) where

@@ -30,8 +30,8 @@ fn take_rest(a: &mut [i64], d: usize, from: usize)
 }
 
 // The comb of which it is known that no value leaves the range: by fours, and one by one what they leave.
-pub fn comb(a: &mut [i64], d: usize)
-    requires { ⌜ (1 ≤ d) × (d < length (now a)) × (stepOver largest comb d (now a) ≡ false) ⌝ }
+pub(crate) fn comb(a: &mut [i64], d: usize)
+    requires { ⌜ (d ≤ length (now a)) × (stepOver largest comb d (now a) ≡ false) ⌝ }
     ensures { λ _. ⌜ now (a .exit) ≡ stepList comb d (now (a .entry)) ⌝ }
 {
     let t = take_fours(a, d);

@@ -1,30 +1,33 @@
 // The tested comb: a pass over the slice that stops where a value would pass the working limit w, and one that undoes
-// it. It is `narrow` where no entry, and no value within w, is too large to be taken away.
+// it.
 
 ghost use mathlib.Core.Path.{_≡_};
-ghost use mathlib.Core.Bool.{true, false};
+ghost use mathlib.Core.Bool.{false};
 ghost use mathlib.Core.List.{List};
 ghost use Prim.Native.Nat.{_-_, _≤_, _<_};
 ghost use lib.ListN.{length};
 ghost use lib.IntN.{ℤ};
 ghost use Rattle.definitions.specs.Steps.{comb, stepped, entries, inRange};
 ghost use Rattle.step_laws.specs.WorkingLimit.{Workable};
-ghost use Rattle.passes.specs.Passes.{Narrow, SteppedOrUndone};
+ghost use Rattle.passes.specs.Asked.{AskedOfStep};
+ghost use Rattle.passes.specs.Passes.{SteppedOrUndone};
 ghost use Rattle.combs.specs.Combs.{ReadTo, TestedTo, Undoable};
+use crate::comb;
+use passes::KNOWN;
 use passes::Sort;
 use passes::step_entry;
 use passes::step_entry_within;
 
 // Takes the places from the top down, and stops where the next value passes w; answers the place down to which it took.
-fn take_tested(narrow: bool, w: u64, a: &mut [i64], d: usize) -> usize
-    requires { ⌜ (d ≤ length (now a)) × Workable w × (narrow ≡ true → Narrow w (now a)) ⌝ }
+fn take_tested(test: u8, w: u64, a: &mut [i64], d: usize) -> usize
+    requires { ⌜ (d ≤ length (now a)) × Workable w × AskedOfStep test w comb d (now a) ⌝ }
     ensures { λ r. ⌜ TestedTo w d (now (a .entry)) (now (a .exit)) r ⌝ }
     ensures { λ r. ⌜ (d < r → inRange w (stepped comb d (entries (now (a .entry))) (r - 1)) ≡ false) ⌝ }
 {
     let mut t = a.len();
     while d < t {
         let k = t - 1;
-        if !step_entry_within(Sort::Comb, narrow, w, a, k, d) {
+        if !step_entry_within(Sort::Comb, test, w, a, k, d) {
             return t;
         }
         t = k;
@@ -45,11 +48,15 @@ fn undo(a: &mut [i64], d: usize, from: usize)
 }
 
 // The comb, whole; or, where a value passes w, nothing.
-pub fn comb_or_undo(narrow: bool, w: u64, a: &mut [i64], d: usize) -> bool
-    requires { ⌜ (1 ≤ d) × (d ≤ length (now a)) × Workable w × (narrow ≡ true → Narrow w (now a)) ⌝ }
+pub fn comb_or_undo(test: u8, w: u64, a: &mut [i64], d: usize) -> bool
+    requires { ⌜ (1 ≤ d) × (d ≤ length (now a)) × Workable w × AskedOfStep test w comb d (now a) ⌝ }
     ensures { λ r. ⌜ SteppedOrUndone w comb d (now (a .entry)) (now (a .exit)) r ⌝ }
 {
-    let t = take_tested(narrow, w, a, d);
+    if test == KNOWN {
+        comb(a, d);
+        return true;
+    }
+    let t = take_tested(test, w, a, d);
     if t == d {
         return true;
     }

@@ -1,18 +1,19 @@
 // A step at one entry: the entry with the one that stands d before it added, or taken away.
 
 ghost use mathlib.Core.Path.{_≡_};
-ghost use mathlib.Core.Bool.{true, cond};
+ghost use mathlib.Core.Bool.{cond};
 ghost use Prim.Native.Nat.{_+_, _≤_, _<_};
 ghost use lib.ListN.{length, set};
-ghost use lib.IntN.{natAbs};
 ghost use mir.Syntax.{w64};
 ghost use mir.Val.{SFits};
 ghost use Rattle.definitions.specs.Steps.{entries, inRange, largest};
-ghost use Rattle.step_laws.specs.Bound.{Bounded};
 ghost use Rattle.step_laws.specs.WorkingLimit.{Workable};
 ghost use Rattle.passes.specs.Sorts.{sortMeans};
-ghost use Rattle.passes.specs.Passes.{addable, newValue, newEntry, putFour};
+ghost use Rattle.passes.specs.Passes.{newValue, newEntry, putFour};
+ghost use Rattle.passes.specs.Asked.{Asked, AskedAt};
 use crate::ADDABLE;
+use crate::KNOWN;
+use crate::NARROW;
 use crate::Sort;
 use range::difference_fits;
 use range::sum_fits;
@@ -52,12 +53,15 @@ fn new_value_within(sort: Sort, w: u64, x: i64, y: i64) -> bool
     within(w, v)
 }
 
-// The test of a step: of two numbers that are known to be small it is the value's alone.
-pub fn passes_test(sort: Sort, narrow: bool, w: u64, x: i64, y: i64) -> bool
-    requires { ⌜ Workable w × (narrow ≡ true → (natAbs x ≤ addable) × (natAbs y ≤ addable)) ⌝ }
+// The test of a step, as far as it is not known what it comes to.
+pub fn passes_test(sort: Sort, test: u8, w: u64, x: i64, y: i64) -> bool
+    requires { ⌜ Workable w × Asked test w (sortMeans sort) x y ⌝ }
     ensures { λ r. ⌜ r ≡ inRange w (newValue (sortMeans sort) x y) ⌝ }
 {
-    if narrow {
+    if test == KNOWN {
+        return true;
+    }
+    if test == NARROW {
         return new_value_within(sort, w, x, y);
     }
     if new_value_fits(sort, x, y) {
@@ -109,16 +113,8 @@ pub fn step_entry(sort: Sort, a: &mut [i64], i: usize, d: usize)
 
 // The step at one place where its value is within w, each entry read once; tells whether it is. That an entry fits its
 // type is known where it is read, and an undoing needs it.
-pub fn step_entry_within(
-    sort: Sort,
-    narrow: bool,
-    w: u64,
-    a: &mut [i64],
-    i: usize,
-    d: usize,
-) -> bool
-    requires { ⌜ (d ≤ i) × (i < length (now a)) × Workable w ⌝ }
-    requires { ⌜ (narrow ≡ true → Bounded addable (entries (now a))) ⌝ }
+pub fn step_entry_within(sort: Sort, test: u8, w: u64, a: &mut [i64], i: usize, d: usize) -> bool
+    requires { ⌜ (d ≤ i) × (i < length (now a)) × Workable w × AskedAt test w (sortMeans sort) d (now a) i ⌝ }
     ensures { λ r.
         ⌜ (r ≡ inRange w (newEntry (sortMeans sort) d (now (a .entry)) i)) × SFits w64 (entries (now (a .entry)) i) ⌝ }
     ensures { λ r.
@@ -127,7 +123,7 @@ pub fn step_entry_within(
 {
     let x = read_entry(a, i);
     let y = read_entry(a, i - d);
-    if !passes_test(sort, narrow, w, x, y) {
+    if !passes_test(sort, test, w, x, y) {
         return false;
     }
     let v = new_value(sort, x, y);

@@ -7,13 +7,13 @@ enum-told : tie.Need-enum-told
 enum-told c = search needs
 
 comb-or-undo-requires : tie.Need-comb-or-undo-requires
-comb-or-undo-requires c κs = search needs
+comb-or-undo-requires c κs = rw (c .before .enum-told .given .1) at (c .before .before .before .pre)
 
 enum-told-2 : tie.Need-enum-told-2
 enum-told-2 c = search needs
 
 accumulate-or-undo-requires : tie.Need-accumulate-or-undo-requires
-accumulate-or-undo-requires c κs = search needs
+accumulate-or-undo-requires c κs = rw (c .before .enum-told2 .given .1) at (c .before .before .before .pre)
 
 same-length : tie.Need-same-length
 same-length c = search needs

@@ -5,9 +5,10 @@ use mathlib.Core.Bool.{false}
 use borrow.Author.Needs.{needs}
 use Prim.Native.Nat.{ℕ, _+_, _*_, _≤_}
 use native.Mathlib.Omega.{arith}
-use Rattle.definitions.specs.Steps.{entries, largest, stepOver, stepList}
+use Rattle.definitions.specs.Steps.{entries, stepOver, stepList}
 use Rattle.step_laws.specs.Bound.{Bounded}
 use Rattle.passes.specs.Sorts.{sortMeans}
+use Rattle.bounded.proofs.Tested.{known}
 use Rattle.bounded.proofs.Untested.{grown, under, long}
 use Rattle.bounded.proofs.take_bounded.Statement.{statement}
 use Rattle.bounded.proofs.take_bounded.Tie as tie
@@ -35,13 +36,12 @@ module _ (c : tie.Then2) where
   most : start .args .bound * times + start .args .bound ≤ start .args .w
   most = c .before .stays-within .ensures (c .if2 .taken)
 
-  none : (w : ℕ) → start .args .bound * times + start .args .bound ≤ w
-      → (stepOver w (sortMeans (start .args .sort)) (start .args .d) (start .args .a .now) ≡ false)
+  none : (stepOver (start .args .w) (sortMeans (start .args .sort)) (start .args .d) (start .args .a .now) ≡ false)
       × Bounded (start .args .bound * times + start .args .bound)
       (entries (stepList (sortMeans (start .args .sort)) (start .args .d) (start .args .a .now)))
   none =
       grown (sortMeans (start .args .sort)) (start .args .d) (start .args .bound) (start .pre .0) (start .args .a .now)
-      (start .pre .1) (c .before .before .times-added .ensures .1 (start .args .bound))
+      (start .pre .1) (c .before .before .times-added .ensures .1 (start .args .bound)) (start .args .w) most
 
 mul-grown : tie.Need-mul-grown
 mul-grown c = omega (arith, most c, start c .pre .2 .1)
@@ -49,10 +49,11 @@ mul-grown c = omega (arith, most c, start c .pre .2 .1)
 add-grown : tie.Need-add-grown
 add-grown c = omega (arith, most c, start c .pre .2 .1)
 
-untested-step-requires : tie.Need-untested-step-requires
-untested-step-requires c κs =
+step-or-undo-requires : tie.Need-step-or-undo-requires
+step-or-undo-requires c κs =
     let q = c .before in
-    (start q .pre .0, omega arith, none q largest (omega (arith, most q, start q .pre .2 .1)) .0)
+    let p = start q in
+    (p .pre .0, omega arith, p .pre .2, none q .0)
 
 same-length : tie.Need-same-length
 same-length c = search needs
@@ -62,7 +63,7 @@ returns-2 c =
     let q = c .before .before .before in
     let p = start q in
     under (p .args .w) (sortMeans (p .args .sort)) (p .args .d) (p .args .bound) (p .args .a .now)
-    (none q (p .args .w) (most q)) (c .before .untested-step .ensures) (λ _. most q)
+    (none q) (known (c .before .step-or-undo .result) (c .before .step-or-undo .ensures) (none q .0)) (λ _. most q)
 
 take-narrow-requires : tie.Need-take-narrow-requires
 take-narrow-requires c κs =
@@ -95,7 +96,7 @@ take-bounded-spec =
     stays-within-requires
     mul-grown
     add-grown
-    untested-step-requires
+    step-or-undo-requires
     same-length
     returns-2
     take-narrow-requires

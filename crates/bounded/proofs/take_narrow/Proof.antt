@@ -21,7 +21,7 @@ step-or-undo-requires c κs =
       p .0 .0,
       omega (arith, p .0 .1),
       (omega (arith, e, p .0 .3 .0), omega (arith, e, p .0 .3 .1)),
-      λ _. record { limit = omega (arith, e); small = λ k. le-trans (p .0 .2 k) (p .1) },
+      record { limit = omega (arith, e); small = λ k. le-trans (p .0 .2 k) (p .1) },
     )
 
 larger-requires : tie.Need-larger-requires

@@ -1,6 +1,4 @@
 -- `take_wide` meets its contract: what the step tells (Tested).
-use mathlib.Core.Path.{sym}
-use mathlib.Core.Bool.{true≢false}
 use native.Mathlib.Omega.{arith}
 use borrow.Author.Needs.{needs}
 use Rattle.bounded.proofs.Tested.{either}
@@ -9,7 +7,7 @@ use Rattle.bounded.proofs.take_wide.Tie as tie
 
 step-or-undo-requires : tie.Need-step-or-undo-requires
 step-or-undo-requires c κs =
-    let p = c .before .pre in (p .0, omega (arith, p .1), p .3, λ t. absurd (true≢false (sym t)))
+    let p = c .before .pre in (p .0, omega (arith, p .1), p .3, tt)
 
 larger-requires : tie.Need-larger-requires
 larger-requires c κs = search needs

@@ -12,7 +12,7 @@ use Rattle.combs.proofs.comb.Tie as tie
 -- no value leaves the range
 all-fit : (c : tie.Start) → Fit (c .args .d) (length (c .args .a .now))
     (stepped comb (c .args .d) (entries (c .args .a .now)))
-all-fit c k h b = range-fits _ (not-over-each comb (c .args .d) (c .args .a .now) largest (c .pre .2) k h b)
+all-fit c k h b = range-fits _ (not-over-each comb (c .args .d) (c .args .a .now) largest (c .pre .1) k h b)
 
 take-fours-requires : tie.Need-take-fours-requires
 take-fours-requires c κs = (omega arith, all-fit (c .before))

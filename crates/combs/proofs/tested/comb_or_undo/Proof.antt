@@ -1,34 +1,54 @@
--- `combs::tested::comb_or_undo` meets its contract: the comb came to its end, or stopped and was undone.
+-- `combs::tested::comb_or_undo` meets its contract: the comb is known to stay within w, and so in the range, or it came
+-- to its end, or stopped and was undone.
 use Prim.Native.Nat.{_-_, _<_}
+use mathlib.Core.Path.{_≡_}
+use mathlib.Core.Bool.{false}
 use native.Mathlib.Omega.{arith}
 use borrow.Author.Needs.{needs}
+use Rattle.definitions.specs.Steps.{comb, stepOver}
+use Rattle.step_laws.specs.WorkingLimit.{over-more}
 use Rattle.passes.proofs.Tested.{whole, undone}
 use Rattle.combs.proofs.CombedTo.{ended}
 use Rattle.combs.proofs.tested.comb_or_undo.Statement.{statement}
 use Rattle.combs.proofs.tested.comb_or_undo.Tie as tie
 
-take-tested-requires : tie.Need-take-tested-requires
-take-tested-requires c κs = search needs
+-- no value passes w
+none : (c : tie.Then1) → stepOver (c .before .args .w) comb (c .before .args .d) (c .before .args .a .now) ≡ false
+none c = rw (c .if1 .taken) at (c .before .pre .3)
+
+comb-requires : tie.Need-comb-requires
+comb-requires c κs =
+    let p = c .before .before in
+    (p .pre .1, over-more (p .pre .2 .1) comb (p .args .d) (p .args .a .now) (none (c .before)))
 
 same-length : tie.Need-same-length
 same-length c = search needs
 
 returns : tie.Need-returns
-returns c =
-    let p = c .before .before .take-tested .ensures .0 in
-    whole (λ k h. p .inside k (omega arith)) (ended (p .read .done) (omega arith))
+returns c = record { over = none (c .before .before .before); leaves = c .before .comb .ensures }
 
-undo-requires : tie.Need-undo-requires
-undo-requires c κs = search needs
+take-tested-requires : tie.Need-take-tested-requires
+take-tested-requires c κs = search needs
 
 same-length-2 : tie.Need-same-length-2
 same-length-2 c = search needs
 
 returns-2 : tie.Need-returns-2
 returns-2 c =
+    let p = c .before .before .take-tested .ensures .0 in
+    whole (λ k h. p .inside k (omega arith)) (ended (p .read .done) (omega arith))
+
+undo-requires : tie.Need-undo-requires
+undo-requires c κs = search needs
+
+same-length-3 : tie.Need-same-length-3
+same-length-3 c = search needs
+
+returns-3 : tie.Need-returns-3
+returns-3 c =
     let r = c .before .before .before in
     let t = r .before .before .take-tested in
-    let q = r .before .before .before .before in
+    let q = r .before .before .before .before .before in
     let p = t .ensures .0 in
     let short : q .args .d < t .result = omega arith in
     undone (t .result - 1) (omega arith) (omega arith) (t .ensures .1 short)
@@ -37,4 +57,13 @@ returns-2 c =
 pub comb-or-undo-spec : {M : Type 1} → statement M
 comb-or-undo-spec =
     tie.close
-    (tie.spec take-tested-requires same-length returns undo-requires same-length-2 returns-2)
+    (tie.spec
+    comb-requires
+    same-length
+    returns
+    take-tested-requires
+    same-length-2
+    returns-2
+    undo-requires
+    same-length-3
+    returns-3)

@@ -7,15 +7,15 @@ use borrow.Author.Tests.{not-true, not-false}
 use lib.ListN.{length}
 use Rattle.combs.specs.Combs.{TestedTo}
 use Rattle.combs.proofs.CombedTo.{new-is}
-use Rattle.combs.proofs.TestedTo.{tested-start, tested-next, still-small}
+use Rattle.combs.proofs.TestedTo.{tested-start, tested-next, asked-next}
 use Rattle.combs.proofs.tested.take_tested.Statement.{statement}
 use Rattle.combs.proofs.tested.take_tested.Tie as tie
 
 abbrev Inv-loop : tie.InvT-loop
-Inv-loop narrow w a₀ d t₀ a t = TestedTo w d a₀ a t
+Inv-loop test w a₀ d t₀ a t = TestedTo w d a₀ a t
 
 abbrev μ-loop : tie.MeasureT-loop
-μ-loop narrow w a₀ d t₀ a t = t
+μ-loop test w a₀ d t₀ a t = t
 
 loop-holds : tie.Need-loop-holds Inv-loop μ-loop
 loop-holds c = tested-start (c .args .w) (c .args .d) (c .args .a .now) (c .pre .0)
@@ -26,7 +26,12 @@ sub-k c = omega arith
 step-entry-within-requires : tie.Need-step-entry-within-requires Inv-loop μ-loop
 step-entry-within-requires c κs =
     let g = c .before .before in
-    ((omega arith, omega arith, g .before .pre .1), λ narrow. still-small (g .loop .inv) (g .before .pre .2 narrow))
+    let p = g .before in (
+      omega arith,
+      omega arith,
+      p .pre .1,
+      asked-next (g .loop .inv) _ (omega arith) (omega arith) (p .args .test) (p .pre .2),
+    )
 
 -- the value is past w: the list is as it was
 refused : (c : tie.Then1 Inv-loop μ-loop)

@@ -1,5 +1,5 @@
--- `passes::entry::passes_test` meets its contract: the value of small numbers can be taken untested, and one that can't
--- be taken is out of every range.
+-- `passes::entry::passes_test` meets its contract: where it is known what it comes to it is that, the value of small
+-- numbers can be taken untested, and one that can't be taken is out of every range.
 use mathlib.Core.Path.{_≡_, sym, _∙_, ap}
 use mathlib.Core.Bool.{Bool, true, false, true≢false}
 use Prim.Native.Nat.{ℕ}
@@ -34,35 +34,35 @@ module _ (p : tie.Start) where
       → SFits w64 (newValue (sortMeans (p .args .sort)) (seen (p .args .x)) (seen (p .args .y)))
   taken t = rw seen-value (range-fits value t)
 
+returns : tie.Need-returns
+returns c = sym (rw (c .if1 .taken) at (c .before .pre .1))
+
 new-value-within-requires : tie.Need-new-value-within-requires
 new-value-within-requires c κs =
-    let p = c .before in
-    let small = p .pre .1 (c .if1 .taken) in (
-      p .pre .0,
-      taken p (small-in-range (sortMeans (p .args .sort)) (p .args .x) (p .args .y) (small .0)
-          (small .1)),
-    )
+    let p = c .before .before in
+    let small = rw (c .if2 .taken) at (p .pre .1) in
+    (p .pre .0, taken p (small-in-range (sortMeans (p .args .sort)) (p .args .x) (p .args .y) (small .0) (small .1)))
 
-returns : tie.Need-returns
-returns c = within (c .before .before) (c .before .before .args .w) (c .new-value-within .ensures)
+returns-2 : tie.Need-returns-2
+returns-2 c = let p = c .before .before .before in within p (p .args .w) (c .new-value-within .ensures)
 
 new-value-fits-requires : tie.Need-new-value-fits-requires
 new-value-fits-requires c κs = search needs
 
 new-value-within-requires-2 : tie.Need-new-value-within-requires-2
 new-value-within-requires-2 c κs =
-    let p = c .before .before .before in
-    (p .pre .0, taken p (sym (within p largest (c .before .new-value-fits .ensures)) ∙ c .if2 .taken))
-
-returns-2 : tie.Need-returns-2
-returns-2 c =
-    let p = c .before .before .before .before in within p (p .args .w) (c .new-value-within2 .ensures)
+    let p = c .before .before .before .before in
+    (p .pre .0, taken p (sym (within p largest (c .before .new-value-fits .ensures)) ∙ c .if3 .taken))
 
 returns-3 : tie.Need-returns-3
 returns-3 c =
-    let p = c .before .before .before in
+    let p = c .before .before .before .before .before in within p (p .args .w) (c .new-value-within2 .ensures)
+
+returns-4 : tie.Need-returns-4
+returns-4 c =
+    let p = c .before .before .before .before in
     let none : inRange largest (value p) ≡ false = sym (within p largest (c .before .new-value-fits .ensures))
-    ∙ c .if2 .left in
+    ∙ c .if3 .left in
     sym (not-true-is (inRange (p .args .w) (value p))
     (λ t. true≢false (sym (range-more (p .pre .0 .1) (value p) t) ∙ none)))
 
@@ -70,9 +70,10 @@ pub passes-test-spec : {M : Type 1} → statement M
 passes-test-spec =
     tie.close
     (tie.spec
-    new-value-within-requires
     returns
+    new-value-within-requires
+    returns-2
     new-value-fits-requires
     new-value-within-requires-2
-    returns-2
-    returns-3)
+    returns-3
+    returns-4)

@@ -48,15 +48,7 @@ module _ (c : tie.After-read-entry2) where
   seen-value = ap₂ (newValue (sortMeans (p .args .sort))) seen-x seen-y
 
 passes-test-requires : tie.Need-passes-test-requires
-unfolding entries
-passes-test-requires c κs =
-    let q = p c in (
-      q .pre .0 .2,
-      λ t. (
-        rw (seen-x c) (q .pre .1 t (q .args .i)),
-        rw (seen-y c) (q .pre .1 t (q .args .i - q .args .d)),
-      ),
-    )
+passes-test-requires c κs = (p c .pre .2, rw (seen-x c, seen-y c) (p c .pre .3))
 
 same-length : tie.Need-same-length
 same-length c = search needs
@@ -76,7 +68,7 @@ module _ (c : tie.Else1) where
   passed = sym (not-false _ (c .if1 .left)) ∙ told (c .before)
 
   value-fits : SFits w64 (value (c .before .before))
-  value-fits = range-fits _ (range-more (p (c .before .before) .pre .0 .2 .1) _ (sym passed))
+  value-fits = range-fits _ (range-more (p (c .before .before) .pre .2 .1) _ (sym passed))
 
 new-value-requires : tie.Need-new-value-requires
 new-value-requires c κs = rw (seen-value (c .before .before)) (value-fits c)

@@ -1,0 +1,2 @@
+-- What the contracts of `accumulates` cite beside those of the crates beneath it.
+pub mod Stopped

@@ -1,0 +1,2 @@
+-- A law that the functions' proofs share.
+mod OneChain

@@ -1,0 +1,2 @@
+-- What the contracts of `groups` cite beside those of `chains`.
+pub mod Widths

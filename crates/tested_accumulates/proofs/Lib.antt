@@ -1,3 +1,0 @@
--- Laws that the functions' proofs share.
-mod TestedPass
-mod PutBack

@@ -1,2 +1,0 @@
--- What the contracts of `accumulates` cite beside `definitions`, `passes` and `chains`.
-pub mod Stopped
