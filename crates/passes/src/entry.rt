@@ -15,9 +15,9 @@ use crate::ADDABLE;
 use crate::KNOWN;
 use crate::NARROW;
 use crate::Sort;
-use range::difference_fits;
-use range::sum_fits;
-use range::within;
+use crate::range::difference_fits;
+use crate::range::sum_fits;
+use crate::range::within;
 
 // What a step makes of an entry x and the one y that stands d before it: whether it can be taken (of two small numbers
 // it can), the value, and whether that is within w.

@@ -2,6 +2,7 @@
 // What their passes are made of: a step at one entry, its test, and a pass that has got to some place.
 
 mod entry;
+mod range;
 
 pub use entry::new_entry;
 pub use entry::new_value;

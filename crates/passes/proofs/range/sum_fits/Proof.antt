@@ -1,4 +1,4 @@
--- `range::sum_fits` meets its contract: a + b is the difference of a and -b, so the tests are those of
+-- `passes::range::sum_fits` meets its contract: a + b is the difference of a and -b, so the tests are those of
 -- `difference_fits`.
 use mathlib.Core.Path.{_∙_, ap}
 use mir.Facts.{toZ-ofZ}
@@ -6,8 +6,8 @@ use lib.IntN.{negℤ}
 use Rattle.definitions.specs.Steps.{inRange, largest}
 use Rattle.step_laws.specs.Signed.{neg-test, sum-as}
 use Rattle.step_laws.specs.Machine.{upper, lower, upper-is, lower-is, machine-neg}
-use Rattle.range.proofs.sum_fits.Statement.{statement}
-use Rattle.range.proofs.sum_fits.Tie as tie
+use Rattle.passes.proofs.range.sum_fits.Statement.{statement}
+use Rattle.passes.proofs.range.sum_fits.Tie as tie
 
 sub-result : tie.Need-sub-result
 sub-result c =

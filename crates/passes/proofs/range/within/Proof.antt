@@ -1,4 +1,4 @@
--- `range::within` meets its contract: the lower test, and where it holds the upper one.
+-- `passes::range::within` meets its contract: the lower test, and where it holds the upper one.
 use mathlib.Core.Path.{_≡_, sym, _∙_, ap₂}
 use lib.IntN.{pos, negℤ, _-ℤ_}
 use lib.Signed.{leZ}
@@ -7,8 +7,8 @@ use mir.Val.{toZ}
 use mir.Facts.{toZ-ofZ}
 use Rattle.step_laws.specs.Signed.{above-test, below-test}
 use Rattle.step_laws.specs.Machine.{seen, limit-fits, negative, negative-fits}
-use Rattle.range.proofs.within.Statement.{statement}
-use Rattle.range.proofs.within.Tie as tie
+use Rattle.passes.proofs.range.within.Statement.{statement}
+use Rattle.passes.proofs.range.within.Tie as tie
 
 cast-most : tie.Need-cast-most
 cast-most c = limit-fits (c .args .w) (c .pre .1)

@@ -1,5 +1,5 @@
-// Inner: only `passes` uses it, and shows the `requires`. Whether a number is within a limit, and whether a sum or a
-// difference is within the largest, from -(2^63 - 1) to 2^63 - 1, without taking it.
+// Whether a number is within a limit, and whether a sum or a difference is within the largest, from -(2^63 - 1) to
+// 2^63 - 1, without taking it.
 
 ghost use mathlib.Core.Path.{_≡_};
 ghost use Rattle.definitions.specs.Integers.{_⊕_, _⊝_};
@@ -11,7 +11,7 @@ const MOST: i64 = 9223372036854775807;
 const LEAST: i64 = -9223372036854775807;
 
 // Is v from -w to w?
-pub fn within(w: u64, v: i64) -> bool
+pub(crate) fn within(w: u64, v: i64) -> bool
     requires { ⌜ Workable w ⌝ }
     ensures { λ r. ⌜ r ≡ inRange w v ⌝ }
 {
@@ -21,7 +21,7 @@ pub fn within(w: u64, v: i64) -> bool
 }
 
 // Is a + b in range? The sign of b says which end of the range can be passed.
-pub fn sum_fits(a: i64, b: i64) -> bool
+pub(crate) fn sum_fits(a: i64, b: i64) -> bool
     ensures { λ r. ⌜ r ≡ inRange largest (a ⊕ b) ⌝ }
 {
     if 0 < b {
@@ -31,7 +31,7 @@ pub fn sum_fits(a: i64, b: i64) -> bool
 }
 
 // The same of a - b.
-pub fn difference_fits(a: i64, b: i64) -> bool
+pub(crate) fn difference_fits(a: i64, b: i64) -> bool
     ensures { λ r. ⌜ r ≡ inRange largest (a ⊝ b) ⌝ }
 {
     if b < 0 {

@@ -1,9 +1,9 @@
--- `range::difference_fits` meets its contract: one test by the sign of b is that of the range (`upper-is`,
+-- `passes::range::difference_fits` meets its contract: one test by the sign of b is that of the range (`upper-is`,
 -- `lower-is`).
 use mir.Facts.{toZ-ofZ}
 use Rattle.step_laws.specs.Machine.{upper, lower, upper-is, lower-is, machine-abs}
-use Rattle.range.proofs.difference_fits.Statement.{statement}
-use Rattle.range.proofs.difference_fits.Tie as tie
+use Rattle.passes.proofs.range.difference_fits.Statement.{statement}
+use Rattle.passes.proofs.range.difference_fits.Tie as tie
 
 add-result : tie.Need-add-result
 add-result c =

@@ -1,2 +1,0 @@
--- What is proved of the tests as a whole.
-pub mod OneOutcome
