@@ -1,6 +1,6 @@
 -- `groups::next_width` meets its contract: of each way to test, the widths that there are loops for.
-use mathlib.Core.Path.{_≡_, refl}
-use Prim.Native.Nat.{ℕ, zero, suc, _≤_}
+use mathlib.Core.Path.{refl}
+use Prim.Native.Nat.{ℕ, zero, suc}
 use native.Mathlib.Omega.{arith}
 use Rattle.groups.specs.Widths.{WidthOf}
 use Rattle.groups.proofs.next_width.Statement.{statement}

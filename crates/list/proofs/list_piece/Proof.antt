@@ -1,6 +1,6 @@
 -- `list::list_piece` meets its contract. The loop's invariant: the line that is open is the one after the bytes taken;
 -- what is left of the piece goes on from there (`after-part`). It ends, for each run takes something.
-use Prim.Native.Nat.{_+_, _-_, _≤_, _<_}
+use Prim.Native.Nat.{_+_, _-_, _≤_}
 use mathlib.Core.Path.{_≡_, refl, _∙_}
 use native.Mathlib.Omega.{arith}
 use lib.ListN.{length, take, drop, length-take, length-drop}
