@@ -133,4 +133,5 @@ pub all-tested : {w d to : ℕ} → 1 ≤ d → {l m : List ℤ} → min d (leng
     → SteppedOrUndone w accumulate d l m true
 unfolding stepped
 all-tested one e t =
-    whole (λ k h b. t .found k (omega arith) (lt-of-lt-of-le (longer one k h b) e) b b h .0) (all-taken one e (t .taken))
+    whole (λ k h b. t .found k (omega arith) (lt-of-lt-of-le (longer one k h b) e) b b h .0)
+    (all-taken one e (t .taken))

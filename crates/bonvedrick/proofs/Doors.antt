@@ -68,7 +68,8 @@ comb-door κs a z e f same =
 
 pub accumulate-door :
     (κs : Lfts 1) (a : ArgsD accumulate.signature κs) (z : ResD accumulate.signature κs)
-    (e : AtExit (endedOf 1 accumulate-kinds.ps accumulate-kinds.r) κs) (f : AtExit (endedOf 1 step-kinds.ps step-kinds.r) κs)
+    (e : AtExit (endedOf 1 accumulate-kinds.ps accumulate-kinds.r) κs)
+    (f : AtExit (endedOf 1 step-kinds.ps step-kinds.r) κs)
     → now (e .1 .1 .0) ≡ now (f .1 .1 .0)
     → (accumulate-reads.Post κs a z e → step-request.Post κs (record { sort = Accumulate; size = a .0 }, a .1) z f)
     × (step-request.Post κs (record { sort = Accumulate; size = a .0 }, a .1) z f → accumulate-reads.Post κs a z e)

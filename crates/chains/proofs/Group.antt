@@ -1,5 +1,5 @@
--- A group of neighbouring chains, row by row: before its second row, what a row asks and brings it, and that a whole row
--- brings it to the next one. The running sums are the new entries of the row before (step_laws: Chain).
+-- A group of neighbouring chains, row by row: before its second row, what a row asks and brings it, and that a whole
+-- row brings it to the next one. The running sums are the new entries of the row before (step_laws: Chain).
 use mathlib.Core.Path.{_≡_, refl, sym, _∙_, ap, ap₂, subst}
 use mathlib.Core.Bool.{false}
 use mathlib.Core.List.{List}

@@ -1,6 +1,6 @@
-// An inner crate: each door of the library, asked for the program `trial`, and its answer told (second/README.md has the
-// form). Nothing is promised but that each function is safe and ends: what is told is held to a stored output. A request
-// that comes is one function more here.
+// An inner crate: each door of the library, asked for the program `trial`, and its answer told (second/README.md has
+// the form). Nothing is promised but that each function is safe and ends: what is told is held to a stored output. A
+// request that comes is one function more here.
 use asking::Row;
 use libc::STDOUT_FILENO;
 

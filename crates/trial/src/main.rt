@@ -1,8 +1,8 @@
 // The trial: requests on standard input, a line each, asked of the library's doors and answered by a line each on
-// standard output (second/README.md has the form of both). What it prints is held to what second/ made by another road,
-// so nothing is promised here but that each function is safe and ends. A line that is not a good request is answered by
-// a question mark. All of the input is read before the first answer, 4 MB at most: of more, the rest has no answers, and
-// the run fails.
+// standard output (second/README.md has the form of both). What it prints is held to what second/ made by another
+// road, so nothing is promised here but that each function is safe and ends. A line that is not a good request is
+// answered by a question mark. All of the input is read before the first answer, 4 MB at most: of more, the rest has
+// no answers, and the run fails.
 ghost use mathlib.Core.Path.{_≡_};
 ghost use lib.ListN.{length};
 use libc::STDIN_FILENO;

@@ -1,5 +1,5 @@
--- `accumulates::accumulate_or_undo` meets its contract: along the chains it is the step, whole or undone; the second row
--- came to its end, or it is a group of all chains that stopped short, and is undone.
+-- `accumulates::accumulate_or_undo` meets its contract: along the chains it is the step, whole or undone; the second
+-- row came to its end, or it is a group of all chains that stopped short, and is undone.
 use Prim.Native.Nat.{ℕ, _<_}
 use mathlib.Core.Path.{refl}
 use mathlib.Core.List.{List}

@@ -1,4 +1,5 @@
--- `gain::gain_of` meets its contract: by what the gains are (cyclotomic/Gain), and phi(m) = m - 1 tells that m is prime.
+-- `gain::gain_of` meets its contract: by what the gains are (cyclotomic/Gain), and phi(m) = m - 1 tells that m is
+-- prime.
 use Prim.Native.Nat.{ℕ, _-_, _<_, _≤_}
 use mathlib.Core.Path.{_≡_, sym, _∙_, ap}
 use mathlib.Core.Bool.{true}

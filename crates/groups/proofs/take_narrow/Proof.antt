@@ -11,7 +11,8 @@ use Rattle.groups.proofs.take_narrow.Tie as tie
 -- what is asked of a group of so many chains
 asked : (p : tie.Start) {n : ℕ} → p .args .g ≡ n
     → GroupAsked 1 (p .args .w) (p .args .d) (p .args .c) (p .args .c + n) (p .args .a .now)
-asked p e = subst (λ n. GroupAsked 1 (p .args .w) (p .args .d) (p .args .c) (p .args .c + n) (p .args .a .now)) e (p .pre .0)
+asked p e =
+    subst (λ n. GroupAsked 1 (p .args .w) (p .args .d) (p .args .c) (p .args .c + n) (p .args .a .now)) e (p .pre .0)
 
 slice-aggregate-take-group : tie.Need-slice-aggregate-take-group
 slice-aggregate-take-group c = search needs
