@@ -1,8 +1,15 @@
--- One chain: a number of chains, from 1 to 8, that is none of 2 to 8, or that of a group that is tested as WIDE.
-use mathlib.Core.Path.{_≡_, refl}
-use Prim.Native.Nat.{ℕ, zero, suc, _≤_, _<_}
+-- How many chains: what is asked of so many, whatever the way to test; and one chain, a number from 1 to 8 that is none
+-- of 2 to 8, or that of a group that is tested as WIDE.
+use mathlib.Core.Path.{_≡_, refl, subst}
+use mathlib.Core.List.{List}
+use Prim.Native.Nat.{ℕ, zero, suc, _+_, _≤_, _<_}
 use native.Mathlib.Omega.{arith}
+use lib.IntN.{ℤ}
+use Rattle.chains.specs.Tested.{GroupAsked}
 use Rattle.groups.specs.Widths.{WidthOf}
+
+pub so-many : {t w d c g n : ℕ} {l : List ℤ} → g ≡ n → GroupAsked t w d c (c + g) l → GroupAsked t w d c (c + n) l
+so-many {t} {w} {d} {c} {l = l} e = subst (λ n. GroupAsked t w d c (c + n) l) e
 
 module _ {g : ℕ} where
   pub less : {n : ℕ} → g ≤ n → (g ≡ n → ⊥) → g < n

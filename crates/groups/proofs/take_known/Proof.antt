@@ -1,20 +1,19 @@
 -- `groups::take_known` meets its contract: each arm takes as many chains as it has sums, and of size 1
 -- there is one chain, the first.
-use mathlib.Core.Path.{_≡_, refl, sym, ap, subst}
+use mathlib.Core.Path.{_≡_, refl, sym, ap}
 use Prim.Native.Nat.{ℕ, _+_}
 use native.Mathlib.Omega.{arith}
 use borrow.Author.Needs.{needs}
 use Rattle.chains.specs.Tested.{GroupAsked}
 use Rattle.chains.proofs.Group.{settled}
-use Rattle.groups.proofs.OneChain.{less, one-left}
+use Rattle.groups.proofs.OneChain.{less, one-left, so-many}
 use Rattle.groups.proofs.take_known.Statement.{statement}
 use Rattle.groups.proofs.take_known.Tie as tie
 
 -- what is asked of a group of so many chains
 asked : (p : tie.Start) {n : ℕ} → p .args .g ≡ n
     → GroupAsked 0 (p .args .w) (p .args .d) (p .args .c) (p .args .c + n) (p .args .a .now)
-asked p e =
-    subst (λ n. GroupAsked 0 (p .args .w) (p .args .d) (p .args .c) (p .args .c + n) (p .args .a .now)) e (p .pre .0)
+asked p e = so-many e (p .pre .0)
 
 slice-aggregate-take-group : tie.Need-slice-aggregate-take-group
 slice-aggregate-take-group c = search needs

@@ -1,18 +1,18 @@
 -- `groups::take_narrow` meets its contract: each arm takes as many chains as it has sums.
-use mathlib.Core.Path.{_≡_, refl, subst}
+use mathlib.Core.Path.{_≡_, refl}
 use Prim.Native.Nat.{ℕ, _+_}
 use native.Mathlib.Omega.{arith}
 use borrow.Author.Needs.{needs}
 use Rattle.chains.specs.Tested.{GroupAsked}
 use Rattle.chains.proofs.Group.{settled}
+use Rattle.groups.proofs.OneChain.{so-many}
 use Rattle.groups.proofs.take_narrow.Statement.{statement}
 use Rattle.groups.proofs.take_narrow.Tie as tie
 
 -- what is asked of a group of so many chains
 asked : (p : tie.Start) {n : ℕ} → p .args .g ≡ n
     → GroupAsked 1 (p .args .w) (p .args .d) (p .args .c) (p .args .c + n) (p .args .a .now)
-asked p e =
-    subst (λ n. GroupAsked 1 (p .args .w) (p .args .d) (p .args .c) (p .args .c + n) (p .args .a .now)) e (p .pre .0)
+asked p e = so-many e (p .pre .0)
 
 slice-aggregate-take-group : tie.Need-slice-aggregate-take-group
 slice-aggregate-take-group c = search needs
