@@ -1,6 +1,6 @@
 // The program `list` in plain C11, to measure it against: bench/list tells how. It has the same design (chunks and room, the
 // open line, the walk, outlines, chains in groups, the height by blocks), takes its names from the crates, and prints the same
-// bytes. Nothing is proved here: no addition is tested (in 64 bits none overflows: crate `over`), and of the magnitudes it is
+// bytes. Nothing is proved here: no addition is tested (in 64 bits none overflows: crate `never_over`), and of the magnitudes it is
 // only kept whether all are at most 1. Combs and mirrors are plain loops, and the divisors' sizes stand in a table.
 
 #include <errno.h>

@@ -16,8 +16,8 @@ use Rattle.step_laws.specs.Chain.{in-row}
 use Rattle.step_laws.specs.Firsts.{is-firsts, firsts-entries}
 use Rattle.step_laws.specs.Signed.{add-sub}
 use Rattle.step_laws.specs.Tests.{by-order}
-use Rattle.passes.specs.Passes.{newEntry, Split}
-use Rattle.passes.proofs.Split.{getD-set-by}
+use Rattle.entry_steps.specs.Passes.{newEntry, Split}
+use Rattle.entry_steps.proofs.Split.{getD-set-by}
 use Rattle.accumulates.specs.Stopped.{isTaken, Stopped, takenInRow, PutBack}
 use Rattle.accumulates.proofs.TestedPass.{by-taken}
 

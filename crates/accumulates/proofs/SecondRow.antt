@@ -10,8 +10,8 @@ use Rattle.definitions.specs.Integers.{_⊕_}
 use Rattle.definitions.specs.Steps.{accumulate, accumulated, entries, inRange, stepped}
 use Rattle.step_laws.specs.Accumulated.{accumulated-from, accumulated-below}
 use Rattle.step_laws.specs.Step.{not-over-each}
-use Rattle.passes.specs.Passes.{newEntry, Split}
-use Rattle.passes.specs.Asked.{AskedAt, AskedOfStep}
+use Rattle.entry_steps.specs.Passes.{newEntry, Split}
+use Rattle.entry_steps.specs.Asked.{AskedAt, AskedOfStep}
 use Rattle.chains.specs.Tested.{Found, Tested}
 use Rattle.accumulates.proofs.TestedPass.{still-narrow}
 

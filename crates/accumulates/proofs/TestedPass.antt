@@ -17,9 +17,9 @@ use Rattle.step_laws.specs.Accumulated.{accumulated-from}
 use Rattle.step_laws.specs.Signed.{range-in}
 use Rattle.step_laws.specs.Tests.{by-order}
 use Rattle.step_laws.specs.Step.{not-over-each}
-use Rattle.passes.specs.Passes.{addable, Narrow, SteppedOrUndone}
-use Rattle.passes.specs.Asked.{AskedOfStep}
-use Rattle.passes.proofs.Tested.{whole}
+use Rattle.entry_steps.specs.Passes.{addable, Narrow, SteppedOrUndone}
+use Rattle.entry_steps.specs.Asked.{AskedOfStep}
+use Rattle.entry_steps.proofs.Tested.{whole}
 use Rattle.chains.specs.Tested.{AskedOfGroup, Tested}
 use Rattle.accumulates.specs.Stopped.{isTaken, Stopped}
 use Rattle.accumulates.proofs.Pass.{first-stays, none-taken, same-new, group-after, longer, all-taken}

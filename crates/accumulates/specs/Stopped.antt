@@ -10,7 +10,7 @@ use mir.Syntax.{w64}
 use mir.Val.{SFits}
 use Rattle.definitions.specs.Integers.{_⊕_, 0ℤ}
 use Rattle.definitions.specs.Steps.{comb, entries}
-use Rattle.passes.specs.Passes.{newEntry}
+use Rattle.entry_steps.specs.Passes.{newEntry}
 
 -- whether the place x is taken where the chains below `full` are and those from there and below `to` up to `stop`
 abbrev pub isTaken : ℕ → ℕ → ℕ → ℕ → ℕ → Bool

@@ -1,4 +1,4 @@
-// Inner: each `requires` is shown by the caller `bounded`. The accumulate along its chains, as many neighbouring ones
+// Inner: each `requires` is shown by the caller `bounded_steps`. The accumulate along its chains, as many neighbouring ones
 // at a time as have their sums in registers: up to the first value that would pass the working limit w, and back.
 
 mod back;
@@ -8,11 +8,11 @@ ghost use Prim.Native.Nat.{_≤_};
 ghost use lib.ListN.{length};
 ghost use Rattle.definitions.specs.Steps.{accumulate};
 ghost use Rattle.step_laws.specs.WorkingLimit.{Workable};
-ghost use Rattle.passes.specs.Asked.{AskedOfStep};
-ghost use Rattle.passes.specs.Passes.{SteppedOrUndone};
+ghost use Rattle.entry_steps.specs.Asked.{AskedOfStep};
+ghost use Rattle.entry_steps.specs.Passes.{SteppedOrUndone};
 use back::undo;
-use groups::next_width;
-use groups::take_next;
+use chain_groups::next_width;
+use chain_groups::take_next;
 use heights::smaller;
 use second::take_second_row;
 

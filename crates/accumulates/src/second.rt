@@ -4,10 +4,10 @@ ghost use Prim.Native.Nat.{_≤_};
 ghost use lib.ListN.{length};
 ghost use Rattle.definitions.specs.Steps.{accumulate};
 ghost use Rattle.step_laws.specs.WorkingLimit.{Workable};
-ghost use Rattle.passes.specs.Asked.{AskedOfStep};
+ghost use Rattle.entry_steps.specs.Asked.{AskedOfStep};
 ghost use Rattle.chains.specs.Tested.{GroupTaken};
-use passes::Sort;
-use passes::step_entry_within;
+use entry_steps::Sort;
+use entry_steps::step_entry_within;
 
 // Where no chain has more than two entries the second ones are neighbours, and what is added to them is not changed.
 pub(crate) fn take_second_row(test: u8, w: u64, a: &mut [i64], d: usize) -> usize

@@ -6,7 +6,7 @@ use borrow.Fn.Kinds.{endedOf}
 use borrow.Fn.World.{ArgsD, ResD}
 use denote.Triple.Clauses.{AtExit}
 use denote.Ref.{now}
-use Rattle.passes.specs.declared.Sort.the-variants.{Comb, Accumulate}
+use Rattle.entry_steps.specs.declared.Sort.the-variants.{Comb, Accumulate}
 use Rattle.steps.proofs.Step.apply.Kinds as step-kinds
 use Rattle.steps.proofs.Step.apply.Reads as step-request
 use Rattle.polynomial.proofs.polynomial.Reads as polynomial-request

@@ -14,7 +14,7 @@ use Rattle.step_laws.specs.Accumulated.{accumulated-from, accumulated-below}
 use Rattle.step_laws.specs.Chain.{in-row, next-row}
 use Rattle.step_laws.specs.Signed.{range-in}
 use Rattle.step_laws.specs.Tests.{by-order}
-use Rattle.passes.specs.Passes.{addable, Narrow}
+use Rattle.entry_steps.specs.Passes.{addable, Narrow}
 use Rattle.chains.specs.Chains.{sumAt, RowTaken, Each, Taken}
 use Rattle.chains.specs.Tested.{AskedInRow, FoundInRow, Found, AskedOfGroup, Tested, GroupTaken}
 

@@ -1,3 +1,3 @@
--- Laws that the functions' proofs share, here, in `groups` and in `accumulates`.
+-- Laws that the functions' proofs share, here, in `chain_groups` and in `accumulates`.
 mod RowTaken
 pub mod Group

@@ -9,7 +9,7 @@ use lib.ListN.{length, getD, set, length-set}
 use lib.IntN.{ℤ}
 use Rattle.definitions.specs.Integers.{0ℤ}
 use Rattle.definitions.specs.Steps.{inRange}
-use Rattle.passes.proofs.Split.{getD-set-by}
+use Rattle.entry_steps.proofs.Split.{getD-set-by}
 use Rattle.chains.specs.Chains.{sumAt, RowTaken}
 
 pub row-start : (k : ℕ) (s a : List ℤ) → RowTaken k 0 s a s a

@@ -1,3 +1,3 @@
--- What the contracts of `chains`, and of `groups` and `accumulates` above it, cite beside `definitions` and `passes`.
+-- What the contracts of `chains`, and of `chain_groups` and `accumulates` above it, cite beside `definitions` and `entry_steps`.
 pub mod Chains
 pub mod Tested

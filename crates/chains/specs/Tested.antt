@@ -10,8 +10,8 @@ use mir.Val.{SFits}
 use Rattle.definitions.specs.Integers.{0ℤ}
 use Rattle.definitions.specs.Steps.{accumulate, accumulated, inRange, entries}
 use Rattle.step_laws.specs.WorkingLimit.{Workable}
-use Rattle.passes.specs.Passes.{Narrow}
-use Rattle.passes.specs.Asked.{Asked}
+use Rattle.entry_steps.specs.Passes.{Narrow}
+use Rattle.entry_steps.specs.Asked.{Asked}
 use Rattle.chains.specs.Chains.{sumAt, Each, Taken}
 
 -- at the place j of a row that begins at k: what is asked before its chain's sum is added

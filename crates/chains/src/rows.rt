@@ -12,11 +12,11 @@ ghost use Rattle.definitions.specs.Steps.{inRange};
 ghost use Rattle.step_laws.specs.WorkingLimit.{Workable};
 ghost use Rattle.chains.specs.Chains.{sumAt, RowTaken};
 ghost use Rattle.chains.specs.Tested.{AskedInRow, FoundInRow};
-use passes::Sort;
-use passes::new_value;
-use passes::passes_test;
-use passes::put;
-use passes::read_entry;
+use entry_steps::Sort;
+use entry_steps::new_value;
+use entry_steps::passes_test;
+use entry_steps::put;
+use entry_steps::read_entry;
 
 // The sums begin with the chains' first entries, which stay.
 pub(crate) fn first_row(s: &mut [i64], a: &[i64], c: usize)

@@ -13,9 +13,9 @@ use Rattle.step_laws.specs.Tests.{by-order}
 use Rattle.step_laws.specs.Firsts.{is-firsts, firsts-entries}
 use Rattle.step_laws.specs.Signed.{sub-add}
 use Rattle.step_laws.specs.Step.{combed-from, stepped-below}
-use Rattle.passes.specs.Passes.{newEntry, setFour}
-use Rattle.passes.proofs.FourEntries.{moved-four-down}
-use Rattle.passes.proofs.Split.{moved-down, moved-up, all-firsts, all-below}
+use Rattle.entry_steps.specs.Passes.{newEntry, setFour}
+use Rattle.entry_steps.proofs.FourEntries.{moved-four-down}
+use Rattle.entry_steps.proofs.Split.{moved-down, moved-up, all-firsts, all-below}
 use Rattle.combs.specs.Combs.{CombedTo}
 
 -- before the first place

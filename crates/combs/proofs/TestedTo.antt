@@ -16,8 +16,8 @@ use Rattle.step_laws.specs.Bound.{Bounded}
 use Rattle.step_laws.specs.Signed.{range-in}
 use Rattle.step_laws.specs.Step.{not-over-each}
 use Rattle.step_laws.specs.Tests.{by-order}
-use Rattle.passes.specs.Passes.{newEntry, addable, Narrow}
-use Rattle.passes.specs.Asked.{AskedAt, AskedOfStep}
+use Rattle.entry_steps.specs.Passes.{newEntry, addable, Narrow}
+use Rattle.entry_steps.specs.Asked.{AskedAt, AskedOfStep}
 use Rattle.combs.specs.Combs.{ReadTo, TestedTo}
 use Rattle.combs.proofs.CombedTo.{start, new-is, next, back, old-is}
 

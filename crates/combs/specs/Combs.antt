@@ -6,7 +6,7 @@ use mathlib.Core.List.{List}
 use lib.ListN.{length}
 use lib.IntN.{ℤ}
 use Rattle.definitions.specs.Steps.{comb, stepped, inRange, entries}
-use Rattle.passes.specs.Passes.{Fit, Split}
+use Rattle.entry_steps.specs.Passes.{Fit, Split}
 
 -- the comb of size d got down to the place i of l, which left m
 pub record CombedTo (d : ℕ) (l m : List ℤ) (i : ℕ) : Type 0 where

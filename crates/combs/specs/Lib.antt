@@ -1,2 +1,2 @@
--- What the contracts of `combs` cite beside `definitions` and `passes`.
+-- What the contracts of `combs` cite beside `definitions` and `entry_steps`.
 pub mod Combs

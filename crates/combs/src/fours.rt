@@ -5,11 +5,11 @@ ghost use Prim.Native.Nat.{_+_, _≤_};
 ghost use mathlib.Core.Path.{_≡_};
 ghost use lib.ListN.{length};
 ghost use Rattle.definitions.specs.Steps.{comb, stepped, entries};
-ghost use Rattle.passes.specs.Passes.{newEntry, setFour, Fit};
+ghost use Rattle.entry_steps.specs.Passes.{newEntry, setFour, Fit};
 ghost use Rattle.combs.specs.Combs.{CombedTo};
-use passes::Sort;
-use passes::new_entry;
-use passes::put_four;
+use entry_steps::Sort;
+use entry_steps::new_entry;
+use entry_steps::put_four;
 
 // The comb at the four places from k on, at once.
 fn step_four_entries(a: &mut [i64], k: usize, d: usize)

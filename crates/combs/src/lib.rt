@@ -13,8 +13,8 @@ ghost use lib.IntN.{ℤ};
 ghost use Rattle.definitions.specs.Steps.{comb, largest, stepOver, stepList};
 ghost use Rattle.combs.specs.Combs.{CombedTo, Fitting};
 use fours::take_fours;
-use passes::Sort;
-use passes::step_entry;
+use entry_steps::Sort;
+use entry_steps::step_entry;
 pub use tested::comb_or_undo;
 
 // Takes the places below `from` that are left, one by one.

@@ -9,14 +9,14 @@ ghost use lib.ListN.{length};
 ghost use lib.IntN.{ℤ};
 ghost use Rattle.definitions.specs.Steps.{comb, stepped, entries, inRange};
 ghost use Rattle.step_laws.specs.WorkingLimit.{Workable};
-ghost use Rattle.passes.specs.Asked.{AskedOfStep};
-ghost use Rattle.passes.specs.Passes.{SteppedOrUndone};
+ghost use Rattle.entry_steps.specs.Asked.{AskedOfStep};
+ghost use Rattle.entry_steps.specs.Passes.{SteppedOrUndone};
 ghost use Rattle.combs.specs.Combs.{ReadTo, TestedTo, Undoable};
 use crate::comb;
-use passes::KNOWN;
-use passes::Sort;
-use passes::step_entry;
-use passes::step_entry_within;
+use entry_steps::KNOWN;
+use entry_steps::Sort;
+use entry_steps::step_entry;
+use entry_steps::step_entry_within;
 
 // Takes the places from the top down, and stops where the next value passes w; answers the place down to which it took.
 fn take_tested(test: u8, w: u64, a: &mut [i64], d: usize) -> usize

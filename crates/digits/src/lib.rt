@@ -1,4 +1,4 @@
-// Inner: `number_at` asks that the digits are few, which `lines` shows. Reading digits in a line of bytes.
+// Inner: `number_at` asks that the digits are few, which `request_lines` shows. Reading digits in a line of bytes.
 
 ghost use mathlib.Core.Path.{_≡_};
 ghost use Prim.Native.Nat.{_≤_, _<_};

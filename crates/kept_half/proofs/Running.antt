@@ -27,10 +27,10 @@ use Rattle.step_laws.specs.Bound.{Bounded, firsts-bounded}
 use Rattle.step_laws.specs.WorkingLimit.{Workable}
 use Rattle.divisors.specs.Walks.{taken, walkAt}
 use Rattle.divisors.proofs.Walking.{taken-at, stands-at}
-use Rattle.flat.specs.Flat.{two-flat}
-use Rattle.outlines.specs.Outlines.{Told, outlined}
-use Rattle.outlines.specs.declared.Outline.{Outline}
-use Rattle.outlines.proofs.Outlining.{outlined-length, first-told}
+use Rattle.flat_for_two_primes.specs.Flat.{two-flat}
+use Rattle.outlined_steps.specs.Outlines.{Told, outlined}
+use Rattle.outlined_steps.specs.declared.Outline.{Outline}
+use Rattle.outlined_steps.proofs.Outlining.{outlined-length, first-told}
 use Rattle.kept_half.specs.Halves.{KeptHalfAt, DivisorOutcomeIs, RunOutcomeIs, WalkAtStart, KeptHalfIs}
 use Rattle.divisors.specs.declared.Walk.{Walk}
 use Rattle.kept_half.specs.declared.run.DivisorOutcome.{DivisorOutcome}

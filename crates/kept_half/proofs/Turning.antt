@@ -17,15 +17,15 @@ use Rattle.step_laws.specs.Firsts.{length-firsts}
 use Rattle.cyclotomic.specs.Kept.{step-kept}
 use Rattle.divisors.specs.Walks.{taken, walkAt, nextOf, divisorAt}
 use Rattle.divisors.proofs.Walking.{next-more}
-use Rattle.outlines.specs.Outlines.{outlined}
-use Rattle.outlines.specs.Outcome.{StepDue, OutlinedOutcomeIs}
-use Rattle.outlines.proofs.Outlining.{outlined-length}
+use Rattle.outlined_steps.specs.Outlines.{outlined}
+use Rattle.outlined_steps.specs.Outcome.{StepDue, OutlinedOutcomeIs}
+use Rattle.outlined_steps.proofs.Outlining.{outlined-length}
 use Rattle.kept_half.specs.Halves.{KeptHalfAt, DivisorOutcomeIs}
 use Rattle.divisors.specs.declared.Walk.{Walk}
 use Rattle.divisors.specs.declared.NextAndWalk.{NextAndWalk}
 use Rattle.divisors.specs.declared.Next.the-variants.{Divisor, Nothing}
-use Rattle.outlines.specs.declared.Outline.{Outline}
-use Rattle.outlines.specs.declared.OutlinedOutcome.{OutlinedOutcome}
+use Rattle.outlined_steps.specs.declared.Outline.{Outline}
+use Rattle.outlined_steps.specs.declared.OutlinedOutcome.{OutlinedOutcome}
 
 pub kept-length : (kind r j : ℕ) → length (keptHalf kind r j) ≡ halfDegree kind r + 1
 unfolding keptHalf

@@ -17,8 +17,8 @@ use Rattle.index.specs.Parts.{partsOf}
 use Rattle.index.specs.declared.Parts.{Parts}
 use Rattle.divisors.specs.Walks.{Stands, taken, walkAt}
 use Rattle.divisors.specs.declared.Walk.{Walk}
-use Rattle.outlines.specs.Outlines.{Told, outlined}
-use Rattle.outlines.specs.declared.Outline.{Outline}
+use Rattle.outlined_steps.specs.Outlines.{Told, outlined}
+use Rattle.outlined_steps.specs.declared.Outline.{Outline}
 use Rattle.kept_half.specs.declared.run.DivisorOutcome.{DivisorOutcome}
 use Rattle.kept_half.specs.declared.RunOutcome.{RunOutcome}
 

@@ -24,7 +24,7 @@ pub struct RunOutcome {
 }
 
 // The kept half for n's r after all its divisors' steps, in a slice of D + 1 entries; zeros where a value would pass w.
-// That of F of two primes has no magnitude above 1 (crate `flat`), which spares the look for its height.
+// That of F of two primes has no magnitude above 1 (crate `flat_for_two_primes`), which spares the look for its height.
 pub fn all_steps(kind: u64, n: u64, parts: Parts, w: u64, a: &mut [i64]) -> RunOutcome
     requires { ⌜ StepsDue kind n parts × (length (now a) ≡ halfDegree kind (rOf n) + 1) × Workable w ⌝ }
     ensures { λ r. ⌜ KeptHalfIs w kind (rOf n) (divisorsDue (rOf n)) (now (a .exit)) r ⌝ }

@@ -2,10 +2,10 @@
 use super::RunOutcome;
 use divisors::Next;
 use divisors::Walk;
-use outlines::Outline;
-use outlines::take_outlined;
-use outlines::write_out;
-use passes::Sort;
+use outlined_steps::Outline;
+use outlined_steps::take_outlined;
+use outlined_steps::write_out;
+use entry_steps::Sort;
 ghost use Prim.Native.Nat.{_+_, _-_, _≤_, _<_};
 ghost use mathlib.Core.Path.{_≡_};
 ghost use mathlib.Core.Bool.{false, cond, not};
@@ -15,7 +15,7 @@ ghost use Rattle.definitions.specs.Steps.{comb, accumulate};
 ghost use Rattle.definitions.specs.KeptHalf.{halfDegree, start};
 ghost use Rattle.definitions.specs.Requests.{divisorsDue};
 ghost use Rattle.step_laws.specs.WorkingLimit.{Workable};
-ghost use Rattle.passes.specs.Sorts.{sortMeans};
+ghost use Rattle.entry_steps.specs.Sorts.{sortMeans};
 ghost use Rattle.kept_half.specs.Halves.{DivisorOutcomeIs, RunOutcomeIs, KeptHalfAt, WalkAtStart, KeptHalfIs};
 ghost use Rattle.divisors.specs.Walks.{walkAt};
 

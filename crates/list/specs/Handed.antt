@@ -2,8 +2,8 @@
 -- they print.
 use Prim.Native.Nat.{ℕ}
 use mathlib.Core.List.{List, [], _∷_}
-use Rattle.open_line.specs.Heading.{heading}
-use Rattle.open_line.specs.declared.Line.{Line}
+use Rattle.line_so_far.specs.Heading.{heading}
+use Rattle.line_so_far.specs.declared.Line.{Line}
 use Rattle.listing.specs.Stream.{printed}
 
 unfoldable pub handed : Line → List ℕ → List ℕ

@@ -4,7 +4,7 @@ use mathlib.Core.Path.{_≡_}
 use mathlib.Core.Bool.{Bool, true, false}
 use mathlib.Core.List.{List, [], _∷_}
 use lib.ListN.{length, take}
-use Rattle.open_line.specs.declared.Line.{Line}
+use Rattle.line_so_far.specs.declared.Line.{Line}
 use Rattle.listing.specs.Stream.{NEWLINE, after}
 use Rattle.streams.specs.declared.Got.{Got}
 use Rattle.list.specs.declared.Going.{Going}

@@ -10,13 +10,13 @@ use borrow.Author.Tests.{le-leb, lt-leb, lt-ltb, le-ltb}
 use lib.ListN.{length, take, length-append, length-set, length-replicate}
 use lib.Seq.{take-suc-set}
 use Rattle.step_laws.specs.Tests.{by-test, by-order}
-use Rattle.lines.specs.Request.{isGood}
+use Rattle.request_lines.specs.Request.{isGood}
 use Rattle.answer_lines.specs.Printed.{wrongLine}
 use Rattle.listing.specs.Reply.{reply}
-use Rattle.open_line.specs.OpenLine.{KEPT, startLine, pushed, nextLine}
-use Rattle.open_line.specs.declared.Line.{Line}
+use Rattle.line_so_far.specs.OpenLine.{KEPT, startLine, pushed, nextLine}
+use Rattle.line_so_far.specs.declared.Line.{Line}
 use Rattle.listing.specs.Stream.{closing}
-use Rattle.lines.proofs.Reading.{good-short, reads-wrong}
+use Rattle.request_lines.proofs.Reading.{good-short, reads-wrong}
 use Rattle.listing.proofs.Replying.{replied-wrong}
 
 -- s is what is kept of the line `current`, which has the number k

@@ -10,7 +10,7 @@ use borrow.Fn.Kinds.{endedOf}
 use borrow.Fn.World.{ArgsD, ResD}
 use denote.Triple.Clauses.{AtExit}
 use denote.Ref.{now}
-use Rattle.open_line.specs.declared.Line.{Line}
+use Rattle.line_so_far.specs.declared.Line.{Line}
 use Rattle.listing.specs.Ran.{Ran}
 use Rattle.listing.specs.Stream.{after, printed}
 use Rattle.listing.specs.declared.Progress.{Progress}

@@ -19,10 +19,10 @@ use Rattle.step_laws.specs.Firsts.{length-firsts}
 use Rattle.answers.specs.Polynomial.{code, answered, answer, left, leaves}
 use Rattle.answers.specs.declared.Answer.{Answer}
 use Rattle.text.specs.Text.{NEWLINE, spaced}
-use Rattle.lines.specs.Request.{readLine}
+use Rattle.request_lines.specs.Request.{readLine}
 use Rattle.answer_lines.specs.Printed.{headOf, tailOf, goodLine, wrongLine}
 use Rattle.listing.specs.Reply.{LENT, replyTo, reply}
-use Rattle.lines.specs.declared.Request.{Request}
+use Rattle.request_lines.specs.declared.Request.{Request}
 
 module _ (kind n : ℕ) (h w : ℤ) (room : ℕ) where
   done-fits : code kind n h w room ≡ DONE → degree kind n < room

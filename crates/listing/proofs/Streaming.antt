@@ -13,8 +13,8 @@ use lib.Seq.{take-suc, take-take, take-add, drop-cons, length-sets}
 use lib.Dec.{eqb, ltb}
 use Rattle.text.specs.Text.{NEWLINE}
 use Rattle.listing.specs.Reply.{MOST}
-use Rattle.open_line.specs.OpenLine.{pushed, nextLine}
-use Rattle.open_line.specs.declared.Line.{Line}
+use Rattle.line_so_far.specs.OpenLine.{pushed, nextLine}
+use Rattle.line_so_far.specs.declared.Line.{Line}
 use Rattle.listing.specs.Stream.{closing, step, says, after, printed, taken}
 use Rattle.text.specs.Puts.{Puts}
 use Rattle.listing.specs.Ran.{Ran}

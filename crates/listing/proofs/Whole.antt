@@ -12,9 +12,9 @@ use Rattle.step_laws.specs.Tests.{by-test}
 use Rattle.text.specs.Text.{NEWLINE}
 use Rattle.text.specs.Puts.{Puts}
 use Rattle.listing.specs.Reply.{reply}
-use Rattle.open_line.specs.Heading.{heading}
-use Rattle.open_line.specs.OpenLine.{startLine, pushed, nextLine}
-use Rattle.open_line.specs.declared.Line.{Line}
+use Rattle.line_so_far.specs.Heading.{heading}
+use Rattle.line_so_far.specs.OpenLine.{startLine, pushed, nextLine}
+use Rattle.line_so_far.specs.declared.Line.{Line}
 use Rattle.listing.specs.Listing.{lastLine, linesFrom, replies, listing}
 use Rattle.listing.specs.Reply.{MOST}
 use Rattle.listing.specs.Stream.{closing, step, says, after, printed, ending}

@@ -19,12 +19,12 @@ use Rattle.definitions.specs.Answer.{coefficients, heightOf, height, placeOf, p
 use Rattle.definitions.specs.Requests.{knownKind, goodIndex, nextDivisor, divisorsDue, overAt, overAmong}
 use Rattle.answers.specs.Polynomial.{code, answered, answer}
 use Rattle.text.specs.Text.{decimalIn, decimal, sign, signed, spaced}
-use Rattle.lines.specs.Request.{kindOf, isGoodWith}
+use Rattle.request_lines.specs.Request.{kindOf, isGoodWith}
 use Rattle.digits.specs.Digits.{between, digits, valueFrom, valueOf, digitsAt, numberAt}
-use Rattle.lines.specs.Request.{placeOfLimit, isGood, wrong, readLine}
+use Rattle.request_lines.specs.Request.{placeOfLimit, isGood, wrong, readLine}
 use Rattle.answer_lines.specs.Printed.{letterOf, headOf, tailOf, goodLine, wrongLine}
 use Rattle.listing.specs.Reply.{replyTo, reply}
-use Rattle.open_line.specs.Heading.{heading}
+use Rattle.line_so_far.specs.Heading.{heading}
 use Rattle.listing.specs.Listing.{lastLine, linesFrom, replies, listing}
 
 -- `F 6 1`, `I 006 1`, an empty line, `F 6 -1` and `F 0 0`, the last with no newline

@@ -5,7 +5,7 @@ use mathlib.Core.Bool.{cond}
 use mathlib.Core.List.{List, [], _∷_, _++_}
 use lib.Dec.{eqb}
 use Rattle.text.specs.Text.{NEWLINE}
-use Rattle.open_line.specs.Heading.{heading}
+use Rattle.line_so_far.specs.Heading.{heading}
 use Rattle.listing.specs.Reply.{reply}
 
 -- what the lines are: text after the last newline is a line only if it isn't empty. `current` is the line so far

@@ -6,7 +6,7 @@ use mathlib.Core.List.{List}
 use lib.ListN.{length, take}
 use Rattle.text.specs.Puts.{Puts}
 use Rattle.listing.specs.Stream.{after, printed, taken}
-use Rattle.open_line.specs.declared.Line.{Line}
+use Rattle.line_so_far.specs.declared.Line.{Line}
 use Rattle.listing.specs.declared.Progress.{Progress}
 
 pub record Ran (line : Line) (piece l m : List ℕ) (r : Progress) : Type 0 where

@@ -7,8 +7,8 @@ use Rattle.definitions.specs.Steps.{largest}
 use Rattle.definitions.specs.Answer.{coefficients}
 use Rattle.answers.specs.Polynomial.{answer}
 use Rattle.answer_lines.specs.Printed.{goodLine, wrongLine}
-use Rattle.lines.specs.Request.{readLine}
-use Rattle.lines.specs.declared.Request.{Request}
+use Rattle.request_lines.specs.Request.{readLine}
+use Rattle.request_lines.specs.declared.Request.{Request}
 
 -- the entries that are lent for each polynomial
 abbrev pub LENT : ℕ

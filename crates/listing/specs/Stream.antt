@@ -1,4 +1,4 @@
--- The listing piece by piece, over the line that is being read (`open_line`). What pieces of input come, and where the
+-- The listing piece by piece, over the line that is being read (`line_so_far`). What pieces of input come, and where the
 -- output is cut, makes no difference (proofs/, `Whole`).
 use Prim.Native.Nat.{ℕ, _+_, _-_}
 use mathlib.Core.Bool.{cond, _&&_}
@@ -6,8 +6,8 @@ use mathlib.Core.List.{List, [], _∷_, _++_}
 use lib.ListN.{length, take}
 use lib.Dec.{eqb, ltb, leb}
 pub use Rattle.text.specs.Text.{NEWLINE}
-use Rattle.open_line.specs.OpenLine.{KEPT, pushed, nextLine}
-use Rattle.open_line.specs.declared.Line.{Line}
+use Rattle.line_so_far.specs.OpenLine.{KEPT, pushed, nextLine}
+use Rattle.line_so_far.specs.declared.Line.{Line}
 use Rattle.answer_lines.specs.Printed.{wrongLine}
 use Rattle.listing.specs.Reply.{MOST, reply}
 

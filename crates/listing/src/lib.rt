@@ -1,14 +1,14 @@
-// The listing (docs/RULES.md, 'The listing'): bytes of lines in, bytes of answers out. `lines` and `reply` answer one
-// line, `open_line` holds the one that is being read, and `stream` goes through an input that comes in pieces.
+// The listing (docs/RULES.md, 'The listing'): bytes of lines in, bytes of answers out. `request_lines` and `reply` answer one
+// line, `line_so_far` holds the one that is being read, and `stream` goes through an input that comes in pieces.
 
 mod reply;
 mod stream;
 
-pub use lines::Request;
-pub use lines::read_line;
-pub use open_line::Line;
-pub use open_line::heading;
-pub use open_line::start;
+pub use request_lines::Request;
+pub use request_lines::read_line;
+pub use line_so_far::Line;
+pub use line_so_far::heading;
+pub use line_so_far::start;
 pub use reply::answer_line;
 pub use stream::run;
 

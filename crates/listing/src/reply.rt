@@ -12,7 +12,7 @@ use crate::MOST;
 use answer_lines::put_head;
 use answer_lines::put_tail;
 use answer_lines::put_wrong;
-use lines::read_line;
+use request_lines::read_line;
 
 // The listing has no working limit: 2^63 - 1.
 const LARGEST: i64 = 9223372036854775807;

@@ -13,9 +13,9 @@ use crate::MOST;
 use crate::Progress;
 use crate::reply::put_reply;
 use answer_lines::put_wrong;
-use open_line::Line;
-use open_line::next;
-use open_line::push;
+use line_so_far::Line;
+use line_so_far::next;
+use line_so_far::push;
 
 // What a newline prints.
 fn put_closing(out: &mut [u8], at: usize, line: Line, entries: &mut [i64]) -> usize

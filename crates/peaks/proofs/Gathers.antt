@@ -16,7 +16,7 @@ use Rattle.step_laws.specs.Tests.{by-order}
 use Rattle.step_laws.specs.Signed.{abs-⊕, abs-⊝, mag-abs}
 use Rattle.step_laws.specs.Machine.{seen}
 use Rattle.heights.proofs.Signs.{or-above}
-use Rattle.passes.specs.Passes.{addable}
+use Rattle.entry_steps.specs.Passes.{addable}
 
 -- the bits of a number that is not below 0, as the code tests it, and of two put together
 abbrev pub Unsigned : ℕ → Type 0

@@ -5,7 +5,7 @@ use heights::Top;
 use heights::above;
 use heights::magnitude;
 use heights::peak;
-use passes::ADDABLE;
+use entry_steps::ADDABLE;
 ghost use Prim.Native.Nat.{_+_, _≤_};
 ghost use mathlib.Core.Path.{_≡_};
 ghost use mathlib.Core.Bool.{true};
@@ -14,7 +14,7 @@ ghost use Rattle.definitions.specs.Answer.{heightOf, peakOf};
 ghost use Rattle.definitions.specs.Steps.{entries};
 ghost use Rattle.step_laws.specs.Bound.{Bounded};
 ghost use Rattle.heights.specs.Above.{NoneAbove, NextAbove};
-ghost use Rattle.passes.specs.Passes.{addable};
+ghost use Rattle.entry_steps.specs.Passes.{addable};
 
 // How many entries are gathered before the sign of what has come together is looked at.
 const BLOCK: usize = 16;

@@ -37,7 +37,7 @@ use Rattle.answers.specs.Polynomial as Polynomial
 use Rattle.answers.proofs.WorkingLimit.{polynomial-done}
 use Rattle.kept_half.proofs.Turning.{kept-length, divisor-in}
 use Rattle.kept_half.proofs.Running.{start-bounded}
-use Rattle.growth.proofs.Growing.{half-within, front-entry}
+use Rattle.squarefree_from_half.proofs.Growing.{half-within, front-entry}
 
 -- ---- what stands in front
 written-front : (new l : List ℤ) (k : ℕ) → k ≤ length new → take k (written new l) ≡ take k new

@@ -28,14 +28,14 @@ use Rattle.cyclotomic.specs.Kept.{kept-all}
 use Rattle.cyclotomic.specs.Heights.{told-half, told-one, peak-inside}
 use Rattle.step_laws.specs.Bound.{Bounded}
 use Rattle.kept_half.specs.Halves.{StepsDue, KeptHalfIs}
-use Rattle.growth.specs.Growth.{Lower}
-use Rattle.laying.specs.Ready.{Ready}
+use Rattle.squarefree_from_half.specs.Growth.{Lower}
+use Rattle.whole_from_half.specs.Ready.{Ready}
 use Rattle.polynomial.specs.Making.{MakingOutcomeIs, makingCode}
 use Rattle.index.specs.declared.Parts.{Parts}
 use Rattle.kept_half.specs.declared.RunOutcome.{RunOutcome}
 use Rattle.heights.specs.declared.Top.{Top}
-use Rattle.growth.proofs.Growing.{half-within, front-entry}
-use Rattle.laying.proofs.Laying.{above-zero, t-is, r-fits}
+use Rattle.squarefree_from_half.proofs.Growing.{half-within, front-entry}
+use Rattle.whole_from_half.proofs.Laying.{above-zero, t-is, r-fits}
 
 pub steps-due : {kind n : ℕ} {a : Parts} {l : List ℤ} → Ready kind n a l → rOf n ≢ 1 → StepsDue kind n a
 steps-due R above = record { parts = R .parts; known = R .known; good = R .good; above = above }

@@ -12,7 +12,7 @@ ghost use Rattle.definitions.specs.Requests.{knownKind, goodIndex};
 ghost use Rattle.answers.specs.Polynomial as Polynomial;
 ghost use Rattle.index.specs.Parts.{partsOf};
 ghost use Rattle.step_laws.specs.WorkingLimit.{Workable};
-ghost use Rattle.laying.specs.Ready.{Ready};
+ghost use Rattle.whole_from_half.specs.Ready.{Ready};
 ghost use Rattle.polynomial.specs.Making.{MakingOutcomeIs};
 
 // The outcome of the making: a code, and on 0 the additions, the height and the peak.
@@ -54,7 +54,7 @@ fn make_by_steps(b: &mut [i64], kind: u64, n: u64, parts: Parts, h: u64, w: u64)
         shapes::clear(b);
         return MakingOutcome::refused(answers::TALL);
     }
-    laying::from_lower_half(b, kind, n, parts);
+    whole_from_half::from_lower_half(b, kind, n, parts);
     let t = parts.t;
     let peak = top.place * t;
     MakingOutcome {
@@ -71,7 +71,7 @@ fn make(b: &mut [i64], kind: u64, n: u64, parts: Parts, h: u64, w: u64) -> Makin
     ensures { λ r. ⌜ MakingOutcomeIs kind n h w (now (b .exit)) r ⌝ }
 {
     if parts.r == 1 {
-        laying::without_steps(b, kind, n, parts);
+        whole_from_half::without_steps(b, kind, n, parts);
         return MakingOutcome {
             code: answers::DONE,
             additions: 0,

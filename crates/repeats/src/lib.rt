@@ -1,4 +1,4 @@
-// Inner: each `requires` is shown by the caller `outlines`. The first entries again and again, through all of a slice;
+// Inner: each `requires` is shown by the caller `outlined_steps`. The first entries again and again, through all of a slice;
 // and an accumulate of that, in one pass.
 mod rows;
 
@@ -10,8 +10,8 @@ ghost use Rattle.definitions.specs.Series.{Series, firsts};
 ghost use Rattle.definitions.specs.Steps.{accumulate, entries, largest, stepOver, stepList};
 ghost use Rattle.repeats.specs.Repeats.{Again, repeated};
 use heights::smaller;
-use passes::put;
-use passes::read_entry;
+use entry_steps::put;
+use entry_steps::read_entry;
 use rows::sum_row;
 
 // Each entry from d on is what stands d before it.

@@ -7,10 +7,10 @@ ghost use mir.Val.{SFits};
 ghost use Rattle.definitions.specs.Integers.{_⊕_};
 ghost use Rattle.definitions.specs.Steps.{entries};
 ghost use Rattle.repeats.specs.Repeats.{SummedTo};
-use passes::Sort;
-use passes::new_value;
-use passes::put;
-use passes::read_entry;
+use entry_steps::Sort;
+use entry_steps::new_value;
+use entry_steps::put;
+use entry_steps::read_entry;
 
 // From `from` up to `to`, each entry is the sum of those x and d before it, which lie below `from`.
 pub(crate) fn sum_row(a: &mut [i64], x: usize, d: usize, from: usize, to: usize)

@@ -14,9 +14,9 @@ use Rattle.definitions.specs.Series.{Series, firsts, alternate}
 use Rattle.definitions.specs.Steps.{entries}
 use Rattle.definitions.specs.Requests.{zeros}
 use Rattle.series.specs.Maps.{alternate-even, alternate-odd}
-use Rattle.passes.specs.Passes.{Split, All, putFour, setFour}
-use Rattle.passes.proofs.Split.{moved-up, all-firsts, all-below}
-use Rattle.passes.proofs.FourEntries.{four-is, moved-four-up}
+use Rattle.entry_steps.specs.Passes.{Split, All, putFour, setFour}
+use Rattle.entry_steps.proofs.Split.{moved-up, all-firsts, all-below}
+use Rattle.entry_steps.proofs.FourEntries.{four-is, moved-four-up}
 use Rattle.shapes.specs.Shapes.{InRange, mirroredUp, MirroredTo, negatedCopy}
 
 -- ---- zeros

@@ -17,7 +17,7 @@ use Rattle.definitions.specs.Requests.{zeros}
 use Rattle.series.specs.Maps.{spread-on, spread-off, spread-zero}
 use Rattle.step_laws.specs.Firsts.{is-firsts}
 use Rattle.step_laws.specs.Tests.{by-order}
-use Rattle.passes.proofs.Split.{getD-set-by}
+use Rattle.entry_steps.proofs.Split.{getD-set-by}
 use Rattle.shapes.proofs.Stretches.{put-before, put-in, put-length}
 
 pub record Spreading (t : ℕ) (e : Series) (n : ℕ) (l : List ℤ) (i at : ℕ) : Type 0 where

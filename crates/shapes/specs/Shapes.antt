@@ -8,7 +8,7 @@ use lib.Dec.{ltb}
 use Rattle.definitions.specs.Integers.{⊖}
 use Rattle.definitions.specs.Series.{Series}
 use Rattle.definitions.specs.Steps.{entries, largest}
-use Rattle.passes.specs.Passes.{Split}
+use Rattle.entry_steps.specs.Passes.{Split}
 
 -- each of the first n entries can be negated
 abbrev pub InRange : ℕ → List ℤ → Type 0

@@ -4,10 +4,10 @@ ghost use Prim.Native.Nat.{_+_, _/_, _≤_};
 ghost use mathlib.Core.Path.{_≡_};
 ghost use lib.ListN.{length};
 ghost use Rattle.definitions.specs.Steps.{entries};
-ghost use Rattle.passes.specs.Passes.{setFour};
+ghost use Rattle.entry_steps.specs.Passes.{setFour};
 ghost use Rattle.shapes.specs.Shapes.{InRange, MirroredTo, mirroredUp};
 use crate::signed_entry;
-use passes::put_four;
+use entry_steps::put_four;
 
 // The mirror at the four places from i on, and so that it changes the sign where `negate`, which the compiler asks
 // before the loop.

@@ -1,4 +1,4 @@
-// Inner: each `requires` is shown by the callers `growth` and `laying`. The passes that give a polynomial its shape,
+// Inner: each `requires` is shown by the callers `squarefree_from_half` and `whole_from_half`. The passes that give a polynomial its shape,
 // in place: clearing, the upper half, the signs and the second copy of an even index, and z^t for z. Each works on a
 // slice that is just as long as what it makes.
 
@@ -16,8 +16,8 @@ ghost use Rattle.definitions.specs.Steps.{entries, largest};
 ghost use Rattle.definitions.specs.Requests.{zeros};
 ghost use Rattle.shapes.specs.Shapes.{InRange, signedEntry, mirroredUp, negatedCopy};
 use fours::mirror_fours;
-use passes::put;
-use passes::read_entry;
+use entry_steps::put;
+use entry_steps::read_entry;
 
 // All entries 0.
 pub fn clear(a: &mut [i64])

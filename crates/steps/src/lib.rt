@@ -2,11 +2,11 @@
 
 ghost use mathlib.Core.Path.{_≡_};
 ghost use Rattle.definitions.specs.Steps.{stepCode, stepCount, stepLeaves};
-ghost use Rattle.passes.specs.Sorts.{sortMeans};
-use bounded::look;
-use bounded::take_bounded;
+ghost use Rattle.entry_steps.specs.Sorts.{sortMeans};
+use bounded_steps::look;
+use bounded_steps::take_bounded;
 use heights::magnitude;
-pub use passes::Sort;
+pub use entry_steps::Sort;
 
 pub struct Step {
     pub sort: Sort,

@@ -10,14 +10,14 @@ use libc::STDOUT_FILENO;
 
 // A whole line. Its words are a name, numbers, entries and, where there are some, bytes.
 fn answer(line: &[u8], buf: &mut [i64], space: &mut [u8]) {
-    let name = asking::name(line);
-    let asked = asking::numbers(line, name.next);
-    let entries = asking::entries(line, asked.next, buf);
-    let bytes = asking::bytes(line, entries.next, space);
+    let name = trial_lines::name(line);
+    let asked = trial_lines::numbers(line, name.next);
+    let entries = trial_lines::entries(line, asked.next, buf);
+    let bytes = trial_lines::bytes(line, entries.next, space);
     let k = entries.count;
     let m = bytes.count;
     if bytes.next == line.len() {
-        doors::ask(name.bits, asked, &mut buf[..k], &mut space[..m]);
+        trial_doors::ask(name.bits, asked, &mut buf[..k], &mut space[..m]);
     } else {
         io::write_all(STDOUT_FILENO, b"?\n");
     }
@@ -27,7 +27,7 @@ fn answer(line: &[u8], buf: &mut [i64], space: &mut [u8]) {
 fn answer_all(input: &[u8], buf: &mut [i64], space: &mut [u8]) {
     let mut at = 0;
     while at < input.len() {
-        let end = asking::line_end(input, at);
+        let end = trial_lines::line_end(input, at);
         answer(&input[at..end], buf, space);
         at = end + 1;
     }

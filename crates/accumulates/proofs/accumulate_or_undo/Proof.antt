@@ -8,7 +8,7 @@ use borrow.Author.Needs.{needs}
 use lib.ListN.{length}
 use lib.IntN.{ℤ}
 use Rattle.definitions.specs.Steps.{stepped}
-use Rattle.passes.proofs.Tested.{undone}
+use Rattle.entry_steps.proofs.Tested.{undone}
 use Rattle.chains.proofs.Group.{settled}
 use Rattle.accumulates.specs.Stopped.{Stopped}
 use Rattle.accumulates.proofs.TestedPass.{none-tested, stopped, all-tested}

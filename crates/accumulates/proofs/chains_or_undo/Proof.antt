@@ -5,7 +5,7 @@ use mathlib.Core.Path.{refl, sym, _∙_, ap}
 use native.Mathlib.Omega.{arith}
 use lib.ListN.{length}
 use Rattle.definitions.specs.Steps.{inRange, stepped}
-use Rattle.passes.proofs.Tested.{undone}
+use Rattle.entry_steps.proofs.Tested.{undone}
 use Rattle.chains.specs.Tested.{Tested}
 use Rattle.accumulates.specs.Stopped.{Stopped}
 use Rattle.accumulates.proofs.Pass.{same-new}

@@ -5,7 +5,7 @@ use lib.ListN.{length}
 use Rattle.definitions.specs.Steps.{comb, stepped, entries, largest}
 use Rattle.step_laws.specs.Machine.{range-fits}
 use Rattle.step_laws.specs.Step.{not-over-each}
-use Rattle.passes.specs.Passes.{Fit}
+use Rattle.entry_steps.specs.Passes.{Fit}
 use Rattle.combs.proofs.comb.Statement.{statement}
 use Rattle.combs.proofs.comb.Tie as tie
 

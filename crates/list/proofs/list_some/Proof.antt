@@ -7,7 +7,7 @@ use native.Mathlib.Nat.{not-suc-le-zero}
 use native.Mathlib.Omega.{arith}
 use lib.ListN.{length}
 use lib.Seq.{length-take-le}
-use Rattle.open_line.specs.declared.Line.{Line}
+use Rattle.line_so_far.specs.declared.Line.{Line}
 use Rattle.listing.specs.Stream.{printed}
 use Rattle.listing.proofs.Streaming.{takes}
 use Rattle.listing.proofs.Whole.{flushed}

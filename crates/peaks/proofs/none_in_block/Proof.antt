@@ -9,7 +9,7 @@ use Rattle.definitions.specs.Steps.{entries}
 use Rattle.step_laws.specs.Machine.{limit-fits}
 use Rattle.heights.specs.Above.{NoneAbove}
 use Rattle.heights.proofs.Looks.{none-more}
-use Rattle.passes.specs.Passes.{addable}
+use Rattle.entry_steps.specs.Passes.{addable}
 use Rattle.peaks.proofs.Gathers.{Unsigned, unsigned-test, unsigned-both, both-unsigned}
 use Rattle.peaks.proofs.Gathers.{difference-fits, sum-fits}
 use Rattle.peaks.proofs.none_in_block.Statement.{statement}

@@ -8,7 +8,7 @@ use Rattle.definitions.specs.Series.{Series}
 use Rattle.definitions.specs.Steps.{entries}
 use Rattle.step_laws.specs.Machine.{handed}
 use Rattle.step_laws.specs.Firsts.{is-firsts}
-use Rattle.passes.proofs.Split.{getD-set-by}
+use Rattle.entry_steps.proofs.Split.{getD-set-by}
 use Rattle.repeats.specs.Repeats.{Again}
 use Rattle.repeats.proofs.copy_up.Statement.{statement}
 use Rattle.repeats.proofs.copy_up.Tie as tie

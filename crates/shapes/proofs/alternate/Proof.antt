@@ -7,8 +7,8 @@ use lib.ListN.{length}
 use Rattle.definitions.specs.Series.{alternate}
 use Rattle.definitions.specs.Steps.{entries}
 use Rattle.series.specs.Maps.{alternate-even}
-use Rattle.passes.specs.Passes.{Split}
-use Rattle.passes.proofs.Split.{all-below, all-firsts}
+use Rattle.entry_steps.specs.Passes.{Split}
+use Rattle.entry_steps.proofs.Split.{all-below, all-firsts}
 use Rattle.shapes.proofs.Shaping.{starts, alternate-read, alternate-turn}
 use Rattle.shapes.proofs.alternate.Statement.{statement}
 use Rattle.shapes.proofs.alternate.Tie as tie

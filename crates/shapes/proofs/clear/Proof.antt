@@ -5,8 +5,8 @@ use native.Mathlib.Omega.{arith}
 use lib.ListN.{length}
 use Rattle.definitions.specs.Integers.{0ℤ}
 use Rattle.definitions.specs.Steps.{entries}
-use Rattle.passes.specs.Passes.{Split}
-use Rattle.passes.proofs.Split.{moved-up, all-below}
+use Rattle.entry_steps.specs.Passes.{Split}
+use Rattle.entry_steps.proofs.Split.{moved-up, all-below}
 use mathlib.Core.Path.{refl}
 use Rattle.shapes.proofs.Shaping.{all-zeros, starts}
 use Rattle.shapes.proofs.clear.Statement.{statement}

@@ -5,8 +5,8 @@ use mathlib.Core.Path.{_≡_}
 use native.Mathlib.Omega.{arith}
 use lib.ListN.{length}
 use Rattle.definitions.specs.Steps.{entries}
-use Rattle.passes.specs.Passes.{Split}
-use Rattle.passes.proofs.Split.{all-below, all-firsts}
+use Rattle.entry_steps.specs.Passes.{Split}
+use Rattle.entry_steps.proofs.Split.{all-below, all-firsts}
 use Rattle.shapes.specs.Shapes.{negatedCopy}
 use Rattle.shapes.proofs.Shaping.{starts, copied-low, copy-read, copy-turn}
 use Rattle.shapes.proofs.negated_copy.Statement.{statement}

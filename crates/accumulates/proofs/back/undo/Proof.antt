@@ -9,7 +9,7 @@ use borrow.Author.Needs.{needs}
 use lib.ListN.{length}
 use lib.IntN.{ℤ}
 use Rattle.definitions.specs.Steps.{entries}
-use Rattle.passes.specs.Passes.{Split}
+use Rattle.entry_steps.specs.Passes.{Split}
 use Rattle.accumulates.specs.Stopped.{isTaken}
 use Rattle.accumulates.proofs.PutBack.{none-back, taken-back, range-back, all-back, early-taken}
 use Rattle.accumulates.proofs.back.undo.Statement.{statement}

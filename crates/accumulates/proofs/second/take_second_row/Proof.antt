@@ -8,8 +8,8 @@ use borrow.Author.Tests.{not-true, not-false}
 use lib.ListN.{length}
 use Rattle.definitions.specs.Steps.{accumulated, entries, inRange}
 use Rattle.step_laws.specs.Tests.{by-order}
-use Rattle.passes.specs.Passes.{Split}
-use Rattle.passes.proofs.Split.{moved-up}
+use Rattle.entry_steps.specs.Passes.{Split}
+use Rattle.entry_steps.proofs.Split.{moved-up}
 use Rattle.chains.specs.Tested.{Found, Tested}
 use Rattle.accumulates.proofs.SecondRow.{second-start, second-is, second-tested, asked-second}
 use Rattle.accumulates.proofs.second.take_second_row.Statement.{statement}

@@ -7,7 +7,7 @@ use lib.ListN.{length, getD, length-set}
 use Rattle.definitions.specs.Integers.{0ℤ}
 use Rattle.definitions.specs.Steps.{entries}
 use Rattle.step_laws.specs.Machine.{handed}
-use Rattle.passes.proofs.Split.{getD-set-by}
+use Rattle.entry_steps.proofs.Split.{getD-set-by}
 use Rattle.chains.proofs.rows.first_row.Statement.{statement}
 use Rattle.chains.proofs.rows.first_row.Tie as tie
 

@@ -3,8 +3,8 @@ use Prim.Native.Nat.{_+_}
 use native.Mathlib.Omega.{arith}
 use Rattle.step_laws.specs.Machine.{handed}
 use Rattle.definitions.specs.Steps.{comb}
-use Rattle.passes.specs.Passes.{newEntry}
-use Rattle.passes.proofs.FourEntries.{four-is}
+use Rattle.entry_steps.specs.Passes.{newEntry}
+use Rattle.entry_steps.proofs.FourEntries.{four-is}
 use borrow.Author.Needs.{needs}
 use Rattle.combs.proofs.fours.step_four_entries.Statement.{statement}
 use Rattle.combs.proofs.fours.step_four_entries.Tie as tie

@@ -1,6 +1,6 @@
 -- `take_divisor` meets its contract: the walk hands out the divisor at its place, and the step on the kept half there
 -- is the next kept half (Turning).
-use Rattle.passes.specs.Sorts.{sortMeans}
+use Rattle.entry_steps.specs.Sorts.{sortMeans}
 use Rattle.kept_half.proofs.Turning.{step-due, turned, not-nothing}
 use borrow.Author.Needs.{needs}
 use Rattle.kept_half.proofs.run.take_divisor.Statement.{statement}

@@ -1,6 +1,6 @@
 -- `make` meets its contract, by r (Stepping).
 use mathlib.Core.Path.{sym, _∙_}
-use Rattle.laying.proofs.Laying.{above-zero, r-is}
+use Rattle.whole_from_half.proofs.Laying.{above-zero, r-is}
 use Rattle.polynomial.proofs.Stepping.{laid-one}
 use borrow.Author.Needs.{needs}
 use Rattle.polynomial.proofs.making.make.Statement.{statement}

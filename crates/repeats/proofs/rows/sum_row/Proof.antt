@@ -9,7 +9,7 @@ use mir.Val.{SFits}
 use Rattle.definitions.specs.Integers.{_⊕_}
 use Rattle.definitions.specs.Steps.{entries}
 use Rattle.step_laws.specs.Machine.{seen, handed}
-use Rattle.passes.proofs.Split.{getD-set-by}
+use Rattle.entry_steps.proofs.Split.{getD-set-by}
 use Rattle.repeats.specs.Repeats.{SummedTo}
 use Rattle.repeats.proofs.rows.sum_row.Statement.{statement}
 use Rattle.repeats.proofs.rows.sum_row.Tie as tie

@@ -12,8 +12,8 @@ use Rattle.definitions.specs.Steps.{Sort, stepOver, stepList, belowOne, stepCod
 use Rattle.step_laws.specs.Told.{Told, told-zero, told-large, told-limit, told-over, told-done, told-long}
 use Rattle.step_laws.specs.Machine.{seen, below-one}
 use Rattle.step_laws.specs.WorkingLimit.{Workable, read-limit}
-use Rattle.bounded.specs.Outcome.{StepOutcomeIs}
-use Rattle.bounded.specs.declared.StepOutcome.{StepOutcome}
+use Rattle.bounded_steps.specs.Outcome.{StepOutcomeIs}
+use Rattle.bounded_steps.specs.declared.StepOutcome.{StepOutcome}
 use Rattle.steps.proofs.Step.apply.Statement.{statement}
 use Rattle.steps.proofs.Step.apply.Tie as tie
 

@@ -1,2 +1,0 @@
--- What the contracts of `groups` cite beside those of `chains`.
-pub mod Widths
