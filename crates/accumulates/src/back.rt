@@ -10,9 +10,9 @@ ghost use mir.Val.{Fits, SFits};
 ghost use Rattle.definitions.specs.Steps.{comb};
 ghost use Rattle.entry_steps.specs.Passes.{newEntry};
 ghost use Rattle.accumulates.specs.Stopped.{takenInRow, PutBack, Stopped, Undoable};
-use heights::smaller;
 use entry_steps::Sort;
 use entry_steps::step_entry;
+use heights::smaller;
 
 // The places from `from` on and below `to`.
 fn put_back(a: &mut [i64], d: usize, from: usize, to: usize)

@@ -1,5 +1,5 @@
-// Inner: each `requires` is shown by the caller `bounded_steps`. The accumulate along its chains, as many neighbouring ones
-// at a time as have their sums in registers: up to the first value that would pass the working limit w, and back.
+// Inner: each `requires` is shown by the caller `bounded_steps`. The accumulate along its chains, as many neighbouring
+// ones at a time as have their sums in registers: up to the first value that would pass the working limit w, and back.
 
 mod back;
 mod second;

@@ -3,14 +3,14 @@
 // be added and taken away it needs that of w alone.
 use accumulates::accumulate_or_undo;
 use combs::comb_or_undo;
-use heights::larger;
-use heights::magnitude;
-use heights::smaller;
 use entry_steps::ADDABLE;
 use entry_steps::KNOWN;
 use entry_steps::NARROW;
 use entry_steps::Sort;
 use entry_steps::WIDE;
+use heights::larger;
+use heights::magnitude;
+use heights::smaller;
 ghost use Prim.Native.Nat.{ℕ, _+_, _*_, _≤_, _<_};
 ghost use mathlib.Core.Path.{_≡_};
 ghost use mathlib.Core.Bool.{true};

@@ -1,3 +1,4 @@
--- What the contracts of `chains`, and of `chain_groups` and `accumulates` above it, cite beside `definitions` and `entry_steps`.
+-- What the contracts of `chains`, and of `chain_groups` and `accumulates` above it, cite beside `definitions` and
+-- `entry_steps`.
 pub mod Chains
 pub mod Tested

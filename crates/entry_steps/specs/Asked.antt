@@ -1,5 +1,5 @@
--- What each way to test asks of that on which it is used (`entry_steps`: KNOWN is 0, NARROW 1, WIDE 2): where nothing is
--- tested, that no value passes the working limit w; where only the value is, that it can be taken; else nothing.
+-- What each way to test asks of that on which it is used (`entry_steps`: KNOWN is 0, NARROW 1, WIDE 2): where nothing
+-- is tested, that no value passes the working limit w; where only the value is, that it can be taken; else nothing.
 use Prim.Native.Nat.{ℕ, zero, suc, _-_, _≤_}
 use mathlib.Core.Bool.{true, false}
 use mathlib.Core.Path.{_≡_}

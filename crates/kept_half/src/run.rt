@@ -2,10 +2,10 @@
 use super::RunOutcome;
 use divisors::Next;
 use divisors::Walk;
+use entry_steps::Sort;
 use outlined_steps::Outline;
 use outlined_steps::take_outlined;
 use outlined_steps::write_out;
-use entry_steps::Sort;
 ghost use Prim.Native.Nat.{_+_, _-_, _≤_, _<_};
 ghost use mathlib.Core.Path.{_≡_};
 ghost use mathlib.Core.Bool.{false, cond, not};

@@ -1,5 +1,5 @@
--- The listing piece by piece, over the line that is being read (`line_so_far`). What pieces of input come, and where the
--- output is cut, makes no difference (proofs/, `Whole`).
+-- The listing piece by piece, over the line that is being read (`line_so_far`). What pieces of input come, and where
+-- the output is cut, makes no difference (proofs/, `Whole`).
 use Prim.Native.Nat.{ℕ, _+_, _-_}
 use mathlib.Core.Bool.{cond, _&&_}
 use mathlib.Core.List.{List, [], _∷_, _++_}

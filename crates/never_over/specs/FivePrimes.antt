@@ -22,7 +22,8 @@ use Rattle.never_over.specs.Promised.{promisedOf, promised}
 use Rattle.never_over.specs.Scales.{under-one}
 use Rattle.never_over.specs.Stops.{Held}
 use Rattle.never_over.specs.Weights.{weight}
-use Rattle.never_over.specs.Pairs.{meet, behind, settled, next, enough, runs, atStart, at-start, dueTo, runs-right}
+use Rattle.never_over.specs.Pairs.{meet, behind, settled, next, enough}
+use Rattle.never_over.specs.Pairs.{runs, atStart, at-start, dueTo, runs-right}
 use Rattle.never_over.specs.Listed.{listed, inserted, ascending, stepOf, stop-listed}
 
 -- the steps of F or of I, tested at every stop

@@ -1,2 +1,2 @@
--- Laws that the functions' proofs share, and `kept`'s.
+-- Laws that the functions' proofs share, and `kept_half`'s.
 pub mod Outlining

@@ -1,11 +1,11 @@
-// Inner: each `requires` is shown by the caller `kept`. Steps on entries that are told by the first few of them, after
-// which come zeros or the same again. The first steps of a run make such entries, so that most of them need not be
-// written one step after the other.
+// Inner: each `requires` is shown by the caller `kept_half`. Steps on entries that are told by the first few of them,
+// after which come zeros or the same again. The first steps of a run make such entries, so that most of them need not
+// be written one step after the other.
 use bounded_steps::stays_within;
 use bounded_steps::take_step;
 use bounded_steps::times_added;
-use heights::smaller;
 use entry_steps::Sort;
+use heights::smaller;
 use repeats::accumulate_repeated;
 use repeats::repeat;
 ghost use Prim.Native.Nat.{_%_, _≤_, _<_};

@@ -1,11 +1,11 @@
 // Inner: the `requires` is shown by the caller `polynomial`. The height of a slice and the lowest place where it
 // stands, as `heights::peak` finds them, but quicker, since a bound of the magnitudes is known: nothing is looked for
 // above it, and else the next larger magnitude is looked for in blocks.
+use entry_steps::ADDABLE;
 use heights::Top;
 use heights::above;
 use heights::magnitude;
 use heights::peak;
-use entry_steps::ADDABLE;
 ghost use Prim.Native.Nat.{_+_, _≤_};
 ghost use mathlib.Core.Path.{_≡_};
 ghost use mathlib.Core.Bool.{true};

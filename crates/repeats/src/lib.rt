@@ -1,5 +1,5 @@
-// Inner: each `requires` is shown by the caller `outlined_steps`. The first entries again and again, through all of a slice;
-// and an accumulate of that, in one pass.
+// Inner: each `requires` is shown by the caller `outlined_steps`. The first entries again and again, through all of a
+// slice; and an accumulate of that, in one pass.
 mod rows;
 
 ghost use Prim.Native.Nat.{ℕ, _≤_, _<_};
@@ -9,9 +9,9 @@ ghost use lib.ListN.{length};
 ghost use Rattle.definitions.specs.Series.{Series, firsts};
 ghost use Rattle.definitions.specs.Steps.{accumulate, entries, largest, stepOver, stepList};
 ghost use Rattle.repeats.specs.Repeats.{Again, repeated};
-use heights::smaller;
 use entry_steps::put;
 use entry_steps::read_entry;
+use heights::smaller;
 use rows::sum_row;
 
 // Each entry from d on is what stands d before it.

@@ -1,6 +1,6 @@
-// Inner: each `requires` is shown by the callers `squarefree_from_half` and `whole_from_half`. The passes that give a polynomial its shape,
-// in place: clearing, the upper half, the signs and the second copy of an even index, and z^t for z. Each works on a
-// slice that is just as long as what it makes.
+// Inner: each `requires` is shown by the callers `squarefree_from_half` and `whole_from_half`. The passes that give a
+// polynomial its shape, in place: clearing, the upper half, the signs and the second copy of an even index, and z^t for
+// z. Each works on a slice that is just as long as what it makes.
 
 mod fours;
 
@@ -15,9 +15,9 @@ ghost use Rattle.definitions.specs.Series.{firsts, alternate, spread};
 ghost use Rattle.definitions.specs.Steps.{entries, largest};
 ghost use Rattle.definitions.specs.Requests.{zeros};
 ghost use Rattle.shapes.specs.Shapes.{InRange, signedEntry, mirroredUp, negatedCopy};
-use fours::mirror_fours;
 use entry_steps::put;
 use entry_steps::read_entry;
+use fours::mirror_fours;
 
 // All entries 0.
 pub fn clear(a: &mut [i64])

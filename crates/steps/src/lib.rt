@@ -5,8 +5,8 @@ ghost use Rattle.definitions.specs.Steps.{stepCode, stepCount, stepLeaves};
 ghost use Rattle.entry_steps.specs.Sorts.{sortMeans};
 use bounded_steps::look;
 use bounded_steps::take_bounded;
-use heights::magnitude;
 pub use entry_steps::Sort;
+use heights::magnitude;
 
 pub struct Step {
     pub sort: Sort,

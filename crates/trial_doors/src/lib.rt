@@ -1,8 +1,8 @@
 // An inner crate: each door of the library, asked for the program `trial`, and its answer told (second/README.md has
 // the form). Nothing is promised but that each function is safe and ends: what is told is held to a stored output. A
 // request that comes is one function more here.
-use trial_lines::Row;
 use libc::STDOUT_FILENO;
+use trial_lines::Row;
 
 // The names of the requests, as `trial_lines::name` reads them.
 const POLYNOMIAL: u64 = 579882274169900;

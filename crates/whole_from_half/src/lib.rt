@@ -1,5 +1,5 @@
-// Inner: each `requires` is shown by `polynomial`. From the lower half for r to the polynomial of n, in place: `squarefree_from_half`
-// makes that of m, and here z^t is put for z.
+// Inner: each `requires` is shown by `polynomial`. From the lower half for r to the polynomial of n, in place:
+// `squarefree_from_half` makes that of m, and here z^t is put for z.
 use index::Parts;
 ghost use Prim.Native.Nat.{_+_, _*_, _≤_};
 ghost use mathlib.Core.Path.{_≡_};

@@ -1,5 +1,5 @@
--- `entry_steps::entry::new_entry` meets its contract: both entries fit, so they are as they were read, and so does what is
--- answered.
+-- `entry_steps::entry::new_entry` meets its contract: both entries fit, so they are as they were read, and so does what
+-- is answered.
 use mathlib.Core.Path.{_∙_}
 use Prim.Native.Nat.{_-_}
 use lib.ListN.{getD}

@@ -1,5 +1,5 @@
--- `entry_steps::entry::new_value_fits` meets its contract: the value of two small numbers is in range, and else each arm
--- tests that of its own sort.
+-- `entry_steps::entry::new_value_fits` meets its contract: the value of two small numbers is in range, and else each
+-- arm tests that of its own sort.
 use mathlib.Core.Path.{sym, _∙_, ap}
 use native.Mathlib.Omega.{arith}
 use borrow.Author.Needs.{needs}

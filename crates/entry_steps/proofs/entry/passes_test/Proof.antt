@@ -1,5 +1,5 @@
--- `entry_steps::entry::passes_test` meets its contract: where it is known what it comes to it is that, the value of small
--- numbers can be taken untested, and one that can't be taken is out of every range.
+-- `entry_steps::entry::passes_test` meets its contract: where it is known what it comes to it is that, the value of
+-- small numbers can be taken untested, and one that can't be taken is out of every range.
 use mathlib.Core.Path.{_≡_, sym, _∙_, ap}
 use mathlib.Core.Bool.{Bool, true, false, true≢false}
 use Prim.Native.Nat.{ℕ}

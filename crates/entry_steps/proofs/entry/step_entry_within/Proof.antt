@@ -1,5 +1,5 @@
--- `entry_steps::entry::step_entry_within` meets its contract: both entries fit, so they are as they were read, and a value
--- that is within w fits, so it is what is put.
+-- `entry_steps::entry::step_entry_within` meets its contract: both entries fit, so they are as they were read, and a
+-- value that is within w fits, so it is what is put.
 use mathlib.Core.Path.{_≡_, refl, sym, _∙_, ap, ap₂}
 use mathlib.Core.Bool.{true}
 use Prim.Native.Nat.{_-_}
