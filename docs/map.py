@@ -119,7 +119,8 @@ def draw():
         group, what = of[c]
         words = what.replace("`", "").replace("&", "&amp;").replace("<", "&lt;")
         out.append(
-            f'<g><title>{c}: {words}</title><rect x="{middle[c] - width[c] / 2:.0f}" y="{top[c]}" width="{width[c]:.0f}"'
+            f'<g><title>{c}: {words}</title>'
+            f'<rect x="{middle[c] - width[c] / 2:.0f}" y="{top[c]}" width="{width[c]:.0f}"'
             f' height="{HIGH}" rx="5" fill="{colour[group]}" stroke="#777"/>'
             f'<text x="{middle[c]:.0f}" y="{top[c] + 19}" text-anchor="middle">{c}</text></g>'
         )
