@@ -19,7 +19,7 @@ static const double PI = 3.14159265358979323846;
 static double out(const int64_t *stage, uint64_t degree, int t) {
     double sum = 0;
     for (uint64_t i = 0; i <= degree; i++)
-        sum += (double)stage[i] * (1000 + 300 * sin(2 * PI * MAINS * (t - (double)i) / RATE));
+        sum += (double)stage[i] * (1000 + 300 * sin(2 * PI * (double)MAINS * (t - (double)i) / (double)RATE));
     return sum;
 }
 
