@@ -1,6 +1,7 @@
 /*
- * The edges of every argument: NULL with length 0, 0, the largest numbers, the places just inside and just outside each range. Each call
- * is held to its whole outcome: the answer's fields and the contents of the slice. Prints how many outcomes were held.
+ * The edges of every argument: NULL with length 0, 0, the largest numbers, the places just inside and just outside each
+ * range. Each call is held to its whole outcome: the answer's fields and the contents of the slice. Prints how many
+ * outcomes were held.
  */
 #include <stdio.h>
 #include <stdlib.h>
@@ -24,7 +25,8 @@ static void hold(int right, const char *what, int line) {
 
 static int answers(bv_answer a, uint64_t code, uint64_t degree, uint64_t additions, uint64_t height, uint64_t peak,
                    int64_t gain) {
-    return a.code == code && a.degree == degree && a.additions == additions && a.height == height && a.peak == peak && a.gain == gain;
+    return a.code == code && a.degree == degree && a.additions == additions && a.height == height && a.peak == peak &&
+           a.gain == gain;
 }
 
 static int stops(bv_stop a, uint64_t code, uint64_t degree, uint64_t additions, uint64_t due) {
@@ -37,7 +39,7 @@ static int steps(bv_step a, uint64_t code, uint64_t count) {
 
 /* the byte is told with a wrong field and 0 with every other code */
 static int wrote(bv_written a, uint64_t code, uint64_t degree, uint64_t used) {
-    return a.code == code && a.degree == degree && a.used == used && a.byte == (code == BV_RCOUNT ? 6 : 0);
+    return a.code == code && a.degree == degree && a.used == used && a.byte == (code == BV_REFUSED_RCOUNT ? 6 : 0);
 }
 
 static int reads(bv_record a, uint64_t code, uint64_t degree, uint64_t used, uint64_t kind, uint64_t n) {
@@ -67,55 +69,65 @@ static void polynomial(void) {
     static const uint64_t no_index[] = {0, 65536, 65537, UINT64_C(1) << 32 | 1, UINT64_MAX};
     static const int64_t no_limit[] = {0, -1, INT64_MIN};
     for (size_t i = 0; i < 5; i++) {
-        HOLD(answers(bv_polynomial(no_kind[i], 0, 0, NONE, NULL, 0), BV_KIND, 0, 0, 0, 0, 0));
-        HOLD(answers(bv_polynomial(no_kind[i], 6, 1, NONE, buf, 9), BV_KIND, 0, 0, 0, 0, 0) && untouched_from(0));
-        HOLD(answers(bv_polynomial(1 + i % 2, no_index[i], 0, NONE, NULL, 0), BV_INDEX, 0, 0, 0, 0, 0));
-        HOLD(answers(bv_polynomial(1 + i % 2, no_index[i], 1, NONE, buf, 9), BV_INDEX, 0, 0, 0, 0, 0) && untouched_from(0));
+        HOLD(answers(bv_polynomial(no_kind[i], 0, 0, NONE, NULL, 0), BV_REFUSED_KIND, 0, 0, 0, 0, 0));
+        HOLD(answers(bv_polynomial(no_kind[i], 6, 1, NONE, buf, 9), BV_REFUSED_KIND, 0, 0, 0, 0, 0) &&
+             untouched_from(0));
+        HOLD(answers(bv_polynomial(1 + i % 2, no_index[i], 0, NONE, NULL, 0), BV_REFUSED_INDEX, 0, 0, 0, 0, 0));
+        HOLD(answers(bv_polynomial(1 + i % 2, no_index[i], 1, NONE, buf, 9), BV_REFUSED_INDEX, 0, 0, 0, 0, 0) &&
+             untouched_from(0));
     }
     for (size_t i = 0; i < 3; i++)
-        HOLD(answers(bv_polynomial(BV_KIND_F, 65535, no_limit[i], NONE, NULL, 0), BV_LIMIT, 0, 0, 0, 0, 0));
-    HOLD(answers(bv_polynomial(BV_KIND_F, 15, 1, NONE, NULL, 0), BV_SHORT, 8, 0, 0, 0, 0));
-    HOLD(answers(bv_polynomial(BV_KIND_F, 15, 1, NONE, buf, 8), BV_SHORT, 8, 0, 0, 0, 0) && untouched_from(0));
-    HOLD(answers(bv_polynomial(BV_KIND_F, 15, 1, NONE, buf, 9), BV_DONE, 8, 6, 1, 0, 1) && buf[8] == 1 && untouched_from(9));
-    HOLD(fresh() && answers(bv_polynomial(BV_KIND_F, 105, 1, NONE, buf, 60), BV_TALL, 48, 0, 0, 0, 0) && untouched_from(49));
+        HOLD(answers(bv_polynomial(BV_F, 65535, no_limit[i], NONE, NULL, 0), BV_REFUSED_LIMIT, 0, 0, 0, 0, 0));
+    HOLD(answers(bv_polynomial(BV_F, 15, 1, NONE, NULL, 0), BV_REFUSED_SHORT, 8, 0, 0, 0, 0));
+    HOLD(answers(bv_polynomial(BV_F, 15, 1, NONE, buf, 8), BV_REFUSED_SHORT, 8, 0, 0, 0, 0) && untouched_from(0));
+    HOLD(answers(bv_polynomial(BV_F, 15, 1, NONE, buf, 9), BV_DONE, 8, 6, 1, 0, 1) && buf[8] == 1 && untouched_from(9));
+    HOLD(fresh() && answers(bv_polynomial(BV_F, 105, 1, NONE, buf, 60), BV_REFUSED_TALL, 48, 0, 0, 0, 0) &&
+         untouched_from(49));
     for (size_t i = 0; i <= 48; i++)
         HOLD(buf[i] == 0);
-    HOLD(answers(bv_polynomial(BV_KIND_F, 105, 2, NONE, buf, 60), BV_DONE, 48, 98, 2, 7, 1) && buf[7] == -2 && buf[41] == -2 &&
-         untouched_from(49));
-    HOLD(fresh() && answers(bv_polynomial(BV_KIND_F, 1, 1, NONE, buf, 2), BV_DONE, 1, 0, 1, 0, 0) && buf[0] == -1 && buf[1] == 1);
-    HOLD(answers(bv_polynomial(BV_KIND_I, 1, INT64_MAX, NONE, buf, 1), BV_DONE, 0, 0, 1, 0, 1) && buf[0] == 1 && buf[1] == 1 &&
-         untouched_from(2));
-    HOLD(fresh() && answers(bv_polynomial(BV_KIND_F, 65535, INT64_MAX, NONE, buf, 32768), BV_SHORT, 32768, 0, 0, 0, 0) && untouched_from(0));
-    HOLD(bv_polynomial(BV_KIND_F, 65535, INT64_MAX, NONE, buf, 32769).code == BV_DONE && buf[32768] == 1 && untouched_from(32769));
-    HOLD(fresh() && answers(bv_polynomial(BV_KIND_F, 65521, 1, NONE, buf, 65536), BV_DONE, 65520, 32760, 1, 0, 65521) &&
+    HOLD(answers(bv_polynomial(BV_F, 105, 2, NONE, buf, 60), BV_DONE, 48, 98, 2, 7, 1) && buf[7] == -2 &&
+         buf[41] == -2 && untouched_from(49));
+    HOLD(fresh() && answers(bv_polynomial(BV_F, 1, 1, NONE, buf, 2), BV_DONE, 1, 0, 1, 0, 0) && buf[0] == -1 &&
+         buf[1] == 1);
+    HOLD(answers(bv_polynomial(BV_I, 1, INT64_MAX, NONE, buf, 1), BV_DONE, 0, 0, 1, 0, 1) && buf[0] == 1 &&
+         buf[1] == 1 && untouched_from(2));
+    HOLD(fresh() &&
+         answers(bv_polynomial(BV_F, 65535, INT64_MAX, NONE, buf, 32768), BV_REFUSED_SHORT, 32768, 0, 0, 0, 0) &&
+         untouched_from(0));
+    HOLD(bv_polynomial(BV_F, 65535, INT64_MAX, NONE, buf, 32769).code == BV_DONE && buf[32768] == 1 &&
+         untouched_from(32769));
+    HOLD(fresh() && answers(bv_polynomial(BV_F, 65521, 1, NONE, buf, 65536), BV_DONE, 65520, 32760, 1, 0, 65521) &&
          untouched_from(65521));
 }
 
 static void partial(void) {
-    HOLD(fresh() && stops(bv_partial(0, 15, 0, NONE, NULL, 0), BV_KIND, 0, 0, 0));
-    HOLD(stops(bv_partial(UINT64_MAX, 0, UINT64_MAX, NONE, buf, 4), BV_KIND, 0, 0, 0));
-    HOLD(stops(bv_partial(1, 0, 0, NONE, NULL, 0), BV_INDEX, 0, 0, 0));
-    HOLD(stops(bv_partial(2, 65536, 0, NONE, buf, 4), BV_INDEX, 0, 0, 0));
-    HOLD(stops(bv_partial(1, 32768, 0, NONE, buf, 4), BV_INDEX, 0, 0, 0));
-    HOLD(stops(bv_partial(1, 15, 4, NONE, NULL, 0), BV_STEP, 0, 0, 0));
-    HOLD(stops(bv_partial(1, 15, UINT64_MAX, NONE, buf, 9), BV_STEP, 0, 0, 0));
-    HOLD(stops(bv_partial(1, 15, 3, NONE, NULL, 0), BV_SHORT, 4, 0, 0));
-    HOLD(stops(bv_partial(1, 15, 3, NONE, buf, 4), BV_SHORT, 4, 0, 0) && untouched_from(0));
-    HOLD(stops(bv_partial(1, 15, 0, NONE, buf, 5), BV_DONE, 4, 0, 3) && buf[0] == 1 && buf[1] == 0 && buf[4] == 0 && untouched_from(5));
-    HOLD(stops(bv_partial(1, 15, 3, NONE, buf, 9), BV_DONE, 4, 6, 0) && buf[0] == 1 && buf[1] == -1 && buf[4] == -1 && untouched_from(5));
-    HOLD(stops(bv_partial(2, 60, 0, NONE, buf, 4), BV_DONE, 3, 0, 3) && buf[0] == -1 && buf[4] == -1 && untouched_from(5));
+    HOLD(fresh() && stops(bv_partial(0, 15, 0, NONE, NULL, 0), BV_REFUSED_KIND, 0, 0, 0));
+    HOLD(stops(bv_partial(UINT64_MAX, 0, UINT64_MAX, NONE, buf, 4), BV_REFUSED_KIND, 0, 0, 0));
+    HOLD(stops(bv_partial(1, 0, 0, NONE, NULL, 0), BV_REFUSED_INDEX, 0, 0, 0));
+    HOLD(stops(bv_partial(2, 65536, 0, NONE, buf, 4), BV_REFUSED_INDEX, 0, 0, 0));
+    HOLD(stops(bv_partial(1, 32768, 0, NONE, buf, 4), BV_REFUSED_INDEX, 0, 0, 0));
+    HOLD(stops(bv_partial(1, 15, 4, NONE, NULL, 0), BV_REFUSED_STEP, 0, 0, 0));
+    HOLD(stops(bv_partial(1, 15, UINT64_MAX, NONE, buf, 9), BV_REFUSED_STEP, 0, 0, 0));
+    HOLD(stops(bv_partial(1, 15, 3, NONE, NULL, 0), BV_REFUSED_SHORT, 4, 0, 0));
+    HOLD(stops(bv_partial(1, 15, 3, NONE, buf, 4), BV_REFUSED_SHORT, 4, 0, 0) && untouched_from(0));
+    HOLD(stops(bv_partial(1, 15, 0, NONE, buf, 5), BV_DONE, 4, 0, 3) && buf[0] == 1 && buf[1] == 0 && buf[4] == 0 &&
+         untouched_from(5));
+    HOLD(stops(bv_partial(1, 15, 3, NONE, buf, 9), BV_DONE, 4, 6, 0) && buf[0] == 1 && buf[1] == -1 && buf[4] == -1 &&
+         untouched_from(5));
+    HOLD(stops(bv_partial(2, 60, 0, NONE, buf, 4), BV_DONE, 3, 0, 3) && buf[0] == -1 && buf[4] == -1 &&
+         untouched_from(5));
 }
 
 static void one_step(bv_step (*step)(uint64_t, int64_t, int64_t *, size_t), int64_t sign) {
     int64_t a[3] = {INT64_MIN, sign * INT64_MAX, -1}, was[3];
     memcpy(was, a, sizeof a);
-    HOLD(steps(step(0, NONE, NULL, 0), BV_STEP, 0));
-    HOLD(steps(step(65536, NONE, NULL, 0), BV_STEP, 0));
-    HOLD(steps(step(UINT64_MAX, NONE, a, 3), BV_STEP, 0));
+    HOLD(steps(step(0, NONE, NULL, 0), BV_REFUSED_STEP, 0));
+    HOLD(steps(step(65536, NONE, NULL, 0), BV_REFUSED_STEP, 0));
+    HOLD(steps(step(UINT64_MAX, NONE, a, 3), BV_REFUSED_STEP, 0));
     HOLD(steps(step(1, NONE, NULL, 0), BV_DONE, 0));
     HOLD(steps(step(65535, NONE, a, 3), BV_DONE, 0) && memcmp(a, was, sizeof a) == 0);
     HOLD(steps(step(3, NONE, a, 3), BV_DONE, 0) && memcmp(a, was, sizeof a) == 0);
-    HOLD(steps(step(1, NONE, a, 3), BV_OVER, 0) && memcmp(a, was, sizeof a) == 0);
+    HOLD(steps(step(1, NONE, a, 3), BV_REFUSED_OVER, 0) && memcmp(a, was, sizeof a) == 0);
     HOLD(steps(step(2, NONE, a, 0), BV_DONE, 0) && memcmp(a, was, sizeof a) == 0);
     a[0] = INT64_MAX, a[1] = INT64_MIN, a[2] = sign * INT64_MAX;
     HOLD(steps(step(2, NONE, a, 3), BV_DONE, 1) && a[0] == INT64_MAX && a[1] == INT64_MIN && a[2] == 0);
@@ -184,13 +196,15 @@ static void polynomial_limits(polynomial_case p) {
                 fresh();
                 bv_answer a = bv_polynomial(p.kind, p.n, h, w, len == 0 ? NULL : buf, len);
                 if (h < 1 || w < 1)
-                    HOLD(answers(a, BV_LIMIT, 0, 0, 0, 0, 0) && untouched_from(0));
+                    HOLD(answers(a, BV_REFUSED_LIMIT, 0, 0, 0, 0, 0) && untouched_from(0));
                 else if (len <= p.degree)
-                    HOLD(answers(a, BV_SHORT, p.degree, 0, 0, 0, 0) && untouched_from(0));
+                    HOLD(answers(a, BV_REFUSED_SHORT, p.degree, 0, 0, 0, 0) && untouched_from(0));
                 else if (w < p.least)
-                    HOLD(answers(a, BV_OVER, p.degree, 0, 0, 0, 0) && zero_to(p.degree) && untouched_from(p.degree + 1));
+                    HOLD(answers(a, BV_REFUSED_OVER, p.degree, 0, 0, 0, 0) && zero_to(p.degree) &&
+                         untouched_from(p.degree + 1));
                 else if ((uint64_t)h < p.height)
-                    HOLD(answers(a, BV_TALL, p.degree, 0, 0, 0, 0) && zero_to(p.degree) && untouched_from(p.degree + 1));
+                    HOLD(answers(a, BV_REFUSED_TALL, p.degree, 0, 0, 0, 0) && zero_to(p.degree) &&
+                         untouched_from(p.degree + 1));
                 else
                     HOLD(answers(a, BV_DONE, p.degree, p.additions, p.height, p.peak, p.gain) && buf[p.degree] == 1 &&
                          untouched_from(p.degree + 1));
@@ -205,13 +219,14 @@ static void partial_limits(partial_case p) {
             fresh();
             bv_stop a = bv_partial(p.kind, p.n, p.j, w, len == 0 ? NULL : buf, len);
             if (w < 1)
-                HOLD(stops(a, BV_LIMIT, 0, 0, 0) && untouched_from(0));
+                HOLD(stops(a, BV_REFUSED_LIMIT, 0, 0, 0) && untouched_from(0));
             else if (len <= p.half)
-                HOLD(stops(a, BV_SHORT, p.half, 0, 0) && untouched_from(0));
+                HOLD(stops(a, BV_REFUSED_SHORT, p.half, 0, 0) && untouched_from(0));
             else if (w < p.least)
-                HOLD(stops(a, BV_OVER, p.half, 0, 0) && zero_to(p.half) && untouched_from(p.half + 1));
+                HOLD(stops(a, BV_REFUSED_OVER, p.half, 0, 0) && zero_to(p.half) && untouched_from(p.half + 1));
             else
-                HOLD(stops(a, BV_DONE, p.half, p.additions, p.due) && buf[0] == (p.kind == 1 ? 1 : -1) && untouched_from(p.half + 1));
+                HOLD(stops(a, BV_DONE, p.half, p.additions, p.due) && buf[0] == (p.kind == 1 ? 1 : -1) &&
+                     untouched_from(p.half + 1));
         }
 }
 
@@ -219,35 +234,38 @@ static void partial_limits(partial_case p) {
 static void before_limits(int64_t w) {
     fresh();
     for (size_t i = 0; i < COUNT(NO_KIND); i++) {
-        HOLD(answers(bv_polynomial(NO_KIND[i], 0, INT64_MIN, w, NULL, 0), BV_KIND, 0, 0, 0, 0, 0));
-        HOLD(answers(bv_polynomial(NO_KIND[i], 105, INT64_MAX, w, buf, 60), BV_KIND, 0, 0, 0, 0, 0) && untouched_from(0));
-        HOLD(stops(bv_partial(NO_KIND[i], 0, UINT64_MAX, w, NULL, 0), BV_KIND, 0, 0, 0));
-        HOLD(stops(bv_partial(NO_KIND[i], 105, 7, w, buf, 60), BV_KIND, 0, 0, 0) && untouched_from(0));
-        HOLD(answers(bv_polynomial(1, NO_INDEX[i], INT64_MIN, w, NULL, 0), BV_INDEX, 0, 0, 0, 0, 0));
-        HOLD(answers(bv_polynomial(2, NO_INDEX[i], INT64_MAX, w, buf, 60), BV_INDEX, 0, 0, 0, 0, 0) && untouched_from(0));
-        HOLD(stops(bv_partial(1, NO_INDEX[i], UINT64_MAX, w, NULL, 0), BV_INDEX, 0, 0, 0));
-        HOLD(stops(bv_partial(2, NO_INDEX[i], 0, w, buf, 60), BV_INDEX, 0, 0, 0) && untouched_from(0));
+        HOLD(answers(bv_polynomial(NO_KIND[i], 0, INT64_MIN, w, NULL, 0), BV_REFUSED_KIND, 0, 0, 0, 0, 0));
+        HOLD(answers(bv_polynomial(NO_KIND[i], 105, INT64_MAX, w, buf, 60), BV_REFUSED_KIND, 0, 0, 0, 0, 0) &&
+             untouched_from(0));
+        HOLD(stops(bv_partial(NO_KIND[i], 0, UINT64_MAX, w, NULL, 0), BV_REFUSED_KIND, 0, 0, 0));
+        HOLD(stops(bv_partial(NO_KIND[i], 105, 7, w, buf, 60), BV_REFUSED_KIND, 0, 0, 0) && untouched_from(0));
+        HOLD(answers(bv_polynomial(1, NO_INDEX[i], INT64_MIN, w, NULL, 0), BV_REFUSED_INDEX, 0, 0, 0, 0, 0));
+        HOLD(answers(bv_polynomial(2, NO_INDEX[i], INT64_MAX, w, buf, 60), BV_REFUSED_INDEX, 0, 0, 0, 0, 0) &&
+             untouched_from(0));
+        HOLD(stops(bv_partial(1, NO_INDEX[i], UINT64_MAX, w, NULL, 0), BV_REFUSED_INDEX, 0, 0, 0));
+        HOLD(stops(bv_partial(2, NO_INDEX[i], 0, w, buf, 60), BV_REFUSED_INDEX, 0, 0, 0) && untouched_from(0));
     }
-    HOLD(stops(bv_partial(1, 1, 0, w, buf, 60), BV_INDEX, 0, 0, 0) && untouched_from(0));
-    HOLD(stops(bv_partial(2, 32768, UINT64_MAX, w, NULL, 0), BV_INDEX, 0, 0, 0));
-    HOLD(stops(bv_partial(1, 105, 8, w, buf, 60), BV_STEP, 0, 0, 0) && untouched_from(0));
-    HOLD(stops(bv_partial(2, 105, UINT64_MAX, w, NULL, 0), BV_STEP, 0, 0, 0));
+    HOLD(stops(bv_partial(1, 1, 0, w, buf, 60), BV_REFUSED_INDEX, 0, 0, 0) && untouched_from(0));
+    HOLD(stops(bv_partial(2, 32768, UINT64_MAX, w, NULL, 0), BV_REFUSED_INDEX, 0, 0, 0));
+    HOLD(stops(bv_partial(1, 105, 8, w, buf, 60), BV_REFUSED_STEP, 0, 0, 0) && untouched_from(0));
+    HOLD(stops(bv_partial(2, 105, UINT64_MAX, w, NULL, 0), BV_REFUSED_STEP, 0, 0, 0));
 }
 
 /* A step under w: the new values at 2 and 3 are those told, whatever stands at 0 and 1, which stay. */
-static void step_limits(bv_step (*step)(uint64_t, int64_t, int64_t *, size_t), int64_t w, const int64_t a[4], int64_t two, int64_t three) {
+static void step_limits(bv_step (*step)(uint64_t, int64_t, int64_t *, size_t), int64_t w, const int64_t a[4],
+                        int64_t two, int64_t three) {
     int64_t b[4];
     memcpy(b, a, sizeof b);
-    HOLD(steps(step(0, w, NULL, 0), BV_STEP, 0));
-    HOLD(steps(step(65536, w, b, 4), BV_STEP, 0) && memcmp(a, b, sizeof b) == 0);
-    HOLD(steps(step(UINT64_MAX, w, b, 4), BV_STEP, 0) && memcmp(a, b, sizeof b) == 0);
-    HOLD(steps(step(1, w, NULL, 0), w < 1 ? BV_LIMIT : BV_DONE, 0));
-    HOLD(steps(step(4, w, b, 4), w < 1 ? BV_LIMIT : BV_DONE, 0) && memcmp(a, b, sizeof b) == 0);
-    HOLD(steps(step(65535, w, b, 4), w < 1 ? BV_LIMIT : BV_DONE, 0) && memcmp(a, b, sizeof b) == 0);
+    HOLD(steps(step(0, w, NULL, 0), BV_REFUSED_STEP, 0));
+    HOLD(steps(step(65536, w, b, 4), BV_REFUSED_STEP, 0) && memcmp(a, b, sizeof b) == 0);
+    HOLD(steps(step(UINT64_MAX, w, b, 4), BV_REFUSED_STEP, 0) && memcmp(a, b, sizeof b) == 0);
+    HOLD(steps(step(1, w, NULL, 0), w < 1 ? BV_REFUSED_LIMIT : BV_DONE, 0));
+    HOLD(steps(step(4, w, b, 4), w < 1 ? BV_REFUSED_LIMIT : BV_DONE, 0) && memcmp(a, b, sizeof b) == 0);
+    HOLD(steps(step(65535, w, b, 4), w < 1 ? BV_REFUSED_LIMIT : BV_DONE, 0) && memcmp(a, b, sizeof b) == 0);
     if (w < 1)
-        HOLD(steps(step(2, w, b, 4), BV_LIMIT, 0) && memcmp(a, b, sizeof b) == 0);
+        HOLD(steps(step(2, w, b, 4), BV_REFUSED_LIMIT, 0) && memcmp(a, b, sizeof b) == 0);
     else if (two > w || two < -w || three > w || three < -w)
-        HOLD(steps(step(2, w, b, 4), BV_OVER, 0) && memcmp(a, b, sizeof b) == 0);
+        HOLD(steps(step(2, w, b, 4), BV_REFUSED_OVER, 0) && memcmp(a, b, sizeof b) == 0);
     else
         HOLD(steps(step(2, w, b, 4), BV_DONE, 2) && b[0] == a[0] && b[1] == a[1] && b[2] == two && b[3] == three);
 }
@@ -285,29 +303,53 @@ static void limits(void) {
     }
 }
 
+/* F(6)'s record with the lowest number of b bytes as each coefficient: refused in b bytes, since the width goes by the
+ * magnitude, and written in the next width; in 8 bytes there is no next one. */
+static void lowest(void) {
+    for (size_t b = 1; b <= 8; b *= 2) {
+        int64_t low = -(INT64_MAX >> (64 - 8 * b)) - 1, c[] = {low, low, low};
+        uint8_t bytes[40] = {0xC9, 0x50, 1, (uint8_t)b, 6, 0, 3}, again[40];
+        for (size_t i = 0; i < 3; i++)
+            bytes[10 + i * b + b - 1] = 0x80;
+        HOLD(fresh() && reads(bv_read(bytes, 40, buf, 9), BV_REFUSED_WIDTH, 0, 0, 0, 0) && untouched_from(0));
+        if (b == 8) {
+            HOLD(wrote(bv_write(1, 6, c, 3, again, 40), BV_REFUSED_OVER, 2, 0));
+            continue;
+        }
+        HOLD(wrote(bv_write(1, 6, c, 3, again, 40), BV_DONE, 2, 10 + 3 * 2 * b) && again[3] == 2 * b);
+        HOLD(reads(bv_read(again, 40, buf, 9), BV_DONE, 2, 10 + 3 * 2 * b, 1, 6) && memcmp(buf, c, sizeof c) == 0);
+        for (size_t i = 0; i < 3; i++)
+            c[i] = low + 1;
+        HOLD(wrote(bv_write(1, 6, c, 3, again, 40), BV_DONE, 2, 10 + 3 * b) && again[3] == b);
+        HOLD(reads(bv_read(again, 40, buf, 9), BV_DONE, 2, 10 + 3 * b, 1, 6) && memcmp(buf, c, sizeof c) == 0);
+    }
+}
+
 static void record(void) {
     static const uint8_t f6[] = {0xC9, 0x50, 1, 1, 6, 0, 3, 0, 0, 0, 1, 0xFF, 1};
     int64_t c[] = {1, -1, 1}, least[] = {1, INT64_MIN, 1};
     uint8_t bytes[40];
     memset(bytes, 7, sizeof bytes);
-    HOLD(wrote(bv_write(0, 0, NULL, 0, NULL, 0), BV_KIND, 0, 0));
-    HOLD(wrote(bv_write(UINT64_MAX, 6, c, 3, bytes, 40), BV_KIND, 0, 0));
-    HOLD(wrote(bv_write(1, 0, NULL, 0, NULL, 0), BV_INDEX, 0, 0));
-    HOLD(wrote(bv_write(2, UINT64_MAX, c, 3, bytes, 40), BV_INDEX, 0, 0));
-    HOLD(wrote(bv_write(1, 6, NULL, 0, NULL, 0), BV_RCOUNT, 0, 0));
-    HOLD(wrote(bv_write(1, 6, c, 2, bytes, 40), BV_RCOUNT, 0, 0));
-    HOLD(wrote(bv_write(1, 6, least, 3, NULL, 0), BV_OVER, 2, 0));
-    HOLD(wrote(bv_write(1, 6, c, 3, NULL, 0), BV_SHORT, 2, 0));
-    HOLD(wrote(bv_write(1, 6, c, 3, bytes, 12), BV_SHORT, 2, 0) && bytes[0] == 7);
+    HOLD(wrote(bv_write(0, 0, NULL, 0, NULL, 0), BV_REFUSED_KIND, 0, 0));
+    HOLD(wrote(bv_write(UINT64_MAX, 6, c, 3, bytes, 40), BV_REFUSED_KIND, 0, 0));
+    HOLD(wrote(bv_write(1, 0, NULL, 0, NULL, 0), BV_REFUSED_INDEX, 0, 0));
+    HOLD(wrote(bv_write(2, UINT64_MAX, c, 3, bytes, 40), BV_REFUSED_INDEX, 0, 0));
+    HOLD(wrote(bv_write(1, 6, NULL, 0, NULL, 0), BV_REFUSED_RCOUNT, 0, 0));
+    HOLD(wrote(bv_write(1, 6, c, 2, bytes, 40), BV_REFUSED_RCOUNT, 0, 0));
+    HOLD(wrote(bv_write(1, 6, least, 3, NULL, 0), BV_REFUSED_OVER, 2, 0));
+    HOLD(wrote(bv_write(1, 6, c, 3, NULL, 0), BV_REFUSED_SHORT, 2, 0));
+    HOLD(wrote(bv_write(1, 6, c, 3, bytes, 12), BV_REFUSED_SHORT, 2, 0) && bytes[0] == 7);
     HOLD(wrote(bv_write(1, 6, c, 3, bytes, 13), BV_DONE, 2, 13) && memcmp(bytes, f6, 13) == 0 && bytes[13] == 7);
-    HOLD(fresh() && reads(bv_read(NULL, 0, NULL, 0), BV_CUT, 0, 0, 0, 0));
-    HOLD(reads(bv_read(f6, 9, buf, 9), BV_CUT, 0, 0, 0, 0));
-    HOLD(reads(bv_read(f6, 12, buf, 9), BV_CUT, 0, 0, 0, 0));
-    HOLD(reads(bv_read(f6, 13, NULL, 0), BV_SHORT, 2, 0, 0, 0));
-    HOLD(reads(bv_read(f6, 13, buf, 2), BV_SHORT, 2, 0, 0, 0) && untouched_from(0));
+    HOLD(fresh() && reads(bv_read(NULL, 0, NULL, 0), BV_REFUSED_CUT, 0, 0, 0, 0));
+    HOLD(reads(bv_read(f6, 9, buf, 9), BV_REFUSED_CUT, 0, 0, 0, 0));
+    HOLD(reads(bv_read(f6, 12, buf, 9), BV_REFUSED_CUT, 0, 0, 0, 0));
+    HOLD(reads(bv_read(f6, 13, NULL, 0), BV_REFUSED_SHORT, 2, 0, 0, 0));
+    HOLD(reads(bv_read(f6, 13, buf, 2), BV_REFUSED_SHORT, 2, 0, 0, 0) && untouched_from(0));
     HOLD(reads(bv_read(bytes, 40, buf, 9), BV_DONE, 2, 13, 1, 6) && memcmp(buf, c, sizeof c) == 0 && untouched_from(3));
     /* each byte of the header changed alone, and with the byte of each later field */
-    static const uint64_t codes[] = {BV_MARK, BV_MARK, BV_RKIND, BV_RWIDTH, BV_RCOUNT, BV_RCOUNT, BV_RCOUNT, BV_RCOUNT, BV_RCOUNT, BV_RCOUNT};
+    static const uint64_t codes[] = {BV_REFUSED_MARK,   BV_REFUSED_MARK,   BV_REFUSED_RKIND,  BV_REFUSED_RWIDTH,
+                                     BV_REFUSED_RCOUNT, BV_REFUSED_RCOUNT, BV_REFUSED_RCOUNT, BV_REFUSED_RCOUNT,
+                                     BV_REFUSED_RCOUNT, BV_REFUSED_RCOUNT};
     static const uint64_t starts[] = {0, 0, 2, 3, 6, 6, 6, 6, 6, 6};
     for (int at = 0; at < 10; at++) {
         uint8_t all[40];
@@ -321,19 +363,32 @@ static void record(void) {
         }
     }
     bytes[4] = 0;
-    HOLD(wrong(bv_read(bytes, 40, buf, 9), BV_RINDEX, 4) && untouched_from(0));
-    HOLD(wrong(bv_read(bytes, 10, buf, 9), BV_RINDEX, 4) && reads(bv_read(bytes, 9, buf, 9), BV_CUT, 0, 0, 0, 0));
+    HOLD(wrong(bv_read(bytes, 40, buf, 9), BV_REFUSED_RINDEX, 4) && untouched_from(0));
+    HOLD(wrong(bv_read(bytes, 10, buf, 9), BV_REFUSED_RINDEX, 4) &&
+         reads(bv_read(bytes, 9, buf, 9), BV_REFUSED_CUT, 0, 0, 0, 0));
     bytes[6] = 1;
-    HOLD(wrong(bv_read(bytes, 40, buf, 9), BV_RINDEX, 4) && untouched_from(0));
+    HOLD(wrong(bv_read(bytes, 40, buf, 9), BV_REFUSED_RINDEX, 4) && untouched_from(0));
     bytes[4] = 6, bytes[6] = 3;
     bytes[3] = 2;
-    HOLD(reads(bv_read(bytes, 15, buf, 9), BV_CUT, 0, 0, 0, 0) && untouched_from(0));
+    HOLD(reads(bv_read(bytes, 15, buf, 9), BV_REFUSED_CUT, 0, 0, 0, 0) && untouched_from(0));
     memcpy(bytes + 10, "\1\0\377\377\1", 6);
-    HOLD(reads(bv_read(bytes, 40, buf, 9), BV_WIDTH, 0, 0, 0, 0) && untouched_from(0));
+    HOLD(reads(bv_read(bytes, 40, buf, 9), BV_REFUSED_WIDTH, 0, 0, 0, 0) && untouched_from(0));
     bytes[11] = 1;
     HOLD(reads(bv_read(bytes, 40, buf, 9), BV_DONE, 2, 16, 1, 6) && buf[0] == 257 && buf[1] == -1 && untouched_from(3));
     bytes[3] = 1, bytes[10] = 0x80;
-    HOLD(fresh() && reads(bv_read(bytes, 40, buf, 9), BV_WIDTH, 0, 0, 0, 0) && untouched_from(0));
+    HOLD(fresh() && reads(bv_read(bytes, 40, buf, 9), BV_REFUSED_WIDTH, 0, 0, 0, 0) && untouched_from(0));
+    lowest();
+}
+
+/* Each code has its name, and no other number has one. */
+static void names(void) {
+    static const char *const of[] = {"DONE",   "KIND",   "INDEX", "LIMIT", "SHORT", "OVER",  "TALL",
+                                     "STEP",   "CUT",    "MARK",  "?",     "WIDTH", "RKIND", "RWIDTH",
+                                     "RINDEX", "RCOUNT", "?",     "?",     "?",     "?",     "?"};
+    for (size_t code = 0; code < COUNT(of); code++)
+        HOLD(strcmp(bv_name(code), of[code]) == 0);
+    HOLD(strcmp(bv_name(UINT64_MAX), "?") == 0);
+    HOLD(strcmp(bv_name((UINT64_C(1) << 32) + BV_REFUSED_KIND), "?") == 0);
 }
 
 int main(void) {
@@ -344,6 +399,7 @@ int main(void) {
     one_step(bv_accumulate, -1);
     limits();
     record();
+    names();
     printf("%d outcomes, all as told in bonvedrick.h\n", calls);
     return 0;
 }

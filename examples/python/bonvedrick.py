@@ -1,17 +1,51 @@
 """The library for Python, by ctypes over a shared object made from the archive (examples/Makefile makes it).
 
-Lists go in and lists come out. A refusal is the exception Refused, with its code, its name and the degree told; where a field of a record is
-wrong also with the field, the byte at which it starts and what would be right.
-What each function does and refuses is told in include/bonvedrick.h.
+Lists go in and lists come out, and a caller's list is never changed. A refusal is the exception Refused. What each
+function does and refuses is told in include/bonvedrick.h.
+
+ctypes would cut a number to 64 bits without a word, so each number and each entry is looked at first: one that does
+not fit its C type is an OverflowError, and what is no whole number is a TypeError. Then nothing was asked. A whole
+number is what operator.index takes for one: True is 1, numpy's whole numbers are good, 1.0 and "1" are not.
+
+Python 3.8 or later; nothing but the standard library.
 """
 
+from __future__ import annotations
+
 import ctypes
+import operator
+import os
+from collections.abc import Mapping, Set
 from ctypes import POINTER, c_int64, c_size_t, c_uint8, c_uint64
+from typing import Iterable, NamedTuple, SupportsIndex
 
 F, I = 1, 2
-LARGEST = 2**63 - 1  # as h or w: no limit
-NAMES = "DONE KIND INDEX LIMIT SHORT OVER TALL STEP CUT MARK ? WIDTH RKIND RWIDTH RINDEX RCOUNT".split()
-FIELDS = {  # of a record's header, by the code where they are wrong: the name, and what would be right
+NO_LIMIT = 2**63 - 1  # as h or w
+MOST_ENTRIES = 65536  # no polynomial has more
+SIZE_MAX = 2 ** (8 * ctypes.sizeof(c_size_t)) - 1
+
+# Every code; 10 is given no more.
+NAMES = {
+    0: "DONE",
+    1: "KIND",
+    2: "INDEX",
+    3: "LIMIT",
+    4: "SHORT",
+    5: "OVER",
+    6: "TALL",
+    7: "STEP",
+    8: "CUT",
+    9: "MARK",
+    11: "WIDTH",
+    12: "RKIND",
+    13: "RWIDTH",
+    14: "RINDEX",
+    15: "RCOUNT",
+}
+# The codes that tell a degree, where the answer has one.
+TELL_DEGREE = {"SHORT", "OVER", "TALL"}
+# The codes of a wrong field of a record's header: the field, and what would be right.
+FIELDS = {
     "RKIND": ("kind", "1 or 2"),
     "RWIDTH": ("width", "1, 2, 4 or 8"),
     "RINDEX": ("index", "from 1 to 65535"),
@@ -19,91 +53,217 @@ FIELDS = {  # of a record's header, by the code where they are wrong: the name, 
 }
 
 
-def struct(name, fields):
-    """A C struct of 64-bit numbers; the gain alone has a sign, as the coefficients have."""
-    types = [(f, c_int64 if f == "gain" else c_uint64) for f in fields.split()]
-    return type(name, (ctypes.Structure,), {"_fields_": types})
+class Answer(NamedTuple):
+    """What is told of a polynomial."""
+
+    code: int
+    degree: int
+    additions: int
+    height: int
+    peak: int
+    gain: int
 
 
-Answer = struct("Answer", "code degree additions height peak gain")
-Stop = struct("Stop", "code degree additions due")
-Step = struct("Step", "code count")
-Written = struct("Written", "code degree used byte")
-Record = struct("Record", "code degree used kind n byte")
+class Stop(NamedTuple):
+    """What is told of a half-built polynomial; the degree is that of its lower half."""
+
+    code: int
+    degree: int
+    additions: int
+    due: int
+
+
+class Step(NamedTuple):
+    code: int
+    count: int
+
+
+class Written(NamedTuple):
+    code: int
+    degree: int
+    used: int
+    byte: int
+
+
+class Record(NamedTuple):
+    code: int
+    degree: int
+    used: int
+    kind: int
+    n: int
+    byte: int
+
 
 WORDS = (POINTER(c_int64), c_size_t)
 BYTES = (POINTER(c_uint8), c_size_t)
+FUNCTIONS = {  # what each answers and takes
+    "bv_polynomial": (Answer, c_uint64, c_uint64, c_int64, c_int64, *WORDS),
+    "bv_partial": (Stop, c_uint64, c_uint64, c_uint64, c_int64, *WORDS),
+    "bv_comb": (Step, c_uint64, c_int64, *WORDS),
+    "bv_accumulate": (Step, c_uint64, c_int64, *WORDS),
+    "bv_write": (Written, c_uint64, c_uint64, *WORDS, *BYTES),
+    "bv_read": (Record, *BYTES, *WORDS),
+}
 
 
 class Refused(Exception):
-    def __init__(self, answer):
-        self.code = answer.code
-        self.degree = getattr(answer, "degree", 0)
-        self.name = NAMES[self.code] if self.code < len(NAMES) else "?"
-        self.byte = getattr(answer, "byte", 0)
+    """A refusal: its code and name; the degree where one is told; where a field of a record is wrong, the field, the
+    byte at which it starts and what would be right. What is not told is None."""
+
+    def __init__(self, code: int, degree: int | None = None, byte: int | None = None):
+        super().__init__(code, degree, byte)  # what copy and pickle make it from again
+        self.code = code
+        self.name = NAMES.get(code, "?")
+        self.degree = degree
+        self.byte = byte
         self.field, self.right = FIELDS.get(self.name, (None, None))
-        told = f"degree {self.degree}"
-        if self.field:
-            told = f"the record's {self.field}, at byte {self.byte}, is wrong: right is {self.right}"
-        super().__init__(f"{self.name} ({self.code}), {told}")
+
+    def __str__(self) -> str:
+        text = f"{self.name} ({self.code})"
+        if self.degree is not None:
+            text += f", degree {self.degree}"
+        if self.field is not None:
+            text += f", the record's {self.field}, at byte {self.byte}, is wrong: right is {self.right}"
+        return text
+
+
+def registers(bits: SupportsIndex) -> int:
+    """The working limit of registers of so many bits, 2 to 64, sign included: the largest magnitude they hold."""
+    bits = operator.index(bits)
+    if not 2 <= bits <= 64:
+        raise ValueError("registers have from 2 to 64 bits")
+    return 2 ** (bits - 1) - 1
 
 
 class Bonvedrick:
-    def __init__(self, path):
-        lib = ctypes.CDLL(path)
+    """The library at a path. It can be pickled: the other side loads it from the same path."""
 
-        def function(name, result, *arguments):
-            f = getattr(lib, name)
-            f.restype, f.argtypes = result, arguments
+    def __init__(self, path: str | os.PathLike):
+        self._path = os.fspath(path)
+        self._library = ctypes.CDLL(self._path)
+        for name, (answer, *arguments) in FUNCTIONS.items():
+            function = getattr(self._library, name)
+            function.restype, function.argtypes = _struct(answer), arguments
 
-            def call(*values):
-                answer = f(*values)
-                if answer.code != 0:
-                    raise Refused(answer)
-                return answer
+    def __reduce__(self):
+        return type(self), (self._path,)
 
-            return call
-
-        self._polynomial = function("bv_polynomial", Answer, c_uint64, c_uint64, c_int64, c_int64, *WORDS)
-        self._partial = function("bv_partial", Stop, c_uint64, c_uint64, c_uint64, c_int64, *WORDS)
-        self._comb = function("bv_comb", Step, c_uint64, c_int64, *WORDS)
-        self._accumulate = function("bv_accumulate", Step, c_uint64, c_int64, *WORDS)
-        self._write = function("bv_write", Written, c_uint64, c_uint64, *WORDS, *BYTES)
-        self._read = function("bv_read", Record, *BYTES, *WORDS)
-
-    def polynomial(self, kind, n, h=LARGEST, w=LARGEST, room=65536):
-        """The coefficients, lowest degree first, and the answer. No step on the way may make a value larger in magnitude than w."""
-        buf = (c_int64 * room)()
-        a = self._polynomial(kind, n, h, w, buf, room)
+    def polynomial(
+        self,
+        kind: SupportsIndex,
+        n: SupportsIndex,
+        h: SupportsIndex = NO_LIMIT,
+        w: SupportsIndex = NO_LIMIT,
+        room: SupportsIndex = MOST_ENTRIES,
+    ) -> tuple[list[int], Answer]:
+        """The coefficients, lowest degree first, and the answer. None may be larger in magnitude than h, and no value
+        that a step on the way makes larger than w."""
+        buf = _room(room)
+        a = self._ask("bv_polynomial", _u64("kind", kind), _u64("n", n), _i64("h", h), _i64("w", w), buf)
         return buf[: a.degree + 1], a
 
-    def partial(self, kind, n, j, w=LARGEST, room=32768):
+    def partial(
+        self,
+        kind: SupportsIndex,
+        n: SupportsIndex,
+        j: SupportsIndex,
+        w: SupportsIndex = NO_LIMIT,
+        room: SupportsIndex = MOST_ENTRIES,
+    ) -> tuple[list[int], Stop]:
         """The kept half after j divisors, and the answer."""
-        buf = (c_int64 * room)()
-        a = self._partial(kind, n, j, w, buf, room)
+        buf = _room(room)
+        a = self._ask("bv_partial", _u64("kind", kind), _u64("n", n), _u64("j", j), _i64("w", w), buf)
         return buf[: a.degree + 1], a
 
-    def comb(self, size, entries, w=LARGEST):
+    def comb(
+        self, size: SupportsIndex, entries: Iterable[SupportsIndex], w: SupportsIndex = NO_LIMIT
+    ) -> list[int]:
         """The entries times 1 - z^size, as many as there were."""
-        buf = (c_int64 * len(entries))(*entries)
-        self._comb(size, w, buf, len(buf))
+        buf = _words("entries", entries)
+        self._ask("bv_comb", _u64("size", size), _i64("w", w), buf)
         return buf[:]
 
-    def accumulate(self, size, entries, w=LARGEST):
-        """The entries divided by 1 - z^size."""
-        buf = (c_int64 * len(entries))(*entries)
-        self._accumulate(size, w, buf, len(buf))
+    def accumulate(
+        self, size: SupportsIndex, entries: Iterable[SupportsIndex], w: SupportsIndex = NO_LIMIT
+    ) -> list[int]:
+        """The entries divided by 1 - z^size, as many as there were."""
+        buf = _words("entries", entries)
+        self._ask("bv_accumulate", _u64("size", size), _i64("w", w), buf)
         return buf[:]
 
-    def write(self, kind, n, coeffs):
+    def write(self, kind: SupportsIndex, n: SupportsIndex, coeffs: Iterable[SupportsIndex]) -> bytes:
         """The record's bytes."""
-        words = (c_int64 * len(coeffs))(*coeffs)
-        buf = (c_uint8 * (10 + 8 * len(coeffs)))()
-        a = self._write(kind, n, words, len(words), buf, len(buf))
+        words = _words("coeffs", coeffs)
+        buf = (c_uint8 * (10 + 8 * len(words)))()
+        a = self._ask("bv_write", _u64("kind", kind), _u64("n", n), words, buf)
         return bytes(buf[: a.used])
 
-    def read(self, data, room=65536):
+    def read(
+        self, data: bytes | bytearray | memoryview, room: SupportsIndex = MOST_ENTRIES
+    ) -> tuple[int, int, list[int], int]:
         """The kind, the index and the coefficients of the record that the bytes start with, and the bytes it uses."""
-        buf = (c_int64 * room)()
-        a = self._read((c_uint8 * len(data)).from_buffer_copy(data), len(data), buf, room)
+        buf = _room(room)
+        a = self._ask("bv_read", _bytes(data), buf)
         return a.kind, a.n, buf[: a.degree + 1], a.used
+
+    def _ask(self, function, *arguments):
+        """The answer of a C function, or Refused. An array goes over with its length."""
+        passed = []
+        for argument in arguments:
+            passed.append(argument)
+            if isinstance(argument, ctypes.Array):
+                passed.append(len(argument))
+        told = getattr(self._library, function)(*passed)
+        if told.code != 0:
+            name = NAMES.get(told.code)
+            degree = getattr(told, "degree", None) if name in TELL_DEGREE else None
+            raise Refused(told.code, degree, told.byte if name in FIELDS else None)
+        answer = FUNCTIONS[function][0]
+        return answer._make(getattr(told, field) for field in answer._fields)
+
+
+def _struct(answer):
+    """The C struct of an answer: 64-bit numbers; the gain alone has a sign, as the coefficients have."""
+    types = [(field, c_int64 if field == "gain" else c_uint64) for field in answer._fields]
+    return type(answer.__name__, (ctypes.Structure,), {"_fields_": types})
+
+
+def _within(name, value, low, high):
+    """The whole number that value is. One out of range is not shown: it may have any number of digits."""
+    number = operator.index(value)
+    if not low <= number <= high:
+        raise OverflowError(f"{name} is not from {low} to {high}")
+    return number
+
+
+def _u64(name, value):
+    return _within(name, value, 0, 2**64 - 1)
+
+
+def _i64(name, value):
+    return _within(name, value, -(2**63), 2**63 - 1)
+
+
+def _words(name, values):
+    """A copy of the entries for C."""
+    if isinstance(values, (Set, Mapping)):
+        raise TypeError(f"{name}: a {type(values).__name__} has no places")
+    numbers = [operator.index(value) for value in values]
+    for place, number in enumerate(numbers):
+        if not -(2**63) <= number < 2**63:
+            _i64(f"{name}[{place}]", number)
+    return (c_int64 * len(numbers))(*numbers)
+
+
+def _room(room):
+    """The entries to lend. No more than any polynomial has: the others would stand there untouched, and memory may not
+    have so many."""
+    return (c_int64 * min(_within("room", room, 0, SIZE_MAX), MOST_ENTRIES))()
+
+
+def _bytes(data):
+    """A copy of the bytes for C."""
+    if not isinstance(data, (bytes, bytearray, memoryview)):
+        raise TypeError(f"a record is bytes, a bytearray or a memoryview, not {type(data).__name__}")
+    data = bytes(data)
+    return (c_uint8 * len(data)).from_buffer_copy(data)

@@ -1,11 +1,11 @@
-"""A mains notch in Python. At 1050 samples a second 50 Hz is one turn in 21 samples, so F(21) stops it and I(21) is what it leaves over:
-the two together are the plain comb z^21 - 1. At the end, a larger one: which registers of a chip its steps fit, and which step is the first
-that does not. Usage: notch.py libbonvedrick.so"""
+"""A mains notch in Python. At 1050 samples a second 50 Hz is one turn in 21 samples, so F(21) stops it and I(21) is
+what it leaves over: the two together are the plain comb z^21 - 1. At the end, a larger one: which registers of a chip
+its steps fit, and which step is the first that does not. Usage: notch.py libbonvedrick.so"""
 
 import cmath
 import sys
 
-from bonvedrick import F, I, Bonvedrick, Refused
+from bonvedrick import F, I, Bonvedrick, Refused, registers
 
 RATE, MAINS = 1050, 50
 N = RATE // MAINS
@@ -29,13 +29,8 @@ def response(coeffs, hz):
 def told(ask, *arguments, **named):
     try:
         return ask(*arguments, **named)
-    except Refused as refusal:
-        return refusal
-
-
-def registers(bits):
-    """The working limit of registers of so many bits, sign included: the largest magnitude they hold."""
-    return 2 ** (bits - 1) - 1
+    except (Refused, OverflowError) as why:
+        return why
 
 
 def fits(ask, *arguments, bits):
@@ -65,6 +60,7 @@ print("record:", record.hex(" "))
 print("read back:", bv.read(record) == (F, N, f, len(record)))
 print("kind 3:", told(bv.polynomial, 3, N))
 print("F(0):", told(bv.polynomial, F, 0))
+print("F(2^64 + 21):", told(bv.polynomial, F, 2**64 + 21))
 print("F(105) of height 1:", told(bv.polynomial, F, 105, 1))
 print("a step of size 0:", told(bv.comb, 0, []))
 print("a comb on nothing:", bv.comb(1, []))
@@ -75,5 +71,7 @@ print("a coefficient too few:", told(bv.write, F, N, f[1:]))
 print("a comb past a working limit of 4:", told(bv.comb, 1, [100, 1, 4], w=4))
 print("the old entries may be past it:", *bv.comb(1, [100, 101, 102], w=4))
 print(f"I({LARGE}) in registers of {BITS} bits:", told(bv.polynomial, I, LARGE, w=registers(BITS)))
-print("the first step that doesn't fit:", next(j for j in range(1, 32) if not fits(bv.partial, I, LARGE, j, bits=BITS)))
-print("the least registers that do:", next(bits for bits in range(2, 65) if fits(bv.polynomial, I, LARGE, bits=bits)), "bits")
+first = next(j for j in range(1, 32) if not fits(bv.partial, I, LARGE, j, bits=BITS))
+print("the first step that doesn't fit:", first)
+least = next(bits for bits in range(2, 65) if fits(bv.polynomial, I, LARGE, bits=bits))
+print("the least registers that do:", least, "bits")

@@ -1,5 +1,9 @@
 //! A safe wrapper: slices for pointers and lengths, an enum of the refusals, and a `Result`. Nothing here allocates.
-//! Copy this file, and link with `-l static=bonvedrick`. What each function does and refuses is told in include/bonvedrick.h.
+//! Copy this file, and link with `-l static=bonvedrick`; editions 2021 and 2024 take it, by rustc 1.82 or later.
+//! What each function does and refuses is told in include/bonvedrick.h.
+
+// A program that takes this file in uses the part of it that it needs.
+#![allow(dead_code)]
 
 use std::fmt;
 
@@ -47,7 +51,7 @@ mod c {
         pub byte: u64,
     }
 
-    extern "C" {
+    unsafe extern "C" {
         pub fn bv_polynomial(kind: u64, n: u64, h: i64, w: i64, buf: *mut i64, len: usize) -> Answer;
         pub fn bv_partial(kind: u64, n: u64, j: u64, w: i64, buf: *mut i64, len: usize) -> Stop;
         pub fn bv_comb(size: u64, w: i64, buf: *mut i64, len: usize) -> Step;
@@ -67,9 +71,13 @@ pub enum Kind {
 /// For the height limit h and the working limit w: none.
 pub const NO_LIMIT: i64 = i64::MAX;
 
-/// The working limit of registers of `bits` bits, 2 to 64, sign included: no step may make a value larger in magnitude.
-pub fn registers(bits: u32) -> i64 {
-    i64::MAX >> (64 - bits)
+/// The working limit of registers of `bits` bits, sign included: no step may make a value larger in magnitude.
+/// `None` outside 2 to 64 bits, where there is no such limit.
+pub fn registers(bits: u32) -> Option<i64> {
+    match bits {
+        2..=64 => Some(i64::MAX >> (64 - bits)),
+        _ => None,
+    }
 }
 
 /// A field of a record's header.
@@ -102,16 +110,17 @@ impl Field {
     }
 }
 
-/// Why nothing was delivered. The degree stands where the library tells it: of the polynomial, and for `partial` of its lower half.
-/// `Field` is of `write` and `read`: the field that is wrong, and the byte of the record at which it starts.
+/// Why nothing was delivered. The degree is that of the polynomial, and for `partial` that of its lower half; it is
+/// `None` where the request tells none, as a step does. `Field` is of `write` and `read`: the field that is wrong, and
+/// the byte of the record at which it starts.
 #[derive(Clone, Copy, Debug, PartialEq, Eq)]
 pub enum Refusal {
     Kind,
     Index,
     Limit,
-    Short { degree: usize },
-    Over { degree: usize },
-    Tall { degree: usize },
+    Short { degree: Option<usize> },
+    Over { degree: Option<usize> },
+    Tall { degree: Option<usize> },
     Step,
     Cut,
     Mark,
@@ -121,19 +130,67 @@ pub enum Refusal {
     Unknown(u64),
 }
 
+impl Refusal {
+    /// The refusal of a code. The degree is `None` where the request's answer has no such field, and looked at only
+    /// with the codes that tell one; the byte is looked at only with those of a wrong field.
+    pub(crate) fn of(code: u64, degree: Option<u64>, byte: u64) -> Refusal {
+        let degree = degree.map(place);
+        let wrong = |field| Refusal::Field { field, byte: place(byte) };
+        match code {
+            1 => Refusal::Kind,
+            2 => Refusal::Index,
+            3 => Refusal::Limit,
+            4 => Refusal::Short { degree },
+            5 => Refusal::Over { degree },
+            6 => Refusal::Tall { degree },
+            7 => Refusal::Step,
+            8 => Refusal::Cut,
+            9 => Refusal::Mark,
+            11 => Refusal::Width,
+            12 => wrong(Field::Kind),
+            13 => wrong(Field::Width),
+            14 => wrong(Field::Index),
+            15 => wrong(Field::Count),
+            other => Refusal::Unknown(other),
+        }
+    }
+
+    /// Its number, as include/bonvedrick.h has it.
+    pub fn code(self) -> u64 {
+        match self {
+            Refusal::Kind => 1,
+            Refusal::Index => 2,
+            Refusal::Limit => 3,
+            Refusal::Short { .. } => 4,
+            Refusal::Over { .. } => 5,
+            Refusal::Tall { .. } => 6,
+            Refusal::Step => 7,
+            Refusal::Cut => 8,
+            Refusal::Mark => 9,
+            Refusal::Width => 11,
+            Refusal::Field { field: Field::Kind, .. } => 12,
+            Refusal::Field { field: Field::Width, .. } => 13,
+            Refusal::Field { field: Field::Index, .. } => 14,
+            Refusal::Field { field: Field::Count, .. } => 15,
+            Refusal::Unknown(code) => code,
+        }
+    }
+}
+
 impl fmt::Display for Refusal {
     fn fmt(&self, f: &mut fmt::Formatter<'_>) -> fmt::Result {
         match self {
             Refusal::Kind => f.write_str("the kind is not 1 or 2"),
             Refusal::Index => f.write_str("there is no such index"),
             Refusal::Limit => f.write_str("a limit is below 1"),
-            Refusal::Short { degree } => write!(f, "too little room: the degree is {degree}"),
+            Refusal::Short { degree: Some(degree) } => write!(f, "too little room: the degree is {degree}"),
+            Refusal::Short { degree: None } => f.write_str("too little room"),
             Refusal::Over { .. } => f.write_str("a value is too large in magnitude to work with"),
             Refusal::Tall { .. } => f.write_str("a coefficient is larger in magnitude than the height limit"),
             Refusal::Step => f.write_str("there is no such step"),
             Refusal::Cut => f.write_str("the record ends early"),
             Refusal::Mark => f.write_str("the bytes are not those of a record"),
-            Refusal::Width => f.write_str("the record's coefficients are not in the least width that holds them"),
+            Refusal::Width => f.write_str("the record's coefficients are not in the width that `write` would choose"),
             Refusal::Field { field, byte } => {
                 write!(f, "the record's {}, at byte {byte}, is wrong: right is {}", field.name(), field.right())
             }
@@ -144,31 +201,14 @@ impl fmt::Display for Refusal {
 
 impl std::error::Error for Refusal {}
 
-fn refused(code: u64, degree: u64, byte: u64) -> Refusal {
-    let degree = degree as usize;
-    let wrong = |field| Refusal::Field { field, byte: byte as usize };
-    match code {
-        1 => Refusal::Kind,
-        2 => Refusal::Index,
-        3 => Refusal::Limit,
-        4 => Refusal::Short { degree },
-        5 => Refusal::Over { degree },
-        6 => Refusal::Tall { degree },
-        7 => Refusal::Step,
-        8 => Refusal::Cut,
-        9 => Refusal::Mark,
-        11 => Refusal::Width,
-        12 => wrong(Field::Kind),
-        13 => wrong(Field::Width),
-        14 => wrong(Field::Index),
-        15 => wrong(Field::Count),
-        other => Refusal::Unknown(other),
-    }
+/// A degree, a place or a count of bytes that the library told: at most 10 + 8 * 65536, so it fits and is never cut.
+fn place(told: u64) -> usize {
+    usize::try_from(told).expect("the library told a place that no slice has")
 }
 
-/// `value` on code 0, else the refusal.
-fn outcome<T>(code: u64, degree: u64, byte: u64, value: T) -> Result<T, Refusal> {
-    if code == 0 { Ok(value) } else { Err(refused(code, degree, byte)) }
+/// Nothing on code 0, else the refusal.
+fn outcome(code: u64, degree: Option<u64>, byte: u64) -> Result<(), Refusal> {
+    if code == 0 { Ok(()) } else { Err(Refusal::of(code, degree, byte)) }
 }
 
 /// A delivered polynomial: its coefficients, a part of the buffer that was lent, and what the library tells of it.
@@ -200,42 +240,47 @@ pub struct Record<'a> {
 }
 
 // SAFETY of each call below: a Rust slice is what the library asks of a pointer and a length, and `&mut` is alone.
+// `kind as u64` is 1 or 2, which an enum says for itself.
 
 pub fn polynomial(kind: Kind, n: u64, h: i64, w: i64, buf: &mut [i64]) -> Result<Polynomial<'_>, Refusal> {
     let a = unsafe { c::bv_polynomial(kind as u64, n, h, w, buf.as_mut_ptr(), buf.len()) };
-    outcome(a.code, a.degree, 0, ())?;
-    let coeffs = &mut buf[..=a.degree as usize];
-    Ok(Polynomial { coeffs, additions: a.additions, height: a.height, peak: a.peak as usize, gain: a.gain })
+    outcome(a.code, Some(a.degree), 0)?;
+    let coeffs = &mut buf[..=place(a.degree)];
+    Ok(Polynomial { coeffs, additions: a.additions, height: a.height, peak: place(a.peak), gain: a.gain })
 }
 
 pub fn partial(kind: Kind, n: u64, j: u64, w: i64, buf: &mut [i64]) -> Result<Partial<'_>, Refusal> {
     let a = unsafe { c::bv_partial(kind as u64, n, j, w, buf.as_mut_ptr(), buf.len()) };
-    outcome(a.code, a.degree, 0, ())?;
-    Ok(Partial { half: &mut buf[..=a.degree as usize], additions: a.additions, due: a.due as usize })
+    outcome(a.code, Some(a.degree), 0)?;
+    Ok(Partial { half: &mut buf[..=place(a.degree)], additions: a.additions, due: place(a.due) })
 }
 
 /// Multiplies by 1 - z^size, and answers how many subtractions that took.
 pub fn comb(size: u64, w: i64, buf: &mut [i64]) -> Result<u64, Refusal> {
     let a = unsafe { c::bv_comb(size, w, buf.as_mut_ptr(), buf.len()) };
-    outcome(a.code, 0, 0, a.count)
+    outcome(a.code, None, 0)?;
+    Ok(a.count)
 }
 
 /// Divides by 1 - z^size, and answers how many additions that took.
 pub fn accumulate(size: u64, w: i64, buf: &mut [i64]) -> Result<u64, Refusal> {
     let a = unsafe { c::bv_accumulate(size, w, buf.as_mut_ptr(), buf.len()) };
-    outcome(a.code, 0, 0, a.count)
+    outcome(a.code, None, 0)?;
+    Ok(a.count)
 }
 
 /// Writes a record, and answers its bytes.
 pub fn write<'a>(kind: Kind, n: u64, coeffs: &[i64], bytes: &'a mut [u8]) -> Result<&'a mut [u8], Refusal> {
-    let a = unsafe { c::bv_write(kind as u64, n, coeffs.as_ptr(), coeffs.len(), bytes.as_mut_ptr(), bytes.len()) };
-    outcome(a.code, a.degree, a.byte, ())?;
-    Ok(&mut bytes[..a.used as usize])
+    let a = unsafe {
+        c::bv_write(kind as u64, n, coeffs.as_ptr(), coeffs.len(), bytes.as_mut_ptr(), bytes.len())
+    };
+    outcome(a.code, Some(a.degree), a.byte)?;
+    Ok(&mut bytes[..place(a.used)])
 }
 
 pub fn read<'a>(bytes: &[u8], coeffs: &'a mut [i64]) -> Result<Record<'a>, Refusal> {
     let a = unsafe { c::bv_read(bytes.as_ptr(), bytes.len(), coeffs.as_mut_ptr(), coeffs.len()) };
-    outcome(a.code, a.degree, a.byte, ())?;
+    outcome(a.code, Some(a.degree), a.byte)?;
     let kind = if a.kind == 1 { Kind::F } else { Kind::I };
-    Ok(Record { kind, n: a.n, coeffs: &mut coeffs[..=a.degree as usize], used: a.used as usize })
+    Ok(Record { kind, n: a.n, coeffs: &mut coeffs[..=place(a.degree)], used: place(a.used) })
 }

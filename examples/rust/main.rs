@@ -1,9 +1,9 @@
-//! A mains notch in Rust, over the safe wrapper. At 750 samples a second 50 Hz is one turn in 15 samples, so F(15) stops it.
-//! It asks, grows the buffer as the refusal tells, shows how the polynomial grows divisor by divisor, and stores it. Then it asks which
-//! registers of a chip the steps of a larger one fit.
+//! A mains notch in Rust, over the safe wrapper. At 750 samples a second 50 Hz is one turn in 15 samples, so F(15)
+//! stops it. It asks, grows the buffer as the refusal tells, shows how the polynomial grows divisor by divisor, and
+//! stores it. Then it asks which registers of a chip the steps of a larger one fit.
 mod bonvedrick;
 
-use bonvedrick::{accumulate, comb, partial, polynomial, read, registers, write, Kind, Refusal, NO_LIMIT};
+use bonvedrick::{Kind, NO_LIMIT, Refusal, accumulate, comb, partial, polynomial, read, registers, write};
 
 const RATE: u64 = 750;
 const MAINS: u64 = 50;
@@ -13,7 +13,7 @@ const LARGE: u64 = 15015;
 /// How many entries the polynomial needs: lent none, the library refuses and tells the degree.
 fn entries(kind: Kind, n: u64) -> Result<usize, Refusal> {
     match polynomial(kind, n, NO_LIMIT, NO_LIMIT, &mut []) {
-        Err(Refusal::Short { degree }) => Ok(degree + 1),
+        Err(Refusal::Short { degree: Some(degree) }) => Ok(degree + 1),
         Err(other) => Err(other),
         Ok(p) => Ok(p.coeffs.len()),
     }
@@ -48,7 +48,8 @@ fn main() -> Result<(), Refusal> {
     let mut again = [0; 16];
     let r = read(record, &mut again)?;
     println!("read: {:?}({}), {} bytes, the same coefficients: {}", r.kind, r.n, r.used, r.coeffs == f.coeffs);
-    // F(15)'s record as a script might write it: no mark, no kind, 3 bytes a coefficient, no index, 8 for 9 coefficients
+    // F(15)'s record as a script might write it: no mark, no kind, 3 bytes a coefficient, no index, 8 for 9
+    // coefficients
     for (at, byte) in [(0, 0), (2, 0), (3, 3), (4, 0), (6, 8)] {
         let was = std::mem::replace(&mut record[at], byte);
         if let Err(e) = read(record, &mut again) {
@@ -61,8 +62,9 @@ fn main() -> Result<(), Refusal> {
 
     let mut room = vec![0; entries(Kind::I, LARGE)?];
     for bits in 20.. {
-        let made = polynomial(Kind::I, LARGE, NO_LIMIT, registers(bits), &mut room);
-        println!("I({LARGE}) in registers of {bits} bits, height and peak: {:?}", made.as_ref().map(|p| (p.height, p.peak)));
+        let Some(w) = registers(bits) else { break };
+        let made = polynomial(Kind::I, LARGE, NO_LIMIT, w, &mut room).map(|p| (p.height, p.peak));
+        println!("I({LARGE}) in registers of {bits} bits, height and peak: {made:?}");
         if !matches!(made, Err(Refusal::Over { .. })) {
             break;
         }

@@ -118,7 +118,7 @@ static void see(int kind, unsigned r, unsigned j, uint64_t here) {
 static void limits(int kind, unsigned r, unsigned all, size_t count) {
     int64_t largest = (int64_t)met[kind - 1][r].largest;
     if (bv_partial(kind, r, all, largest, lent, count).code != BV_DONE) differs(kind, r, all, "not delivered at the largest magnitude met");
-    uint64_t refusal = largest == 1 ? BV_LIMIT : BV_OVER;
+    uint64_t refusal = largest == 1 ? BV_REFUSED_LIMIT : BV_REFUSED_OVER;
     if (bv_partial(kind, r, all, largest - 1, lent, count).code != refusal) differs(kind, r, all, "delivered one below the largest met");
 }
 

@@ -1,0 +1,386 @@
+"""Tests of the wrapper: numbers of every size in every place, what is no number, and refusals that are carried around.
+Usage: test_bonvedrick.py libbonvedrick.so [words of unittest]"""
+
+import array
+import copy
+import ctypes
+import decimal
+import enum
+import multiprocessing
+import pickle
+import sys
+import unittest
+from unittest import mock
+
+import bonvedrick
+from bonvedrick import F, I, NAMES, NO_LIMIT, Answer, Bonvedrick, Refused, Stop, registers
+
+CDLL = ctypes.CDLL
+LIBRARY = None  # the path, from the command line
+
+SIZES = [
+    *(-(2**80), -(2**64), -(2**63) - 1, -(2**63), -(2**32), -1, 0),
+    *(2**32, 2**63 - 1, 2**63, 2**64 - 1, 2**64, 2**64 + 21, 2**80, 10**5000),
+]
+NO_NUMBERS = [1.0, 1.5, float("nan"), "3", "", b"1", None, [1], (1,), 1j, decimal.Decimal(1), object()]
+
+F6, F6_RECORD = [1, -1, 1], bytes.fromhex("c9 50 01 01 06 00 03 00 00 00 01 ff 01")
+F15, I15 = [1, -1, 0, 1, -1, 1, 0, -1, 1], [-1, -1, -1, 0, 0, 1, 1, 1]
+
+
+class Counting:
+    """Stands in for ctypes.CDLL: the library, with the calls of its functions counted."""
+
+    calls = 0
+
+    def __init__(self, path):
+        self._library = CDLL(path)
+
+    def __getattr__(self, name):
+        function = getattr(self._library, name)
+
+        def counted(*arguments):
+            Counting.calls += 1
+            function.restype, function.argtypes = counted.restype, counted.argtypes
+            return function(*arguments)
+
+        setattr(self, name, counted)
+        return counted
+
+
+def refused(name, degree=None, byte=None):
+    return ("refused", name, degree, byte)
+
+
+def u64(v):
+    return 0 <= v < 2**64
+
+
+def i64(v):
+    return -(2**63) <= v < 2**63
+
+
+def kinds(one, two):
+    return u64, lambda v: one if v == 1 else two if v == 2 else refused("KIND")
+
+
+def only(good, delivered, name):
+    return u64, lambda v: delivered if v == good else refused(name)
+
+
+def limit(delivered):
+    return i64, lambda v: refused("LIMIT") if v < 1 else delivered
+
+
+def entries(needed, delivered, degree):
+    return u64, lambda v: refused("SHORT", degree) if v < needed else delivered
+
+
+def comb_of(values):
+    new = [x - (values[i - 1] if i else 0) for i, x in enumerate(values)]
+    return refused("OVER") if any(abs(v) >= 2**63 for v in new[1:]) else new
+
+
+def accumulate_of(values):
+    new = [sum(values[: i + 1]) for i in range(len(values))]
+    return refused("OVER") if any(abs(v) >= 2**63 for v in new[1:]) else new
+
+
+def record_of(coeffs):
+    """The record of three coefficients of F(6), by the header's words."""
+    height = max(map(abs, coeffs))
+    if height >= 2**63:
+        return refused("OVER", 2)
+    width = next(w for w in (1, 2, 4, 8) if height <= 2 ** (8 * w - 1) - 1)
+    body = b"".join(c.to_bytes(width, "little", signed=True) for c in coeffs)
+    return bytes([0xC9, 0x50, 1, width, 6, 0, 3, 0, 0, 0]) + body
+
+
+F15_DONE, I15_DONE = (F15, Answer(0, 8, 6, 1, 0, 1)), (I15, Answer(0, 7, 4, 1, 0, 0))
+F15_STOPS = {0: ([1, 0, 0, 0, 0], Stop(0, 4, 0, 3)), 1: ([1, -1, 0, 0, 0], Stop(0, 4, 4, 2))}
+I15_STOP = ([-1, -1, -1, -1], Stop(0, 3, 3, 2))
+
+# For each function good arguments, and for each number among them what fits its C type and what the rules give then.
+REQUESTS = {
+    "polynomial": (
+        dict(kind=F, n=15, h=1, w=1, room=9),
+        dict(
+            kind=kinds(F15_DONE, I15_DONE),
+            n=only(15, F15_DONE, "INDEX"),
+            h=limit(F15_DONE),
+            w=limit(F15_DONE),
+            room=entries(9, F15_DONE, 8),
+        ),
+    ),
+    "partial": (
+        dict(kind=F, n=15, j=1, w=1, room=5),
+        dict(
+            kind=kinds(F15_STOPS[1], I15_STOP),
+            n=only(15, F15_STOPS[1], "INDEX"),
+            j=(u64, lambda v: F15_STOPS[v] if v in F15_STOPS else refused("STEP")),
+            w=limit(F15_STOPS[1]),
+            room=entries(5, F15_STOPS[1], 4),
+        ),
+    ),
+    "comb": (
+        dict(size=1, entries=[1, 2, 3], w=1),
+        dict(size=only(1, [1, 1, 1], "STEP"), w=limit([1, 1, 1])),
+    ),
+    "accumulate": (
+        dict(size=1, entries=[1, -1, 1], w=1),
+        dict(size=only(1, [1, 0, 1], "STEP"), w=limit([1, 0, 1])),
+    ),
+    "write": (
+        dict(kind=F, n=6, coeffs=F6),
+        dict(kind=kinds(F6_RECORD, refused("RCOUNT", byte=6)), n=only(6, F6_RECORD, "INDEX")),
+    ),
+    "read": (
+        dict(data=F6_RECORD, room=3),
+        dict(room=entries(3, (F, 6, F6, 13), 2)),
+    ),
+}
+# The lists among the arguments, and what the rules give for any numbers of 64 bits in them.
+LISTS = {
+    "comb": ("entries", dict(size=1, w=NO_LIMIT), [0, 0, 0], comb_of),
+    "accumulate": ("entries", dict(size=1, w=NO_LIMIT), [0, 0, 0], accumulate_of),
+    "write": ("coeffs", dict(kind=F, n=6), F6, record_of),
+}
+
+
+class Wrapper(unittest.TestCase):
+    @classmethod
+    def setUpClass(cls):
+        with mock.patch.object(bonvedrick.ctypes, "CDLL", Counting):
+            cls.bv = Bonvedrick(LIBRARY)
+
+    def outcome(self, function, **arguments):
+        """What is delivered, or the refusal, or the exception's type; and how often C was called."""
+        Counting.calls = 0
+        try:
+            came = getattr(self.bv, function)(**arguments)
+        except Refused as e:
+            came = refused(e.name, e.degree, e.byte)
+        except (OverflowError, TypeError) as e:
+            came = type(e)
+        return came, Counting.calls
+
+    def held(self, right, fits, function, **arguments):
+        wanted = (right(), 1) if fits else (OverflowError, 0)
+        self.assertEqual(self.outcome(function, **arguments), wanted)
+
+
+class Numbers(Wrapper):
+    def test_every_size_for_every_number(self):
+        for function, (good, rules) in REQUESTS.items():
+            for name, (fits, rule) in rules.items():
+                # also those that a cut to 64 bits would make good
+                near = [good[name], good[name] - 2**64, good[name] + 2**64]
+                for v in [*SIZES, *near, *([1, 2] if name == "kind" else [])]:
+                    with self.subTest(function=function, name=name, bits=v.bit_length(), negative=v < 0):
+                        self.held(lambda: rule(v), fits(v), function, **{**good, name: v})
+
+    def test_every_size_at_every_place_of_a_list(self):
+        for function, (name, others, good, rule) in LISTS.items():
+            for place in range(len(good)):
+                for v in [*SIZES, good[place] - 2**64, good[place] + 2**64, 127, 128, -128, -(2**63) + 1]:
+                    values = [*good[:place], v, *good[place + 1 :]]
+                    with self.subTest(function=function, place=place, bits=v.bit_length(), negative=v < 0):
+                        self.held(lambda: rule(values), i64(v), function, **others, **{name: values})
+
+    def test_the_message_names_the_number(self):
+        with self.assertRaisesRegex(OverflowError, r"^n is not from 0 to 18446744073709551615$"):
+            self.bv.polynomial(F, 2**64 + 21)
+        with self.assertRaisesRegex(OverflowError, r"^coeffs\[1\] is not from -9223372036854775808 to "):
+            self.bv.write(F, 3, [1, 2**64, 5])
+
+    def test_what_is_no_whole_number(self):
+        for function, (good, rules) in REQUESTS.items():
+            for name in rules:
+                for v in NO_NUMBERS:
+                    with self.subTest(function=function, name=name, value=v):
+                        self.assertEqual(self.outcome(function, **{**good, name: v}), (TypeError, 0))
+        for function, (name, others, good, _) in LISTS.items():
+            for place in range(len(good)):
+                for v in NO_NUMBERS:
+                    values = [*good[:place], v, *good[place + 1 :]]
+                    with self.subTest(function=function, place=place, value=v):
+                        self.assertEqual(self.outcome(function, **others, **{name: values}), (TypeError, 0))
+            for no_list in None, 3, 1.5, "123", {1, 2, 3}, frozenset([1]), {0: 1, 1: -1, 2: 1}, {0: 1}.keys():
+                with self.subTest(function=function, value=no_list):
+                    self.assertEqual(self.outcome(function, **others, **{name: no_list}), (TypeError, 0))
+
+    def test_what_is_a_whole_number_by_its_index(self):
+        class Fifteen:
+            def __index__(self):
+                return 15
+
+        class Six(enum.IntEnum):
+            N = 6
+
+        self.assertEqual(self.bv.polynomial(True, Fifteen(), True, True, room=9), F15_DONE)
+        self.assertEqual(self.bv.write(F, Six.N, [True, -1, 1]), F6_RECORD)
+
+        class Large:
+            def __index__(self):
+                return 2**64 + 15
+
+        self.assertEqual(self.outcome("polynomial", kind=F, n=Large()), (OverflowError, 0))
+
+    def test_the_number_that_was_looked_at_is_the_one_that_is_asked_with(self):
+        class Other:
+            calls = 0
+
+            def __index__(self):
+                self.calls += 1
+                return 15 if self.calls == 1 else 21
+
+        self.assertEqual(self.bv.polynomial(F, Other(), room=9), F15_DONE)
+
+
+class Lists(Wrapper):
+    def test_any_sequence_is_taken_and_none_is_changed(self):
+        for function, (name, others, _, rule) in LISTS.items():
+            for make in list, tuple, lambda v: array.array("q", v), lambda v: memoryview(array.array("q", v)), iter:
+                values, same = make([5, -1, 7]), make([5, -1, 7])
+                self.assertEqual(self.outcome(function, **others, **{name: values}), (rule([5, -1, 7]), 1))
+                if make is not iter:
+                    self.assertEqual(values, same)
+        values = [1, 2, NO_LIMIT]
+        self.assertEqual(self.outcome("accumulate", size=1, entries=values)[0], refused("OVER"))
+        self.assertEqual(values, [1, 2, NO_LIMIT])
+        self.assertEqual(self.bv.comb(1, range(4)), [0, 1, 1, 1])
+
+    def test_empty_ones(self):
+        for empty in [], (), range(0), b"":
+            self.assertEqual(self.bv.comb(1, empty), [])
+            self.assertEqual(self.bv.accumulate(65535, empty), [])
+            self.assertEqual(self.outcome("comb", size=0, entries=empty), (refused("STEP"), 1))
+            self.assertEqual(self.outcome("comb", size=1, entries=empty, w=0), (refused("LIMIT"), 1))
+            self.assertEqual(self.outcome("write", kind=F, n=6, coeffs=empty), (refused("RCOUNT", byte=6), 1))
+        for empty in b"", bytearray(), memoryview(b""):
+            self.assertEqual(self.outcome("read", data=empty), (refused("CUT"), 1))
+            self.assertEqual(self.outcome("read", data=empty, room=0), (refused("CUT"), 1))
+
+    def test_bytes_of_every_sort(self):
+        told = (F, 6, F6, 13)
+        twice = bytes(b for byte in F6_RECORD for b in (byte, 0))
+        pairs = memoryview(array.array("H", F6_RECORD + b"more."))  # nine items, all of their bytes
+        lent = bytearray(F6_RECORD)
+        for data in F6_RECORD, lent, memoryview(F6_RECORD), memoryview(lent), memoryview(twice)[::2], pairs:
+            with self.subTest(sort=type(data)):
+                self.assertEqual(self.outcome("read", data=data), (told, 1))
+        self.assertEqual(lent, F6_RECORD)
+        self.assertEqual(self.bv.read(F6_RECORD + b"more"), told)
+        for data in "c950", list(F6_RECORD), None, 13, array.array("B", F6_RECORD), 1.5, {}:
+            with self.subTest(sort=type(data)):
+                self.assertEqual(self.outcome("read", data=data), (TypeError, 0))
+
+    def test_there_and_back(self):
+        for kind, n in (F, 1), (I, 1), (F, 105), (I, 105), (F, 65535), (I, 30030), (F, 65521):
+            coeffs, answer = self.bv.polynomial(kind, n)
+            self.assertEqual((len(coeffs), sum(coeffs)), (answer.degree + 1, answer.gain))
+            self.assertEqual(abs(coeffs[answer.peak]), answer.height)
+            record = self.bv.write(kind, n, coeffs)
+            self.assertEqual(self.bv.read(record), (kind, n, coeffs, len(record)))
+            self.assertEqual(self.bv.read(memoryview(record), room=len(coeffs)), (kind, n, coeffs, len(record)))
+        entries = [-(2**63), 3, 0, 2**63 - 1, -1]
+        self.assertEqual(self.bv.accumulate(2, self.bv.comb(2, entries[1:])), entries[1:])
+
+
+class Refusals(Wrapper):
+    def each(self):
+        """A refusal of each code, and one that this wrapper does not know, with what it says."""
+        fields = [(2, 3, "RKIND"), (3, 3, "RWIDTH"), (4, 0, "RINDEX"), (6, 9, "RCOUNT")]
+        asked = [
+            ("KIND", lambda: self.bv.polynomial(3, 15)),
+            ("INDEX", lambda: self.bv.polynomial(F, 65536)),
+            ("LIMIT", lambda: self.bv.polynomial(F, 15, 0)),
+            ("SHORT", lambda: self.bv.polynomial(F, 15, room=8)),
+            ("OVER", lambda: self.bv.polynomial(F, 105, w=1)),
+            ("TALL", lambda: self.bv.polynomial(F, 105, 1)),
+            ("STEP", lambda: self.bv.partial(F, 15, 4)),
+            ("CUT", lambda: self.bv.read(F6_RECORD[:12])),
+            ("OVER", lambda: self.bv.comb(1, [0, 5], w=4)),
+            ("SHORT", lambda: self.bv.polynomial(I, 1, room=0)),
+        ]
+        for at, byte, name in [(0, 0, "MARK"), *fields, (10, 128, "WIDTH")]:
+            damaged = F6_RECORD[:at] + bytes([byte]) + F6_RECORD[at + 1 :]
+            asked.append((name, lambda damaged=damaged: self.bv.read(damaged)))
+        for name, ask in asked:
+            with self.assertRaises(Refused) as caught:
+                ask()
+            self.assertEqual(caught.exception.name, name)
+            yield caught.exception
+        yield Refused(23)
+
+    def test_every_code_is_met_with_its_number(self):
+        met = {e.code: e.name for e in self.each()}
+        self.assertEqual(met, {**{code: name for code, name in NAMES.items() if code}, 23: "?"})
+
+    def test_the_text_has_what_the_answer_has(self):
+        self.assertEqual(
+            [str(e) for e in self.each()],
+            [
+                "KIND (1)",
+                "INDEX (2)",
+                "LIMIT (3)",
+                "SHORT (4), degree 8",
+                "OVER (5), degree 48",
+                "TALL (6), degree 48",
+                "STEP (7)",
+                "CUT (8)",
+                "OVER (5)",
+                "SHORT (4), degree 0",
+                "MARK (9)",
+                "RKIND (12), the record's kind, at byte 2, is wrong: right is 1 or 2",
+                "RWIDTH (13), the record's width, at byte 3, is wrong: right is 1, 2, 4 or 8",
+                "RINDEX (14), the record's index, at byte 4, is wrong: right is from 1 to 65535",
+                "RCOUNT (15), the record's number of coefficients, at byte 6, is wrong: right is the degree of that"
+                " kind at that index, plus 1",
+                "WIDTH (11)",
+                "? (23)",
+            ],
+        )
+
+    def test_copied_and_pickled(self):
+        for e in self.each():
+            e.stage = "decimator"  # what a caller hangs on it goes along
+            copies = [copy.copy(e), copy.deepcopy(e)]
+            copies += [pickle.loads(pickle.dumps(e, protocol)) for protocol in range(pickle.HIGHEST_PROTOCOL + 1)]
+            for other in copies:
+                self.assertIsNot(other, e)
+                self.assertIs(type(other), Refused)
+                self.assertEqual((str(other), repr(other), vars(other)), (str(e), repr(e), vars(e)))
+
+    def test_answers_and_the_library_can_be_pickled(self):
+        told = self.bv.polynomial(F, 15), self.bv.partial(F, 15, 1)
+        self.assertEqual(pickle.loads(pickle.dumps(told)), told)
+        self.assertEqual(pickle.loads(pickle.dumps(self.bv)).polynomial(F, 15, room=9), F15_DONE)
+
+    def test_in_a_pool(self):
+        for method in multiprocessing.get_all_start_methods():
+            with self.subTest(method=method), multiprocessing.get_context(method).Pool(1) as pool:
+                bv = Bonvedrick(LIBRARY)
+                pending = pool.apply_async(bv.polynomial, (F, 105, 1))
+                with self.assertRaises(Refused) as caught:
+                    pending.get(60)
+                self.assertEqual(str(caught.exception), "TALL (6), degree 48")
+                with self.assertRaises(OverflowError):
+                    pool.apply_async(bv.polynomial, (F, 2**64 + 21)).get(60)
+                self.assertEqual(pool.apply_async(bv.polynomial, (F, 15, 1, 1, 9)).get(60), F15_DONE)
+
+
+class Registers(unittest.TestCase):
+    def test_2_to_64_bits(self):
+        self.assertEqual([registers(b) for b in (2, 20, 64)], [1, 524287, NO_LIMIT])
+        for bits in -(2**64), -1, 0, 1, 65, 2**64 + 20:
+            with self.assertRaises(ValueError):
+                registers(bits)
+        for bits in 20.0, "20", None:
+            with self.assertRaises(TypeError):
+                registers(bits)
+
+
+if __name__ == "__main__":
+    LIBRARY = sys.argv.pop(1)
+    unittest.main()

@@ -1,0 +1,165 @@
+//! Tests of the wrapper: what it makes of each code, of each answer with and without a degree, and of the numbers at
+//! the ends of their types. `make rust` runs them.
+mod bonvedrick;
+
+use bonvedrick::{Field, Kind, NO_LIMIT, Refusal, accumulate, comb, partial, polynomial, read, registers, write};
+
+/// F(6) and its record.
+const SIX: [i64; 3] = [1, -1, 1];
+const RECORD: [u8; 13] = [0xC9, 0x50, 1, 1, 6, 0, 3, 0, 0, 0, 1, 0xFF, 1];
+
+#[test]
+fn registers_outside_2_to_64_bits_have_no_limit_to_tell() {
+    for none in [0, 1, 65, 66, 128, u32::MAX] {
+        assert_eq!(registers(none), None);
+    }
+    assert_eq!(registers(2), Some(1));
+    assert_eq!(registers(20), Some(524287));
+    assert_eq!(registers(63), Some(i64::MAX / 2));
+    assert_eq!(registers(64), Some(NO_LIMIT));
+}
+
+#[test]
+fn every_code_has_its_refusal() {
+    let byte = 6;
+    let refusals = [
+        (1, Refusal::Kind),
+        (2, Refusal::Index),
+        (3, Refusal::Limit),
+        (4, Refusal::Short { degree: Some(8) }),
+        (5, Refusal::Over { degree: Some(8) }),
+        (6, Refusal::Tall { degree: Some(8) }),
+        (7, Refusal::Step),
+        (8, Refusal::Cut),
+        (9, Refusal::Mark),
+        (10, Refusal::Unknown(10)),
+        (11, Refusal::Width),
+        (12, Refusal::Field { field: Field::Kind, byte }),
+        (13, Refusal::Field { field: Field::Width, byte }),
+        (14, Refusal::Field { field: Field::Index, byte }),
+        (15, Refusal::Field { field: Field::Count, byte }),
+        (16, Refusal::Unknown(16)),
+        (u64::MAX, Refusal::Unknown(u64::MAX)),
+    ];
+    for (code, refusal) in refusals {
+        assert_eq!(Refusal::of(code, Some(8), 6), refusal);
+        assert_eq!(refusal.code(), code);
+        assert!(!refusal.to_string().is_empty());
+    }
+    for code in 1..40 {
+        assert_eq!(Refusal::of(code, None, 0).code(), code);
+    }
+    assert_eq!(Refusal::of(4, None, 0), Refusal::Short { degree: None });
+    assert_eq!(Refusal::of(5, None, 0), Refusal::Over { degree: None });
+    assert_eq!(Refusal::of(6, None, 0), Refusal::Tall { degree: None });
+}
+
+#[test]
+fn the_text_has_the_degree_where_there_is_one() {
+    assert_eq!(Refusal::Short { degree: Some(8) }.to_string(), "too little room: the degree is 8");
+    assert_eq!(Refusal::Short { degree: None }.to_string(), "too little room");
+    assert_eq!(Refusal::Unknown(23).to_string(), "code 23");
+}
+
+#[test]
+fn a_polynomial_is_delivered_or_refused_with_its_degree() {
+    let mut buf = [77; 60];
+    let ask = |n, h, w, buf: &mut [i64]| polynomial(Kind::F, n, h, w, buf).map(|p| p.coeffs.len());
+    for n in [0, 65536, u64::MAX] {
+        assert_eq!(ask(n, 0, 0, &mut buf), Err(Refusal::Index));
+    }
+    for limit in [i64::MIN, -1, 0] {
+        assert_eq!(ask(105, limit, NO_LIMIT, &mut buf), Err(Refusal::Limit));
+        assert_eq!(ask(105, NO_LIMIT, limit, &mut []), Err(Refusal::Limit));
+    }
+    assert_eq!(ask(105, 2, 2, &mut []), Err(Refusal::Short { degree: Some(48) }));
+    assert_eq!(ask(105, 2, 2, &mut buf[..48]), Err(Refusal::Short { degree: Some(48) }));
+    assert_eq!(buf, [77; 60]);
+    assert_eq!(ask(105, 2, 1, &mut buf), Err(Refusal::Over { degree: Some(48) }));
+    assert_eq!(ask(105, 1, 2, &mut buf), Err(Refusal::Tall { degree: Some(48) }));
+    assert!(buf[..49].iter().all(|&entry| entry == 0) && buf[49..].iter().all(|&entry| entry == 77));
+    // a degree of 0 that is told is a degree
+    let none = polynomial(Kind::I, 1, 1, 1, &mut []).map(|p| p.gain);
+    assert_eq!(none, Err(Refusal::Short { degree: Some(0) }));
+    let f = polynomial(Kind::F, 105, 2, 2, &mut buf).unwrap();
+    assert_eq!((f.coeffs.len(), f.additions, f.height, f.peak, f.gain), (49, 98, 2, 7, 1));
+    assert_eq!((f.coeffs[7], f.coeffs[41], f.coeffs[48]), (-2, -2, 1));
+}
+
+#[test]
+fn a_half_built_one_is_delivered_or_refused_with_its_own_degree() {
+    let mut buf = [77; 30];
+    let ask = |n, j, w, buf: &mut [i64]| partial(Kind::F, n, j, w, buf).map(|p| (p.half.len(), p.additions, p.due));
+    for n in [0, 1, 32768, 65536, u64::MAX] {
+        assert_eq!(ask(n, u64::MAX, 0, &mut buf), Err(Refusal::Index));
+    }
+    assert_eq!(ask(105, 8, 0, &mut buf), Err(Refusal::Step));
+    assert_eq!(ask(105, u64::MAX, 0, &mut buf), Err(Refusal::Step));
+    assert_eq!(ask(105, 7, 0, &mut []), Err(Refusal::Limit));
+    assert_eq!(ask(105, 7, 1, &mut buf[..24]), Err(Refusal::Short { degree: Some(24) }));
+    assert_eq!(buf, [77; 30]);
+    assert_eq!(ask(105, 7, 1, &mut buf), Err(Refusal::Over { degree: Some(24) }));
+    assert_eq!(ask(105, 3, 1, &mut buf), Ok((25, 66, 4)));
+    assert_eq!(ask(105, 7, 2, &mut buf), Ok((25, 98, 0)));
+}
+
+#[test]
+fn a_step_is_taken_or_refused_without_a_degree() {
+    let mut entries = [1, 2, 3];
+    for step in [comb, accumulate] {
+        assert_eq!(step(0, 0, &mut entries), Err(Refusal::Step));
+        assert_eq!(step(65536, 1, &mut entries), Err(Refusal::Step));
+        assert_eq!(step(u64::MAX, 1, &mut []), Err(Refusal::Step));
+        assert_eq!(step(1, i64::MIN, &mut entries), Err(Refusal::Limit));
+        assert_eq!(step(65535, 1, &mut entries), Ok(0));
+        assert_eq!(step(1, 1, &mut []), Ok(0));
+        assert_eq!(entries, [1, 2, 3]);
+    }
+    assert_eq!(accumulate(1, 5, &mut entries), Err(Refusal::Over { degree: None }));
+    assert_eq!(entries, [1, 2, 3]);
+    assert_eq!((accumulate(1, 6, &mut entries), entries), (Ok(2), [1, 3, 6]));
+    assert_eq!(comb(1, 2, &mut entries), Err(Refusal::Over { degree: None }));
+    assert_eq!((comb(1, 3, &mut entries), entries), (Ok(2), [1, 2, 3]));
+}
+
+#[test]
+fn a_record_is_written_or_refused() {
+    let mut bytes = [7; 20];
+    let mut ask = |n, coeffs: &[i64], room| write(Kind::F, n, coeffs, &mut bytes[..room]).map(|b| b.to_vec());
+    for n in [0, 65536, u64::MAX] {
+        assert_eq!(ask(n, &SIX, 20), Err(Refusal::Index));
+    }
+    let count = Refusal::Field { field: Field::Count, byte: 6 };
+    assert_eq!(ask(6, &[], 20), Err(count));
+    assert_eq!(ask(6, &SIX[1..], 20), Err(count));
+    assert_eq!(ask(6, &[1, i64::MIN, 1], 0), Err(Refusal::Over { degree: Some(2) }));
+    assert_eq!(ask(6, &SIX, 12), Err(Refusal::Short { degree: Some(2) }));
+    assert_eq!(ask(6, &SIX, 13), Ok(RECORD.to_vec()));
+    assert_eq!(ask(6, &[-128, 0, 0], 20).map(|b| (b.len(), b[3])), Ok((16, 2)));
+}
+
+#[test]
+fn a_record_is_read_or_refused() {
+    let mut coeffs = [77; 4];
+    assert_eq!(read(&[], &mut coeffs).map(|r| r.n), Err(Refusal::Cut));
+    assert_eq!(read(&RECORD[..12], &mut coeffs).map(|r| r.n), Err(Refusal::Cut));
+    assert_eq!(read(&RECORD, &mut coeffs[..2]).map(|r| r.n), Err(Refusal::Short { degree: Some(2) }));
+    let wrong = [
+        (0, 0, Refusal::Mark),
+        (2, 3, Refusal::Field { field: Field::Kind, byte: 2 }),
+        (3, 3, Refusal::Field { field: Field::Width, byte: 3 }),
+        (4, 0, Refusal::Field { field: Field::Index, byte: 4 }),
+        (6, 4, Refusal::Field { field: Field::Count, byte: 6 }),
+        // -128 in one byte: its magnitude takes two
+        (10, 0x80, Refusal::Width),
+    ];
+    for (at, byte, refusal) in wrong {
+        let mut bytes = RECORD;
+        bytes[at] = byte;
+        assert_eq!(read(&bytes, &mut coeffs).map(|r| r.n), Err(refusal));
+    }
+    assert_eq!(coeffs, [77; 4]);
+    let r = read(&RECORD, &mut coeffs).unwrap();
+    assert_eq!((r.kind, r.n, r.used, &*r.coeffs), (Kind::F, 6, 13, &SIX[..]));
+    assert_eq!(coeffs[3], 77);
+}
