@@ -6,7 +6,7 @@ from math import gcd
 
 @lru_cache(None)
 def phi(n):
-    """How many numbers from 1 to n share no factor with n."""
+    """How many numbers from 1 to n share no factor above 1 with n."""
     return sum(1 for k in range(1, n + 1) if gcd(k, n) == 1)
 
 

@@ -1,6 +1,6 @@
 /*
  * A mains notch in C. At 5250 samples a second 50 Hz is one turn in 105 samples, so F(105) as a filter stops 50 Hz (and
- * 100, 200, 400 Hz and the other multiples k * 50 Hz where k shares no factor with 105), and lets a steady level
+ * 100, 200, 400 Hz and the other multiples k * 50 Hz where k shares no factor above 1 with 105), and lets a steady level
  * through times its gain. It asks for the stage, filters a level with a hum on it, writes the stage as a record and
  * reads it back. Then it asks which registers of a chip the steps of a larger stage fit.
  */

@@ -32,7 +32,7 @@ divides d n = eqb (n % d) 0
 unfoldable pub shareFactor : ℕ → ℕ → Bool
 shareFactor a b = someTo a (λ c. ltb 1 c && divides c a && divides c b)
 
--- phi(n), the count of numbers from 1 to n that share no factor with n
+-- phi(n), the count of numbers from 1 to n that share no factor above 1 with n
 unfoldable pub phi : ℕ → ℕ
 phi n = countTo n (λ a. not (shareFactor a n))
 

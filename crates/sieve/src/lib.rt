@@ -7,7 +7,7 @@ ghost use Rattle.numbers.specs.Primes.{Prime};
 ghost use Rattle.sieve.specs.Sieving.{withPrime, oddTo, Without, Sifted};
 
 // The distinct odd primes found so far, ascending, with zeros after them; how many; their product, and how many
-// numbers up to it share no factor with it.
+// numbers up to it share no factor above 1 with it.
 pub struct OddPrimes {
     pub primes: [u64; 5],
     pub count: usize,
