@@ -1,7 +1,7 @@
-//! F for all odd n to 65,535: our library, plain Rust, and FLINT where it is there (`--cfg flint`), one after the other at each n.
-//! The buffers are cleared before the clock runs. Prints the median over the rounds of each total, and its ratio to plain Rust.
-//! Then how the time grows with the additions (growth.rs), and what a working limit costs (limits.rs), and the
-//! stored record (records.rs).
+//! F for all odd n to 65,535: our library, plain Rust, and FLINT where it is there (`--cfg flint`), one after the other
+//! at each n. The buffers are cleared before the clock runs. Prints the median over the rounds of each total, and its
+//! ratio to plain Rust. Then how the time grows with the additions (growth.rs), and what a working limit costs
+//! (limits.rs), and the stored record (records.rs).
 
 mod growth;
 mod limits;

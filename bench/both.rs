@@ -1,5 +1,6 @@
-//! Two builds of the library, old and new, in one process (bench/both links them, each at four places): they take turns at each piece of
-//! work, on one buffer that is made anew before the clock runs. In a first turn they are held to agree on it.
+//! Two builds of the library, old and new, in one process (bench/both links them, each at four places): they take turns
+//! at each piece of work, on one buffer that is made anew before the clock runs. In a first turn they are held to agree
+//! on it.
 
 #[allow(dead_code)]
 mod limits;
@@ -30,8 +31,8 @@ const STEP_TURNS: usize = 101;
 const LENGTHS: [usize; 2] = [10_000, 32_760];
 const SIZES: [usize; 23] = [1, 2, 3, 4, 5, 7, 8, 9, 11, 15, 17, 31, 33, 64, 65, 77, 100, 105, 255, 1001, 5005, 9990, 20_000];
 
-/// The fields that every build has, which must agree. Those after them have changed from build to build: there is room for them, and nobody
-/// looks at it.
+/// The fields that every build has, which must agree. Those after them have changed from build to build: there is room
+/// for them, and nobody looks at it.
 #[repr(C)]
 struct Answer {
     code: u64,
@@ -280,7 +281,8 @@ fn steps() {
     println!("(a) at the largest limit; (b) at w, the largest magnitude that the step makes, at `place` first: kept, but tested;");
     println!("(c) as (a), with 2^61 as first and last entry; (d) refused at w - 1");
     for length in LENGTHS {
-        // the first alone has the height, 100: so what two entries or more can make is never made, and (b) can't be known beforehand
+        // the first alone has the height, 100: so what two entries or more can make is never made, and (b) can't be
+        // known beforehand
         let mut start: Vec<i64> = limits::entries(length).into_iter().map(|c| c.clamp(-99, 99)).collect();
         start[0] = 100;
         let heads = ["(a)", "(b)", "(c)", "(d)"].map(|part| format!("  {part} old  {part} new  ratio"));

@@ -1,4 +1,5 @@
-//! How the time grows: one request of each class from small n to large, its additions and its time, and the line through them.
+//! How the time grows: one request of each class from small n to large, its additions and its time, and the line
+//! through them.
 
 use crate::{bv_polynomial, median, LARGEST, NO_LIMIT};
 use std::time::Instant;

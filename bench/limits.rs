@@ -1,5 +1,5 @@
-//! What a working limit costs: the same requests, and the same single steps, with no limit and under limits that deliver, one after the
-//! other.
+//! What a working limit costs: the same requests, and the same single steps, with no limit and under limits that
+//! deliver, one after the other.
 
 use crate::{bv_accumulate, bv_comb, bv_polynomial, median, LARGEST, NO_LIMIT};
 use std::time::Instant;

@@ -1,7 +1,8 @@
-// The program `list` in plain C11, to measure it against: bench/list tells how. It has the same design (chunks and room, the
-// open line, the walk, outlines, chains in groups, the height by blocks), takes its names from the crates, and prints the same
-// bytes. Nothing is proved here: no addition is tested (in 64 bits none overflows: crate `never_over`), and of the magnitudes it is
-// only kept whether all are at most 1. Combs and mirrors are plain loops, and the divisors' sizes stand in a table.
+// The program `list` in plain C11, to measure it against: bench/list tells how. It has the same design (chunks and
+// room, the open line, the walk, outlines, chains in groups, the height by blocks), takes its names from the crates,
+// and prints the same bytes. Nothing is proved here: no addition is tested (in 64 bits none overflows: crate
+// `never_over`), and of the magnitudes it is only kept whether all are at most 1. Combs and mirrors are plain loops,
+// and the divisors' sizes stand in a table.
 
 #include <errno.h>
 #include <stdbool.h>
@@ -70,7 +71,7 @@ static size_t next_divisor(struct Walk *walk) {
     return best;
 }
 
-// ---- combs, chains, accumulates: the steps
+// ---- combs, chains, chain_groups, accumulates: the steps
 
 static void comb(int64_t *a, size_t n, size_t d) {
     for (size_t i = n; d < i--;) a[i] -= a[i - d];
@@ -112,7 +113,7 @@ static void accumulate(int64_t *a, size_t n, size_t d) {
         }
 }
 
-// ---- outlines: entries told by the first few, after which come zeros or the same again
+// ---- outlined_steps, repeats: entries told by the first few, after which come zeros or the same again
 
 struct Outline {
     size_t told;
@@ -170,7 +171,7 @@ static struct Outline take_outlined(int64_t *a, size_t n, struct Outline o, bool
     return (struct Outline){to, false};
 }
 
-// ---- kept: the lower half for r, of n entries; answers the additions
+// ---- kept_half: the lower half for r, of n entries; answers the additions
 
 static size_t all_steps(bool inverse, const struct Parts *parts, int64_t *a, size_t n, bool *flat) {
     size_t additions = 0;
@@ -218,7 +219,7 @@ static struct Top peak_within(const int64_t *a, size_t n, bool flat) {
     return top;
 }
 
-// ---- shapes, growth, laying: from the lower half for r to the polynomial of m, and to that of n
+// ---- shapes, squarefree_from_half, whole_from_half: from the lower half for r to the polynomial of m, and to that of n
 
 static void mirror(int64_t *a, size_t n, bool negate) {
     if (negate)
@@ -322,7 +323,7 @@ static uint8_t *put_answer(uint8_t *p, uint8_t letter, size_t n, const struct An
     return put(p, '\n');
 }
 
-// ---- open_line, digits, lines: the line that is being read, and what it asks for
+// ---- line_so_far, digits, request_lines: the line that is being read, and what it asks for
 
 struct Line {
     uint8_t bytes[KEPT];

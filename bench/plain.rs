@@ -167,7 +167,8 @@ pub fn polynomial(kind: u64, n: u64, h: i64, buf: &mut [i64]) -> Answer {
         .unwrap_or_else(|Refused(code, top)| Answer { code, degree: top as u64, additions: 0, height: 0, gain: 0 })
 }
 
-/// The lowest degree of the height's magnitude. bench/run doesn't time it: the yardstick there is what it was before answers told it.
+/// The lowest degree of the height's magnitude. bench/run doesn't time it: the yardstick there is what it was before
+/// answers told it.
 pub fn peak(a: Answer, buf: &[i64]) -> u64 {
     if a.code == 0 { buf.iter().position(|c| c.unsigned_abs() == a.height).unwrap() as u64 } else { 0 }
 }

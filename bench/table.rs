@@ -1,5 +1,6 @@
-//! Reads the requests for polynomials of crates/trial/stdin and their answers in crates/trial/stdout, and holds the plain routine to them: the
-//! yardstick is right. It knows no working limit, so the requests with a smaller one are left out.
+//! Reads the requests for polynomials of crates/trial/stdin and their answers in crates/trial/stdout, and holds the
+//! plain routine to them: the yardstick is right. It knows no working limit, so the requests with a smaller one are
+//! left out.
 
 #[allow(dead_code)]
 mod plain;
