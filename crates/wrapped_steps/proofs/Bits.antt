@@ -1,6 +1,6 @@
 -- Bits: the complement of a negative number's is its number with the sign turned, less 1; so casts that keep numbers
 -- can keep bits. And what the machine's sum and difference of bits are: the residues of the sum and the difference.
-use mathlib.Core.Path.{_≡_, refl, sym, _∙_, ap}
+use mathlib.Core.Path.{_≡_, refl, sym, _∙_, ap, ap₂}
 use mathlib.Core.Bool.{true, false, true≢false}
 use Prim.Native.Nat.{ℕ, _+_, _-_, _%_, _^_, _<_, _≤_}
 use native.Mathlib.Omega.{arith}
@@ -20,7 +20,9 @@ use Rattle.wrapped_steps.specs.Residues.{residue-⊕, residue-⊖, resid
 negative-is : (x : ℤ) → SFits w64 x → ltZ x (pos 0) ≡ true → toZ w64 (18446744073709551615 - ofZ w64 x) ≡ pos (natAbs x - 1)
 negative-is (pos n) f t = absurd (true≢false (sym t ∙ le-ltb n 0 (omega arith)))
 negative-is (negsuc n) f t =
-    ap (toZ w64) (omega (arith, f .sfits)) ∙ toZ-pos w64 {n = n} (f .sfits) ∙ ap pos (omega arith)
+    let back : 18446744073709551615 - ofZ w64 (negsuc n) ≡ n = omega (arith, f .sfits) in
+    let same : n ≡ natAbs (negsuc n) - 1 = omega arith in
+    ap (toZ w64) back ∙ toZ-pos w64 {n = n} (f .sfits) ∙ ap pos same
 
 negative-bits : (x : ℤ) → SFits w64 x → ltZ x (pos 0) ≡ true → 18446744073709551615 - (natAbs x - 1) ≡ ofZ w64 x
 negative-bits (pos n) f t = absurd (true≢false (sym t ∙ le-ltb n 0 (omega arith)))
@@ -69,10 +71,14 @@ module _ (x y : ℤ) (f : SFits w64 x) (g : SFits w64 y) {p q r : ℕ} (hp : p �
   unfolding wrap
   sum-wraps e =
       ap (toZ w64)
-      (e ∙ rw (hp ∙ bits-residue x f, hq ∙ bits-residue y g) (sym (residue-⊕ x y)))
+      (e ∙ ap₂ (λ u v. (u + v) % 2 ^ 64) (hp ∙ bits-residue x f) (hq ∙ bits-residue y g) ∙ sym (residue-⊕ x y))
 
   pub difference-wraps : (r + q) % 2 ^ 64 ≡ p → r < 2 ^ 64 → toZ w64 r ≡ wrap (x ⊝ y)
   unfolding wrap
   difference-wraps e b =
       ap (toZ w64)
       (residue-difference x y r (ap (λ u. (r + u) % 2 ^ 64) (sym (hq ∙ bits-residue y g)) ∙ e ∙ hp ∙ bits-residue x f) b)
+
+-- bits from 2^63 on go by their complement
+pub twice : (b : ℕ) → b < 2 ^ 64 → 18446744073709551615 - (18446744073709551615 - b) ≡ b
+twice b h = omega arith

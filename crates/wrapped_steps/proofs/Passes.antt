@@ -5,9 +5,10 @@ use mathlib.Core.List.{List}
 use Prim.Native.Nat.{ℕ, _+_, _-_, _<_, _≤_}
 use native.Mathlib.Nat.{not-le-of-lt}
 use native.Mathlib.Omega.{arith}
-use lib.ListN.{length, set}
+use lib.ListN.{length, getD, set}
+use lib.Seq.{getD-set-same}
 use lib.IntN.{ℤ}
-use Rattle.definitions.specs.Integers.{_⊕_, _⊝_}
+use Rattle.definitions.specs.Integers.{_⊕_, _⊝_, 0ℤ}
 use Rattle.definitions.specs.Steps.{comb, accumulate, entries}
 use Rattle.step_laws.specs.Tests.{by-order}
 use Rattle.step_laws.specs.Firsts.{is-firsts}
@@ -107,3 +108,13 @@ module _ {d : ℕ} {l m : List ℤ} {i : ℕ} (p : UpTo d l m i) (one : 1 ≤ d)
   pub ended-up : length l ≤ i → m ≡ wrappedList accumulate d l
   unfolding wrappedList
   ended-up h = all-firsts (all-below (p .split) h)
+
+-- a running sum that is stored at i is the entry before the next place
+pub summed : {l m m′ : List ℤ} {i : ℕ} (v : ℤ) → UpTo 1 l m i → i < length l → m′ ≡ set m i v
+    → v ≡ wrapEntry accumulate 1 m i → UpTo 1 l m′ (i + 1) × (v ≡ getD m′ (i + 1 - 1) 0ℤ)
+summed {l} {m} {m′} {i} v p b e w =
+    let here : i + 1 - 1 ≡ i = omega arith in
+    let in′ : i < length m = omega (arith, p .split .len) in (
+      rw (e, w) (next-up p (omega arith) b),
+      sym (ap (λ k. getD m′ k 0ℤ) here ∙ ap (λ x. getD x i 0ℤ) e ∙ getD-set-same m i v 0ℤ in′),
+    )

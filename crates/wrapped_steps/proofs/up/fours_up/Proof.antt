@@ -31,7 +31,7 @@ loop-less c = omega arith
 loop-again : tie.Need-loop-again Inv-loop μ-loop
 loop-again c =
     rw (c .before .step-four .ensures)
-    (four-up (c .before .before .before .loop .inv) (omega arith) (omega arith) (omega arith))
+    (four-up (c .before .before .before .before .loop .inv) (omega arith) (omega arith) (omega arith))
 
 same-length : tie.Need-same-length Inv-loop μ-loop
 same-length c = c .before .loop .inv .split .len

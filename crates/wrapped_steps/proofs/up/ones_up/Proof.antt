@@ -31,18 +31,18 @@ step-one-requires c κs =
     (omega arith, omega arith)
 
 add-i : tie.Need-add-i Inv-loop μ-loop
-add-i c = omega arith
+add-i c = omega (arith, known (c .before .before .before .before) .split .len)
 
 loop-less : tie.Need-loop-less Inv-loop μ-loop
 loop-less c =
-    let p = known (c .before .before .before) in
-    let q = c .before .before .before .before .pre .1 .done in
-    omega arith
+    let g = c .before .before .before .before in
+    omega (arith, known g .split .len, g .before .pre .1 .done .split .len)
 
 loop-again : tie.Need-loop-again Inv-loop μ-loop
 loop-again c = λ l p.
-    let q = c .before .before .before .loop .inv l p in
-    rw (c .before .step-one .ensures) (next-up q (omega arith) (omega arith))
+    let g = c .before .before .before .before in
+    let q = g .loop .inv l p in
+    rw (c .before .step-one .ensures) (next-up q (g .before .pre .0) (omega arith))
 
 same-length : tie.Need-same-length Inv-loop μ-loop
 same-length c = known (c .before) .split .len ∙ sym (c .before .before .pre .1 .done .split .len)
@@ -50,7 +50,7 @@ same-length c = known (c .before) .split .len ∙ sym (c .before .before .pre .1
 returns : tie.Need-returns Inv-loop μ-loop
 returns c = λ l p.
     let q = c .before .loop .inv l p in
-    ended-up q (omega arith) (omega arith)
+    ended-up q (c .before .before .pre .0) (omega arith)
 
 pub ones-up-spec : {M : Type 1} → statement M
 ones-up-spec =

@@ -1,60 +1,69 @@
+-- `wrapped_steps::up::running_sum` meets its contract. The invariant: the accumulate got up to i, and the sum is the
+-- entry before that.
+use mathlib.Core.Path.{_≡_, _∙_, ap, ap₂}
+use Prim.Native.Nat.{_-_, _≤_}
+use native.Mathlib.Omega.{arith}
+use lib.ListN.{length, getD}
+use mir.Syntax.{w64}
+use mir.Val.{SFits, toZ}
+use mir.Facts.{toZ-ofZ}
+use Rattle.definitions.specs.Integers.{_⊕_, 0ℤ}
+use Rattle.definitions.specs.Steps.{entries}
+use Rattle.step_laws.specs.Machine.{handed}
+use Rattle.wrapped_steps.specs.Wrapped.{wrap, UpTo}
+use Rattle.wrapped_steps.specs.Residues.{wrap-fits}
+use Rattle.wrapped_steps.proofs.Passes.{start-up, summed, ended-up}
 use Rattle.wrapped_steps.proofs.up.running_sum.Statement.{statement}
 use Rattle.wrapped_steps.proofs.up.running_sum.Tie as tie
-use Rattle.wrapped_steps.proofs.up.running_sum.Reads as reads
-use Rattle.wrapped_steps.proofs.up.running_sum.Lts as lts
-use Rattle.entry_steps.proofs.put.Reads as put-reads
-use Rattle.entry_steps.proofs.read_entry.Reads as read-entry-reads
-use Rattle.wrapped_steps.proofs.value.wrapped_value.Reads as wrapped-value-reads
 
 abbrev Inv-loop : tie.InvT-loop
-Inv-loop a₀ sum₀ i₀ a sum i = ?
+Inv-loop a₀ sum₀ i₀ a sum i = UpTo 1 a₀ a i × (toZ w64 sum ≡ getD a (i - 1) 0ℤ)
 
 abbrev μ-loop : tie.MeasureT-loop
-μ-loop a₀ sum₀ i₀ a sum i = ?
+μ-loop a₀ sum₀ i₀ a sum i = length a₀ - i
 
--- src/up.rt:47:9
 read-entry-requires : tie.Need-read-entry-requires Inv-loop μ-loop
-read-entry-requires c κs = ?
+read-entry-requires c κs = omega arith
 
--- src/up.rt:49:5
 loop-holds : tie.Need-loop-holds Inv-loop μ-loop
-loop-holds c = ?
+unfolding entries
+loop-holds c =
+    let q = c .before .before in (
+      start-up 1 (q .args .a .now) (q .pre),
+      handed (c .read-entry .ensures .1) (c .read-entry .ensures .0),
+    )
 
--- src/up.rt:50:47
 mul-wrapped-value : tie.Need-mul-wrapped-value Inv-loop μ-loop
-mul-wrapped-value c = ?
+mul-wrapped-value c = omega arith
 
--- src/up.rt:50:47
 slice-copy-out-wrapped-value : tie.Need-slice-copy-out-wrapped-value Inv-loop μ-loop
-slice-copy-out-wrapped-value c = ?
+slice-copy-out-wrapped-value c = omega arith
 
--- src/up.rt:50:9
 wrapped-value-requires : tie.Need-wrapped-value-requires Inv-loop μ-loop
-wrapped-value-requires c κs = ?
+wrapped-value-requires c κs = tt
 
--- src/up.rt:51:9
 put-requires : tie.Need-put-requires Inv-loop μ-loop
-put-requires c κs = ?
+put-requires c κs = omega arith
 
--- src/up.rt:52:9
 add-i : tie.Need-add-i Inv-loop μ-loop
-add-i c = ?
+add-i c = omega arith
 
--- src/up.rt:49:5
 loop-less : tie.Need-loop-less Inv-loop μ-loop
-loop-less c = ?
+loop-less c = omega arith
 
--- src/up.rt:49:5
 loop-again : tie.Need-loop-again Inv-loop μ-loop
-loop-again c = ?
+loop-again c =
+    let v = c .before .before .before in
+    let g = v .before .before .before in
+    let f : SFits w64 (getD (g .loop .a) (g .loop .i) 0ℤ) = record { sfits = v .before .wrapped-value-arg .given } in
+    summed _ (g .loop .inv .0) (omega arith) (c .before .put .ensures)
+    (handed (wrap-fits _) (v .wrapped-value .ensures ∙ ap wrap (ap₂ _⊕_ (toZ-ofZ f) (g .loop .inv .1))))
 
--- src/up.rt:43:1
 same-length : tie.Need-same-length Inv-loop μ-loop
-same-length c = ?
+same-length c = c .before .loop .inv .0 .split .len
 
--- src/up.rt:43:1
 returns : tie.Need-returns Inv-loop μ-loop
-returns c = ?
+returns c = ended-up (c .before .loop .inv .0) (omega arith) (omega arith)
 
 pub running-sum-spec : {M : Type 1} → statement M
 running-sum-spec =
