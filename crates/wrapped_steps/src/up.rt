@@ -61,9 +61,10 @@ pub(crate) fn accumulate(a: &mut [i64], d: usize)
         running_sum(a);
         return;
     }
-    let mut t = d;
-    if 4 <= d {
-        t = fours_up(a, d);
+    if d < 4 {
+        ones_up(a, d, d);
+        return;
     }
+    let t = fours_up(a, d);
     ones_up(a, d, t);
 }
