@@ -61,7 +61,7 @@ module _ (l : List ℕ) where
       ∙ one-· 𝟙
 
 -- the sign: of no prime at all the terms are 1 - z = -F(1)
-signAt : ℕ → ℤ
+unfoldable pub signAt : ℕ → ℤ
 signAt zero = ⊖ 1ℤ
 signAt (suc k) = 1ℤ
 
@@ -78,9 +78,6 @@ none-comb s b =
     (ap (λ a. z^ a +ˢ -ˢ 𝟙) (sym (NatL.one-mul s)) ∙ sym (spread-z^-1 s b 1) ∙ ap (spread s) (sym F-one))
 
 module _ (l : List ℕ) (k : ℕ) (h : New l k) where
-  R : ℕ
-  R = rowTo l k
-
   abbrev Combs : Type 0
   Combs = (s : ℕ) → 0 < s → termsOf l k s comb ≡ constant (signAt k) · spread s (F (rowTo l k))
 

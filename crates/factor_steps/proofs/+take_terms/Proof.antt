@@ -1,3 +1,9 @@
+-- `factor_steps::take_terms` meets its contract, by recursion on the number of primes: a step where there is none, else
+-- one product after the other.
+use native.Mathlib.Omega.{arith}
+use Rattle.entry_steps.specs.Sorts.{sortMeans}
+use Rattle.factor_steps.specs.Multiplied.{step-multiplies, both-multiply, multiplied-as}
+use Rattle.factor_steps.proofs.Recursion.{terms-none, terms-more, due-larger, larger-small, due-same}
 use Prim.Native.Nat.{ℕ, _<_}
 use borrow.Fn.Kinds.{In}
 use borrow.Fn.PlainCycle.{Measures, is, falls, and}
@@ -10,7 +16,7 @@ use Rattle.factor_steps.proofs.+take_terms.{statement}
 use Rattle.factor_steps.proofs.+take_terms.Tie.{close}
 
 abbrev μ-take-terms : Measures 1 take-terms-kinds.ps ℕ
-μ-take-terms κs a = ?
+μ-take-terms κs a = a .1 .1 .0
 
 abbrev take-terms-at : ℕ → In 1 take-terms-kinds.ps
 take-terms-at t =
@@ -20,7 +26,6 @@ abbrev take-terms-below : ℕ → In 1 take-terms-kinds.ps
 take-terms-below t =
     and 1 take-terms-kinds.ps (falls 1 take-terms-kinds.ps _<_ μ-take-terms t) take-terms.Pre
 
--- src/lib.rt:33:9
 take-terms-wrapped-step-requires : (t : ℕ) → take-terms-lts.Need-wrapped-step-requires (
   wrapped-step-reads.Asked,
   wrapped-step-reads.Learnt,
@@ -29,20 +34,8 @@ take-terms-wrapped-step-requires : (t : ℕ) → take-terms-lts.Need-wrapped-ste
   turned-reads.Asked,
   turned-reads.Learnt,
 ) (take-terms-at t) take-terms.Post
-take-terms-wrapped-step-requires t c κs = ?
+take-terms-wrapped-step-requires t c κs = c .before .before .pre .1 .size
 
--- src/lib.rt:34:9
-take-terms-same-length : (t : ℕ) → take-terms-lts.Need-same-length (
-  wrapped-step-reads.Asked,
-  wrapped-step-reads.Learnt,
-  take-terms-below t,
-  take-terms.Post,
-  turned-reads.Asked,
-  turned-reads.Learnt,
-) (take-terms-at t) take-terms.Post
-take-terms-same-length t c = ?
-
--- src/lib.rt:34:9
 take-terms-returns : (t : ℕ) → take-terms-lts.Need-returns (
   wrapped-step-reads.Asked,
   wrapped-step-reads.Learnt,
@@ -51,9 +44,22 @@ take-terms-returns : (t : ℕ) → take-terms-lts.Need-returns (
   turned-reads.Asked,
   turned-reads.Learnt,
 ) (take-terms-at t) take-terms.Post
-take-terms-returns t c = ?
+take-terms-returns t c =
+    let q = c .before .before .before .before .args in
+    multiplied-as (terms-none (q .t2) (q .k) (q .s) (sortMeans (q .sort)) (c .before .before .before .if1 .taken))
+    (step-multiplies (sortMeans (q .sort)) (q .s) (c .before .before .before .before .pre .1 .size) _ _
+    (c .before .wrapped-step .ensures))
 
--- src/lib.rt:36:16
+take-terms-same-length : (t : ℕ) → take-terms-lts.Need-same-length (
+  wrapped-step-reads.Asked,
+  wrapped-step-reads.Learnt,
+  take-terms-below t,
+  take-terms.Post,
+  turned-reads.Asked,
+  turned-reads.Learnt,
+) (take-terms-at t) take-terms.Post
+take-terms-same-length t c = take-terms-returns t c .len
+
 take-terms-sub-last : (t : ℕ) → take-terms-lts.Need-sub-last (
   wrapped-step-reads.Asked,
   wrapped-step-reads.Learnt,
@@ -62,9 +68,8 @@ take-terms-sub-last : (t : ℕ) → take-terms-lts.Need-sub-last (
   turned-reads.Asked,
   turned-reads.Learnt,
 ) (take-terms-at t) take-terms.Post
-take-terms-sub-last t c = ?
+take-terms-sub-last t c = omega arith
 
--- src/lib.rt:37:22
 take-terms-mul-larger : (t : ℕ) → take-terms-lts.Need-mul-larger (
   wrapped-step-reads.Asked,
   wrapped-step-reads.Learnt,
@@ -73,9 +78,8 @@ take-terms-mul-larger : (t : ℕ) → take-terms-lts.Need-mul-larger (
   turned-reads.Asked,
   turned-reads.Learnt,
 ) (take-terms-at t) take-terms.Post
-take-terms-mul-larger t c = ?
+take-terms-mul-larger t c = omega (arith, c .before .pre .1 .few)
 
--- src/lib.rt:37:22
 take-terms-array-read-larger : (t : ℕ) → take-terms-lts.Need-array-read-larger (
   wrapped-step-reads.Asked,
   wrapped-step-reads.Learnt,
@@ -84,9 +88,8 @@ take-terms-array-read-larger : (t : ℕ) → take-terms-lts.Need-array-read-larg
   turned-reads.Asked,
   turned-reads.Learnt,
 ) (take-terms-at t) take-terms.Post
-take-terms-array-read-larger t c = ?
+take-terms-array-read-larger t c = omega (arith, c .before .pre .1 .few)
 
--- src/lib.rt:37:18
 take-terms-mul-larger-2 : (t : ℕ) → take-terms-lts.Need-mul-larger-2 (
   wrapped-step-reads.Asked,
   wrapped-step-reads.Learnt,
@@ -95,9 +98,11 @@ take-terms-mul-larger-2 : (t : ℕ) → take-terms-lts.Need-mul-larger-2 (
   turned-reads.Asked,
   turned-reads.Learnt,
 ) (take-terms-at t) take-terms.Post
-take-terms-mul-larger-2 t c = ?
+take-terms-mul-larger-2 t c =
+    let q = c .before .args in
+    let small = larger-small (q .t2) (q .k) (q .s) (c .if1 .left) (c .before .pre .1) in
+    omega arith
 
--- src/lib.rt:38:5
 take-terms-take-terms-requires : (t : ℕ) → take-terms-lts.Need-take-terms-requires (
   wrapped-step-reads.Asked,
   wrapped-step-reads.Learnt,
@@ -106,9 +111,12 @@ take-terms-take-terms-requires : (t : ℕ) → take-terms-lts.Need-take-terms-re
   turned-reads.Asked,
   turned-reads.Learnt,
 ) (take-terms-at t) take-terms.Post
-take-terms-take-terms-requires t c κs = ?
+take-terms-take-terms-requires t c κs =
+    let p = c .before .before in (
+      omega (arith, p .pre .0),
+      due-larger (p .args .t2) (p .args .k) (p .args .s) (c .before .if1 .left) (p .pre .1),
+    )
 
--- src/lib.rt:39:36
 take-terms-turned-requires : (t : ℕ) → take-terms-lts.Need-turned-requires (
   wrapped-step-reads.Asked,
   wrapped-step-reads.Learnt,
@@ -117,9 +125,8 @@ take-terms-turned-requires : (t : ℕ) → take-terms-lts.Need-turned-requires (
   turned-reads.Asked,
   turned-reads.Learnt,
 ) (take-terms-at t) take-terms.Post
-take-terms-turned-requires t c κs = ?
+take-terms-turned-requires t c κs = tt
 
--- src/lib.rt:39:5
 take-terms-take-terms-requires-2 : (t : ℕ) → take-terms-lts.Need-take-terms-requires-2 (
   wrapped-step-reads.Asked,
   wrapped-step-reads.Learnt,
@@ -128,20 +135,13 @@ take-terms-take-terms-requires-2 : (t : ℕ) → take-terms-lts.Need-take-terms-
   turned-reads.Asked,
   turned-reads.Learnt,
 ) (take-terms-at t) take-terms.Post
-take-terms-take-terms-requires-2 t c κs = ?
+take-terms-take-terms-requires-2 t c κs =
+    let e = c .before .before .before .before .before in
+    let p = e .before in (
+      omega (arith, p .pre .0),
+      due-same (p .args .t2) (p .args .k) (p .args .s) (e .if1 .left) (p .pre .1),
+    )
 
--- src/lib.rt:28:1
-take-terms-same-length-2 : (t : ℕ) → take-terms-lts.Need-same-length-2 (
-  wrapped-step-reads.Asked,
-  wrapped-step-reads.Learnt,
-  take-terms-below t,
-  take-terms.Post,
-  turned-reads.Asked,
-  turned-reads.Learnt,
-) (take-terms-at t) take-terms.Post
-take-terms-same-length-2 t c = ?
-
--- src/lib.rt:28:1
 take-terms-returns-2 : (t : ℕ) → take-terms-lts.Need-returns-2 (
   wrapped-step-reads.Asked,
   wrapped-step-reads.Learnt,
@@ -150,7 +150,23 @@ take-terms-returns-2 : (t : ℕ) → take-terms-lts.Need-returns-2 (
   turned-reads.Asked,
   turned-reads.Learnt,
 ) (take-terms-at t) take-terms.Post
-take-terms-returns-2 t c = ?
+take-terms-returns-2 t c =
+    let first = c .before .before .before .before .before in
+    let e = first .before .before in
+    let q = e .before .args in
+    multiplied-as (terms-more (q .t2) (q .k) (q .s) (sortMeans (q .sort)) (e .if1 .left))
+    (both-multiply (first .take-terms .ensures)
+    (rw (c .before .before .turned .ensures) at (c .before .take-terms2 .ensures)))
+
+take-terms-same-length-2 : (t : ℕ) → take-terms-lts.Need-same-length-2 (
+  wrapped-step-reads.Asked,
+  wrapped-step-reads.Learnt,
+  take-terms-below t,
+  take-terms.Post,
+  turned-reads.Asked,
+  turned-reads.Learnt,
+) (take-terms-at t) take-terms.Post
+take-terms-same-length-2 t c = take-terms-returns-2 t c .len
 
 pub +take-terms-spec : {M : Type 1} → statement M
 +take-terms-spec = close μ-take-terms λ t. take-terms-lts.spec (
