@@ -6,7 +6,7 @@ use mathlib.Core.Logic.{_≢_}
 use native.Mathlib.Nat as NatL
 use native.Mathlib.Omega.{arith}
 use Rattle.definitions.specs.Series.{_·_}
-use Rattle.definitions.specs.Numbers.{oddPrimeOf, listTo, rOf, kOf, mOf, tOf}
+use Rattle.definitions.specs.Numbers.{oddPrimeOf, listTo, rOf, kOf, tOf}
 use Rattle.definitions.specs.Polynomials.{F}
 use Rattle.definitions.specs.Requests.{goodIndex}
 use Rattle.definitions.specs.Steps.{comb, accumulate}

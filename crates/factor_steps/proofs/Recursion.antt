@@ -1,6 +1,6 @@
 -- The recursion over the primes, as the code has it: none is left, or there is one before the place k.
 use Prim.Native.Nat.{ℕ, suc, _*_, _-_, _≤_}
-use mathlib.Core.Path.{_≡_, sym, _∙_, ap, subst}
+use mathlib.Core.Path.{_≡_, sym, ap, subst}
 use mathlib.Core.List.{List}
 use native.Mathlib.Omega.{arith}
 use lib.ListN.{getD}

@@ -17,7 +17,7 @@ use Rattle.definitions.specs.Steps.{Sort, comb, accumulate}
 use Rattle.definitions.specs.KeptHalf.{termOf}
 use Rattle.integers.specs.Solver.{:1, _:+_, _:*_, :-, x, y, z, w}
 use Rattle.integers.specs.Whole.{⊗-one, ringℤ}
-use Rattle.series.specs.Laws.{Unitˢ, cancel, unit-mul, ·-comm, one-·, ringˢ, constants-neg}
+use Rattle.series.specs.Laws.{Unitˢ, cancel, unit-mul, one-·, ringˢ, constants-neg}
 use Rattle.series.specs.Maps.{spread-mul, spread-zero, spread-spread}
 use Rattle.numbers.specs.Primes.{Prime, prime-pos, prime-two}
 use Rattle.numbers.specs.Apart.{r-odd, m-even, m-odd, m-above, t-pos}

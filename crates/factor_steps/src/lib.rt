@@ -1,5 +1,5 @@
-// Inner: each `requires` is shown by the callers. A polynomial times F(n), n above 1, in place, modulo 2^64 and as far as
-// the slice goes: by combs and accumulates, one for each set of n's primes.
+// Inner: each `requires` is shown by the callers. A polynomial times F(n), n above 1, in place, modulo 2^64 and as far
+// as the slice goes: by combs and accumulates, one for each set of n's primes.
 
 ghost use mathlib.Core.Path.{_≡_};
 ghost use mathlib.Core.Logic.{_≢_};

@@ -4,20 +4,21 @@ use mathlib.Core.Path.{_≡_, refl, sym, _∙_, ap, ap₂}
 use mathlib.Core.Bool.{true, false, true≢false}
 use Prim.Native.Nat.{ℕ, _+_, _-_, _%_, _^_, _<_, _≤_}
 use native.Mathlib.Omega.{arith}
-use borrow.Author.Tests.{lt-ltb, le-ltb, ltb-true, ltb-false}
-use lib.Dec.{T, ltb}
+use borrow.Author.Tests.{le-ltb}
+use lib.Dec.{T}
 use lib.IntN.{ℤ, pos, negsuc, natAbs}
 use lib.Signed.{ltZ, nonNeg}
 use mir.Syntax.{w64}
 use mir.Val.{SFits, Fits, toZ, ofZ}
-use mir.Facts.{toZ-ofZ, toZ-pos, toZ-neg}
+use mir.Facts.{toZ-ofZ, toZ-pos}
 use Rattle.definitions.specs.Integers.{_⊕_, _⊝_, ⊖}
 use Rattle.step_laws.specs.Machine.{seen}
 use Rattle.wrapped_steps.specs.Wrapped.{residue, wrap}
 use Rattle.wrapped_steps.specs.Residues.{residue-⊕, residue-⊖, residue-small, bits-residue}
 
 -- a negative number's complement
-negative-is : (x : ℤ) → SFits w64 x → ltZ x (pos 0) ≡ true → toZ w64 (18446744073709551615 - ofZ w64 x) ≡ pos (natAbs x - 1)
+negative-is : (x : ℤ) → SFits w64 x → ltZ x (pos 0) ≡ true → toZ w64 (18446744073709551615 - ofZ w64 x)
+    ≡ pos (natAbs x - 1)
 negative-is (pos n) f t = absurd (true≢false (sym t ∙ le-ltb n 0 (omega arith)))
 negative-is (negsuc n) f t =
     let back : 18446744073709551615 - ofZ w64 (negsuc n) ≡ n = omega (arith, f .sfits) in
@@ -77,7 +78,8 @@ module _ (x y : ℤ) (f : SFits w64 x) (g : SFits w64 y) {p q r : ℕ} (hp : p �
   unfolding wrap
   difference-wraps e b =
       ap (toZ w64)
-      (residue-difference x y r (ap (λ u. (r + u) % 2 ^ 64) (sym (hq ∙ bits-residue y g)) ∙ e ∙ hp ∙ bits-residue x f) b)
+      (residue-difference x y r
+      (ap (λ u. (r + u) % 2 ^ 64) (sym (hq ∙ bits-residue y g)) ∙ e ∙ hp ∙ bits-residue x f) b)
 
 -- bits from 2^63 on go by their complement
 pub twice : (b : ℕ) → b < 2 ^ 64 → 18446744073709551615 - (18446744073709551615 - b) ≡ b

@@ -6,18 +6,16 @@ use Prim.Native.Nat.{ℕ, _-_, _<_, _≤_}
 use native.Mathlib.Omega.{arith}
 use borrow.Author.Tests.{lt-ltb, le-ltb}
 use lib.ListN.{length}
-use lib.IntN.{ℤ, pos}
-use mir.Syntax.{w64}
-use mir.Val.{SFits}
+use lib.IntN.{ℤ, natAbs}
 use Rattle.definitions.specs.Integers.{_⊕_, _⊝_}
-use Rattle.definitions.specs.Series.{Series}
-use Rattle.definitions.specs.Steps.{Sort, comb, accumulate, stepped, entries}
+use Rattle.definitions.specs.Series.{Series, firsts}
+use Rattle.definitions.specs.Steps.{Sort, comb, accumulate, stepped, entries, largest}
 use Rattle.step_laws.specs.Tests.{by-order}
-use Rattle.step_laws.specs.Firsts.{length-firsts, firsts-here, firsts-past, firsts-same, firsts-entries}
+use Rattle.step_laws.specs.Firsts.{length-firsts, firsts-here, firsts-past, firsts-same, firsts-entries, is-firsts}
 use Rattle.step_laws.specs.Accumulated.{accumulated-from, accumulated-below, by-chain}
 use Rattle.step_laws.specs.Step.{combed-from, stepped-below}
 use Rattle.wrapped_steps.specs.Wrapped.{wrap, wrappedStep, wrappedList, Like, AllFit}
-use Rattle.wrapped_steps.specs.Residues.{wrap-fits, wrap-wrap, like-⊕, like-⊝, wrap-⊕}
+use Rattle.wrapped_steps.specs.Residues.{wrap-fits, wrap-wrap, like-⊕, like-⊝, like-equal}
 
 module _ (s : Sort) (d : ℕ) (f : Series) where
   pub wrapped-below : (i : ℕ) → i < d → wrappedStep s d f i ≡ f i
@@ -112,3 +110,10 @@ wrapped-like s d l f one like i b =
     ap wrap (wrapped-here s d l i b)
     ∙ wrapped-is s d (entries l) i
     ∙ stepped-like (length l) d (entries l) f one like s i b
+
+-- 64-bit numbers that are modulo 2^64 those of f, none of which is larger than the largest, are f's
+pub like-exact : (l : List ℤ) (f : Series) → AllFit l → Like (length l) (entries l) f
+    → ((i : ℕ) → i < length l → natAbs (f i) ≤ largest) → l ≡ firsts (length l) f
+unfolding entries
+like-exact l f fit like small =
+    is-firsts (length l) f l refl (λ i b. like-equal (fit i) (small i b) (like i b))

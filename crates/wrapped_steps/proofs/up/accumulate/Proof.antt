@@ -1,6 +1,5 @@
 -- `wrapped_steps::up::accumulate` meets its contract: as a running sum, one by one, or by fours and then one by one.
 use mathlib.Core.Path.{sym, _∙_, ap}
-use native.Mathlib.Omega.{arith}
 use Rattle.definitions.specs.Steps.{accumulate}
 use Rattle.wrapped_steps.specs.Wrapped.{wrappedList, UpTo}
 use Rattle.wrapped_steps.proofs.Passes.{start-up}
@@ -25,7 +24,8 @@ returns c =
     ∙ ap (λ d. wrappedList accumulate d (t .before .args .a .now)) (sym (t .if1 .taken))
 
 ones-up-requires : tie.Need-ones-up-requires
-ones-up-requires c κs = let q = c .before .before .before in (q .pre .0, record { before = q .args .a .now; done = begun q })
+ones-up-requires c κs =
+    let q = c .before .before .before in (q .pre .0, record { before = q .args .a .now; done = begun q })
 
 same-length-2 : tie.Need-same-length-2
 same-length-2 c = search needs

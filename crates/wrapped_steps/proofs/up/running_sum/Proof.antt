@@ -1,7 +1,7 @@
 -- `wrapped_steps::up::running_sum` meets its contract. The invariant: the accumulate got up to i, and the sum is the
 -- entry before that.
 use mathlib.Core.Path.{_≡_, _∙_, ap, ap₂}
-use Prim.Native.Nat.{_-_, _≤_}
+use Prim.Native.Nat.{_-_}
 use native.Mathlib.Omega.{arith}
 use lib.ListN.{length, getD}
 use mir.Syntax.{w64}
