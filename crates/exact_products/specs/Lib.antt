@@ -2,3 +2,5 @@
 pub mod Parts
 pub mod Told
 pub mod Dots
+pub mod Terms
+pub mod Digits
