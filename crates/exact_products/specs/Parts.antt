@@ -64,3 +64,9 @@ module _ (m : ℕ) (v : ℤ) (d : ℕ) (h : d < m) where
       go : (v : ℤ) → mag (v ⊗ pos m ⊕ pos d) < suc (mag v) * m
       go (pos n) = rw (joined-pos m n d) (omega (arith, suc-mul n m))
       go (negsuc n) = rw (joined-neg m n d h) (omega (arith, suc-mul n m))
+
+-- d is a rest of division by m
+pub record Rest (m : ℕ) (d : ℤ) : Type 0 where
+  pub size : ℕ
+  pub below : size < m
+  pub is : d ≡ pos size

@@ -12,6 +12,7 @@ use mir.Syntax.{w64}
 use mir.Val.{SFits}
 use Rattle.definitions.specs.Integers.{_⊕_, _⊗_}
 use Rattle.definitions.specs.Steps.{inRange, largest}
+use Rattle.integers.specs.Whole.{⊕-zero}
 use Rattle.step_laws.specs.Tests.{by-order}
 use Rattle.exact_products.specs.Parts.{joined-least, joined-most}
 
@@ -66,6 +67,14 @@ module _ (m k : ℕ) (e : k * m ≡ 2 ^ 63) (d : ℕ) (h : d < m) where
 
   pub in-joined : (v : ℤ) → mag v < k → mag (v ⊗ pos m ⊕ pos d) < 2 ^ 63
   in-joined v l = omega (arith, mul-le-mul-right m l, joined-most m v d h)
+
+  -- the part above, by itself
+  pub in-times : (v : ℤ) → mag v < k → mag (v ⊗ pos m) < 2 ^ 63
+  in-times v l =
+      rw (⊕-zero (v ⊗ pos m)) at
+      (let most = joined-most m v 0 (omega arith) in
+      let short : mag (v ⊗ pos m ⊕ pos 0) < 2 ^ 63 = omega (arith, mul-le-mul-right m l) in
+      short)
 
   pub told-joined : 2 ≤ m → (v : ℤ) → told (told v ⊗ pos m ⊕ pos d) ≡ told (v ⊗ pos m ⊕ pos d)
   told-joined two v =
