@@ -1,2 +1,3 @@
 -- Laws that the functions' proofs share.
 mod Joins
+mod Lights

@@ -1,5 +1,6 @@
 // Inner
 mod halves;
+mod light;
 mod sums;
 
 // -2^63, which is no value that is delivered: the coefficient is outside the range.
