@@ -1,3 +1,4 @@
 -- Laws that the functions' proofs share.
 mod Joins
 mod Lights
+mod DigitSums

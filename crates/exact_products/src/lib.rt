@@ -1,4 +1,5 @@
 // Inner
+mod digits;
 mod halves;
 mod light;
 mod sums;
