@@ -38,6 +38,23 @@ unfoldable pub number : (ℕ → ℤ) → ℕ → ℕ → ℤ
 number c zero k = 0ℤ
 number c (suc n) k = c k ⊕ number c n (suc k) ⊗ pos base
 
+pub place-more : (f g : Series) (i k a : ℕ) → placeTo f g i k (a + 1)
+    ≡ placeTo f g i k a ⊕ (digits a f · digits (k - a) g) i
+unfolding placeTo
+place-more f g i k a = ap (placeTo f g i k) (add-one a)
+
+pub place-none : (f g : Series) (i k : ℕ) → placeTo f g i k 0 ≡ 0ℤ
+unfolding placeTo
+place-none f g i k = refl
+
+pub number-more : (c : ℕ → ℤ) (n k : ℕ) → number c (suc n) k ≡ c k ⊕ number c n (suc k) ⊗ pos base
+unfolding number
+number-more c n k = refl
+
+pub number-last : (c : ℕ → ℤ) (k : ℕ) → number c 1 k ≡ c k
+unfolding number
+number-last c k = ap (λ a. c k ⊕ a) (zero-⊗ (pos base)) ∙ ⊕-zero (c k)
+
 -- ---- a series by its digits
 X : Series
 X = constant (pos base)
