@@ -2,3 +2,4 @@
 mod Joins
 mod Lights
 mod DigitSums
+mod Places

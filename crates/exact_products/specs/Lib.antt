@@ -4,3 +4,4 @@ pub mod Told
 pub mod Dots
 pub mod Terms
 pub mod Digits
+pub mod Products

@@ -1,4 +1,19 @@
-use Prim.Native.Nat.{ℕ, _<_}
+-- The cycle of calls {from_place}: the measure is the number of places that are left.
+use mathlib.Core.Path.{_≡_, refl, _∙_, ap, ap₂, subst}
+use mathlib.Core.List.{List}
+use native.Mathlib.Omega.{arith}
+use borrow.Author.Needs.{needs}
+use lib.IntN.{ℤ, pos}
+use lib.Signed.{shrZ}
+use Rattle.definitions.specs.Integers.{_⊕_, _⊗_}
+use Rattle.definitions.specs.Steps.{entries}
+use Rattle.step_laws.specs.Machine.{seen}
+use Rattle.exact_products.specs.Parts.{base, rest}
+use Rattle.exact_products.specs.Told.{told}
+use Rattle.exact_products.specs.Digits.{place, number}
+use Rattle.exact_products.proofs.Joins.{told-handed}
+use Rattle.exact_products.proofs.Places.{here-most, here-asks, here-seen, carry-seen, carry-small, last-place, next-place}
+use Prim.Native.Nat.{ℕ, _+_, _-_, _<_, _≤_}
 use borrow.Fn.Kinds.{In}
 use borrow.Fn.PlainCycle.{Measures, is, falls, and}
 use Rattle.exact_products.proofs.digits.from_place.Reads as from-place
@@ -11,8 +26,22 @@ use Rattle.exact_products.proofs.sums.plus.Reads as plus-reads
 use Rattle.exact_products.proofs.digits.+from_place.{statement}
 use Rattle.exact_products.proofs.digits.+from_place.Tie.{close}
 
+-- what stands at the places of a coefficient
+abbrev digits-of : List ℤ → List ℤ → ℕ → ℕ → ℤ
+digits-of f b i = place (entries f) (entries b) i
+
+-- another place is left
+less : (k : ℕ) → k ≤ 4 → (k ≡ 4 → ⊥) → k < 4
+less k h n = omega arith
+
+room : (k : ℕ) → k ≤ 4 → (k ≡ 4 → ⊥) → k + 1 ≤ 4
+room k h n = omega arith
+
+below : (k : ℕ) → k ≤ 4 → (k ≡ 4 → ⊥) → 5 - (k + 1) < 5 - k
+below k h n = omega arith
+
 abbrev μ-from-place : Measures 2 from-place-kinds.ps ℕ
-μ-from-place κs a = ?
+μ-from-place κs a = 5 - a .1 .1 .1 .1 .1 .0
 
 abbrev from-place-at : ℕ → In 2 from-place-kinds.ps
 from-place-at t =
@@ -35,7 +64,7 @@ from-place-place-sum-requires : (t : ℕ) → from-place-lts.Need-place-sum-requ
   with-digit-reads.Asked,
   with-digit-reads.Learnt,
 ) (from-place-at t) from-place.Post
-from-place-place-sum-requires t c κs = ?
+from-place-place-sum-requires t c κs = (c .pre .1 .0, c .pre .1 .1, c .pre .1 .2)
 
 -- src/digits.rt:102:9
 from-place-plus-requires : (t : ℕ) → from-place-lts.Need-plus-requires (
@@ -50,7 +79,10 @@ from-place-plus-requires : (t : ℕ) → from-place-lts.Need-plus-requires (
   with-digit-reads.Asked,
   with-digit-reads.Learnt,
 ) (from-place-at t) from-place.Post
-from-place-plus-requires t c κs = ?
+from-place-plus-requires t c κs = 
+    let p = c .before in
+    here-asks (digits-of (p .args .f .now) (p .args .b .now) (p .args .i)) (p .args .k) (p .args .carry) (p .fits .carry) (p .pre .1 .3)
+      (c .place-sum .ensures .0) (c .place-sum .ensures .1)
 
 -- src/digits.rt:104:9
 from-place-returns : (t : ℕ) → from-place-lts.Need-returns (
@@ -65,7 +97,14 @@ from-place-returns : (t : ℕ) → from-place-lts.Need-returns (
   with-digit-reads.Asked,
   with-digit-reads.Learnt,
 ) (from-place-at t) from-place.Post
-from-place-returns t c = ?
+from-place-returns t c = 
+    let q = c .before .before in
+    let p = q .before in
+    here-seen (digits-of (p .args .f .now) (p .args .b .now) (p .args .i)) (p .args .k) (p .args .carry) (p .fits .carry) (p .pre .1 .3)
+      (q .place-sum .ensures .0) (q .place-sum .ensures .1) (c .before .plus .ensures)
+    ∙ last-place (digits-of (p .args .f .now) (p .args .b .now) (p .args .i)) (p .args .k) (p .args .carry) (c .if1 .taken)
+    (here-most (digits-of (p .args .f .now) (p .args .b .now) (p .args .i)) (p .args .k) (p .args .carry) (p .fits .carry) (p .pre .1 .3)
+      (q .place-sum .ensures .0) (q .place-sum .ensures .1))
 
 -- src/digits.rt:106:43
 from-place-add-from-place : (t : ℕ) → from-place-lts.Need-add-from-place (
@@ -80,7 +119,7 @@ from-place-add-from-place : (t : ℕ) → from-place-lts.Need-add-from-place (
   with-digit-reads.Asked,
   with-digit-reads.Learnt,
 ) (from-place-at t) from-place.Post
-from-place-add-from-place t c = ?
+from-place-add-from-place t c = omega arith
 
 -- src/digits.rt:106:50
 from-place-above-digit-requires : (t : ℕ) → from-place-lts.Need-above-digit-requires (
@@ -95,7 +134,7 @@ from-place-above-digit-requires : (t : ℕ) → from-place-lts.Need-above-digit-
   with-digit-reads.Asked,
   with-digit-reads.Learnt,
 ) (from-place-at t) from-place.Post
-from-place-above-digit-requires t c κs = ?
+from-place-above-digit-requires t c κs = search needs
 
 -- src/digits.rt:106:9
 from-place-from-place-requires : (t : ℕ) → from-place-lts.Need-from-place-requires (
@@ -110,7 +149,22 @@ from-place-from-place-requires : (t : ℕ) → from-place-lts.Need-from-place-re
   with-digit-reads.Asked,
   with-digit-reads.Learnt,
 ) (from-place-at t) from-place.Post
-from-place-from-place-requires t c κs = ?
+from-place-from-place-requires t c κs = 
+    let q = c .before .before .before in
+    let p = q .before in
+    let most = here-most (digits-of (p .args .f .now) (p .args .b .now) (p .args .i)) (p .args .k) (p .args .carry) (p .fits .carry) (p .pre .1 .3)
+      (q .place-sum .ensures .0) (q .place-sum .ensures .1) in
+    let sum = here-seen (digits-of (p .args .f .now) (p .args .b .now) (p .args .i)) (p .args .k) (p .args .carry) (p .fits .carry) (p .pre .1 .3)
+      (q .place-sum .ensures .0) (q .place-sum .ensures .1) (c .before .before .plus .ensures) in
+    (
+      subst (λ n. 5 - (p .args .k + 1) < n) (p .pre .0) (below (p .args .k) (p .pre .1 .2) (c .before .if1 .left)),
+      (
+        p .pre .1 .0,
+        p .pre .1 .1,
+        room (p .args .k) (p .pre .1 .2) (c .before .if1 .left),
+        carry-small most sum (c .above-digit .ensures),
+      ),
+    )
 
 -- src/digits.rt:107:5
 from-place-with-digit-requires : (t : ℕ) → from-place-lts.Need-with-digit-requires (
@@ -125,7 +179,7 @@ from-place-with-digit-requires : (t : ℕ) → from-place-lts.Need-with-digit-re
   with-digit-reads.Asked,
   with-digit-reads.Learnt,
 ) (from-place-at t) from-place.Post
-from-place-with-digit-requires t c κs = ?
+from-place-with-digit-requires t c κs = search needs
 
 -- src/digits.rt:96:1
 from-place-returns-2 : (t : ℕ) → from-place-lts.Need-returns-2 (
@@ -140,7 +194,24 @@ from-place-returns-2 : (t : ℕ) → from-place-lts.Need-returns-2 (
   with-digit-reads.Asked,
   with-digit-reads.Learnt,
 ) (from-place-at t) from-place.Post
-from-place-returns-2 t c = ?
+from-place-returns-2 t c = 
+    let d = c .before .before in
+    let q = d .before .before .before in
+    let p = q .before in
+    let at = digits-of (p .args .f .now) (p .args .b .now) (p .args .i) in
+    let k = p .args .k in
+    let n = p .args .carry ⊕ at k in
+    let most = here-most (digits-of (p .args .f .now) (p .args .b .now) (p .args .i)) (p .args .k) (p .args .carry) (p .fits .carry) (p .pre .1 .3)
+      (q .place-sum .ensures .0) (q .place-sum .ensures .1) in
+    let sum = here-seen (digits-of (p .args .f .now) (p .args .b .now) (p .args .i)) (p .args .k) (p .args .carry) (p .fits .carry) (p .pre .1 .3)
+      (q .place-sum .ensures .0) (q .place-sum .ensures .1) (d .before .before .plus .ensures) in
+    let above = carry-seen most sum (d .above-digit .ensures) in
+    let upper : seen (c .before .from-place .result) ≡ told (shrZ n base ⊕ number at (5 - (k + 1)) (k + 1)) =
+      told-handed (shrZ n base ⊕ number at (5 - (k + 1)) (k + 1))
+      (c .before .from-place .ensures ∙ ap (λ a. told (a ⊕ number at (5 - (k + 1)) (k + 1))) above) in
+    told-handed (p .args .carry ⊕ number at (5 - k) k)
+    (c .with-digit .ensures ∙ ap₂ (λ a b. told (a ⊗ pos base ⊕ pos (rest base b))) upper sum
+    ∙ next-place at k (p .args .carry) (less k (p .pre .1 .2) (d .before .if1 .left)) n refl)
 
 pub +from-place-spec : {M : Type 1} → statement M
 +from-place-spec = close μ-from-place λ t. from-place-lts.spec (

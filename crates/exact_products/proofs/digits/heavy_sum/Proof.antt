@@ -1,17 +1,25 @@
+-- `digits::heavy_sum`: from the first place on, nothing being carried to it.
+use mathlib.Core.Path.{_≡_, _∙_, ap}
 use borrow.Author.Needs.{needs}
+use Rattle.definitions.specs.Series.{_·_}
+use Rattle.definitions.specs.Steps.{entries}
+use Rattle.integers.specs.Whole.{zero-⊕}
+use Rattle.exact_products.specs.Told.{told}
+use Rattle.exact_products.specs.Digits.{place, number, digits-product}
+use Rattle.exact_products.proofs.Joins.{told-handed}
 use Rattle.exact_products.proofs.digits.heavy_sum.Statement.{statement}
 use Rattle.exact_products.proofs.digits.heavy_sum.Tie as tie
-use Rattle.exact_products.proofs.digits.heavy_sum.Reads as reads
-use Rattle.exact_products.proofs.digits.heavy_sum.Lts as lts
-use Rattle.exact_products.proofs.digits.from_place.Reads as from-place-reads
 
--- src/digits.rt:114:5
 from-place-requires : tie.Need-from-place-requires
 from-place-requires c κs = search needs
 
--- src/digits.rt:110:1
 returns : tie.Need-returns
-returns c = ?
+returns c =
+    let a = c .before .args in
+    let f = entries (a .f .now) in
+    let b = entries (a .b .now) in
+    told-handed ((f · b) (a .i))
+    (c .from-place .ensures ∙ ap told (zero-⊕ (number (place f b (a .i)) 5 0) ∙ digits-product f b (a .i)))
 
 pub heavy-sum-spec : {M : Type 1} → statement M
 heavy-sum-spec = tie.close (tie.spec from-place-requires returns)

@@ -1,0 +1,44 @@
+use borrow.Author.Needs.{needs}
+use Rattle.exact_products.proofs.coefficient.Statement.{statement}
+use Rattle.exact_products.proofs.coefficient.Tie as tie
+use Rattle.exact_products.proofs.coefficient.Reads as reads
+use Rattle.exact_products.proofs.coefficient.Lts as lts
+use Rattle.exact_products.proofs.digits.heavy_sum.Reads as heavy-sum-reads
+use Rattle.exact_products.proofs.first_term.Reads as first-term-reads
+use Rattle.exact_products.proofs.light.light_sum.Reads as light-sum-reads
+use Rattle.exact_products.proofs.past_terms.Reads as past-terms-reads
+
+-- src/lib.rt:64:9
+first-term-requires : tie.Need-first-term-requires
+first-term-requires c κs = search needs
+
+-- src/lib.rt:65:9
+past-terms-requires : tie.Need-past-terms-requires
+past-terms-requires c κs = search needs
+
+-- src/lib.rt:67:9
+light-sum-requires : tie.Need-light-sum-requires
+light-sum-requires c κs = ?
+
+-- src/lib.rt:67:9
+returns : tie.Need-returns
+returns c = search needs
+
+-- src/lib.rt:69:5
+heavy-sum-requires : tie.Need-heavy-sum-requires
+heavy-sum-requires c κs = ?
+
+-- src/lib.rt:60:1
+returns-2 : tie.Need-returns-2
+returns-2 c = search needs
+
+pub coefficient-spec : {M : Type 1} → statement M
+coefficient-spec =
+    tie.close
+    (tie.spec
+    first-term-requires
+    past-terms-requires
+    light-sum-requires
+    returns
+    heavy-sum-requires
+    returns-2)
