@@ -7,6 +7,7 @@ use native.Mathlib.Nat.{le-trans, mul-le-mul-left, mul-le-mul-right, add-mul}
 use native.Mathlib.Nat as NatL
 use native.Mathlib.Omega.{arith}
 use native.Mathlib.Numerals.{add-one}
+use lib.ListN.{length}
 use lib.IntN.{ℤ, pos, negsuc, natAbs, negℤ}
 use Rattle.definitions.specs.Integers.{_⊕_, _⊗_, 0ℤ}
 use Rattle.definitions.specs.Series.{Series, tail, _·_}
@@ -111,6 +112,15 @@ weightTo-most [] zero = omega arith
 weightTo-most [] (suc n) = omega (arith, weightTo-most [] n)
 weightTo-most (c ∷ cs) zero = omega arith
 weightTo-most (c ∷ cs) (suc n) = omega (arith, weightTo-tail (entries (c ∷ cs)) n, weightTo-most cs n)
+
+pub weightTo-none : (f : Series) → weightTo f 0 ≡ 0
+unfolding weightTo
+weightTo-none f = refl
+
+pub weightTo-whole : (l : List ℤ) → weightTo (entries l) (length l) ≡ weight l
+unfolding weight weightTo entries
+weightTo-whole [] = refl
+weightTo-whole (c ∷ cs) = omega (arith, weightTo-tail (entries (c ∷ cs)) (length cs), weightTo-whole cs)
 
 pub dot-bound : (f g : Series) (h : ℕ) → Bounded h g → (i n : ℕ) → natAbs (dot f g i n) ≤ weightTo f n * h
 unfolding dot weightTo
