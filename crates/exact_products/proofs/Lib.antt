@@ -3,3 +3,4 @@ mod Joins
 mod Lights
 mod DigitSums
 mod Places
+mod Making
