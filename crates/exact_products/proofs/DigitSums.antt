@@ -14,7 +14,8 @@ use Rattle.definitions.specs.Steps.{entries}
 use Rattle.step_laws.specs.Signed.{abs-⊕, abs-mag}
 use Rattle.step_laws.specs.Machine.{seen, handed}
 use Rattle.exact_products.specs.Parts.{base, rest, rest-below, mag-above}
-use Rattle.exact_products.specs.Dots.{dot, dot-more, abs-⊗}
+use Rattle.exact_products.specs.Dots.{dot, dot-more}
+use Rattle.exact_products.specs.Weight.{abs-⊗}
 use Rattle.exact_products.specs.Terms.{Terms, through, starts, ends}
 use Rattle.exact_products.specs.Digits.{digitOf, digits}
 use Rattle.exact_products.proofs.Joins.{small-fits}

@@ -4,3 +4,4 @@ mod Lights
 mod DigitSums
 mod Places
 mod Making
+pub mod OneOutcome

@@ -14,8 +14,9 @@ use Rattle.definitions.specs.Series.{_·_}
 use Rattle.definitions.specs.Steps.{entries}
 use Rattle.step_laws.specs.Signed.{abs-⊕, abs-mag}
 use Rattle.exact_products.specs.Parts.{half, rest, rest-below, mag-above}
-use Rattle.exact_products.specs.Dots.{dot, dot-more, weight, weightTo, weightTo-more, weightTo-most, abs-term}
-use Rattle.exact_products.specs.Dots.{abs-more}
+use Rattle.exact_products.specs.Dots.{dot, dot-more}
+use Rattle.exact_products.specs.Weight.{weight, weightTo, weightTo-more, weightTo-most, abs-term}
+use Rattle.exact_products.specs.Weight.{abs-more}
 use Rattle.exact_products.specs.Terms.{Terms, through, starts, ends, highHalf, lowHalf, low-none, halves-product}
 use Rattle.exact_products.proofs.Joins.{small-fits}
 
@@ -72,16 +73,14 @@ module _ {f b : List ℤ} {i j : ℕ} {h l : ℤ} (s : LightTo f b i j h l) (x y
   module _ (light : weight f < 1073741824) where
     pub high-asks : SFits w64 (x ⊗ highHalf y) × SFits w64 (h ⊕ x ⊗ highHalf y)
     high-asks =
-        let w : weightTo (entries f) (j + 1) ≤ weight f = weightTo-most f (j + 1) in
-        (
+        let w : weightTo (entries f) (j + 1) ≤ weight f = weightTo-most f (j + 1) in (
           small-fits _ (omega (arith, upto, abs-term x (highHalf y) 2147483648 (high-most y g))),
           small-fits _ (omega (arith, more .high-small)),
         )
 
     pub low-asks : SFits w64 (x ⊗ lowHalf y) × SFits w64 (l ⊕ x ⊗ lowHalf y)
     low-asks =
-        let w : weightTo (entries f) (j + 1) ≤ weight f = weightTo-most f (j + 1) in
-        (
+        let w : weightTo (entries f) (j + 1) ≤ weight f = weightTo-most f (j + 1) in (
           small-fits _ (omega (arith, upto, abs-term x (lowHalf y) 4294967296 (low-most y))),
           small-fits _ (omega (arith, more .low-small)),
         )

@@ -77,7 +77,6 @@ module _ {f old l : List ℤ} {i : ℕ} (m : Made f old l i) (one : 1 ≤ i) whe
 
 -- what the test of the number that was told says
 module _ (p v : ℤ) (e : v ≡ told p) where
-
   pub told-taken : toZ w64 (ofZ w64 v) ≡ told p → ofZ w64 v ≡ 9223372036854775808 → inRange largest p ≡ false
   told-taken s t = told-same p (sym s ∙ ap (toZ w64) t)
 

@@ -61,8 +61,8 @@ module _ (at : ℕ → ℤ) (k : ℕ) (carry : ℤ) where
       let N = number at (5 - (k + 1)) (k + 1) in
       let more : 5 - k ≡ suc (5 - (k + 1)) = omega arith in
       let whole : number at (5 - k) k ≡ at k ⊕ N ⊗ pos base =
-        ap (λ n. number at n k) more ∙ number-more at (5 - (k + 1)) k
-        ∙ ap (λ q. at k ⊕ number at (5 - (k + 1)) q ⊗ pos base) (sym (add-one k)) in
+      ap (λ n. number at n k) more ∙ number-more at (5 - (k + 1)) k
+      ∙ ap (λ q. at k ⊕ number at (5 - (k + 1)) q ⊗ pos base) (sym (add-one k)) in
       told-joined base 2199023255552 refl (rest base c) (rest-below base (omega arith) c) (omega arith)
       (shrZ c base ⊕ N)
       ∙ ap told

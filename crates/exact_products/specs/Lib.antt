@@ -2,6 +2,8 @@
 pub mod Parts
 pub mod Told
 pub mod Dots
+pub mod Weight
 pub mod Terms
 pub mod Digits
 pub mod Products
+mod Vectors

@@ -13,7 +13,7 @@ ghost use Rattle.definitions.specs.Series.{_·_, firsts};
 ghost use Rattle.definitions.specs.Steps.{entries, largest, someOutside};
 ghost use Rattle.series.specs.Degree.{ZeroFrom};
 ghost use Rattle.exact_products.specs.Told.{told};
-ghost use Rattle.exact_products.specs.Dots.{weight};
+ghost use Rattle.exact_products.specs.Weight.{weight};
 ghost use Rattle.exact_products.specs.Products.{Ready};
 use digits::heavy_sum;
 use entry_steps::put;

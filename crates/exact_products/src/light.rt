@@ -5,7 +5,7 @@ ghost use mathlib.Core.Path.{_≡_};
 ghost use Rattle.definitions.specs.Series.{_·_};
 ghost use Rattle.definitions.specs.Steps.{entries};
 ghost use Rattle.exact_products.specs.Told.{told};
-ghost use Rattle.exact_products.specs.Dots.{weight};
+ghost use Rattle.exact_products.specs.Weight.{weight};
 ghost use Rattle.exact_products.specs.Terms.{Terms};
 use crate::halves::high_half;
 use crate::halves::low_half;

@@ -4,18 +4,10 @@ use Rattle.exact_products.specs.Products.{ready-terms}
 use borrow.Author.Needs.{needs}
 use Rattle.exact_products.proofs.coefficient.Statement.{statement}
 use Rattle.exact_products.proofs.coefficient.Tie as tie
-use Rattle.exact_products.proofs.coefficient.Reads as reads
-use Rattle.exact_products.proofs.coefficient.Lts as lts
-use Rattle.exact_products.proofs.digits.heavy_sum.Reads as heavy-sum-reads
-use Rattle.exact_products.proofs.first_term.Reads as first-term-reads
-use Rattle.exact_products.proofs.light.light_sum.Reads as light-sum-reads
-use Rattle.exact_products.proofs.past_terms.Reads as past-terms-reads
 
--- src/lib.rt:64:9
 first-term-requires : tie.Need-first-term-requires
 first-term-requires c κs = search needs
 
--- src/lib.rt:65:9
 past-terms-requires : tie.Need-past-terms-requires
 past-terms-requires c κs = search needs
 
@@ -27,21 +19,17 @@ taken c =
     ready-terms (p .args .b .now) (p .args .f .now) (p .args .have) (p .args .i) (c .before .first-term .result)
     (c .past-terms .result) (p .pre .0) (c .before .first-term .ensures) (c .past-terms .ensures)
 
--- src/lib.rt:67:9
 light-sum-requires : tie.Need-light-sum-requires
-light-sum-requires c κs = 
+light-sum-requires c κs =
     let p = c .before .before .before in
     (taken (c .before), p .pre .1 (c .if1 .taken))
 
--- src/lib.rt:67:9
 returns : tie.Need-returns
 returns c = search needs
 
--- src/lib.rt:69:5
 heavy-sum-requires : tie.Need-heavy-sum-requires
 heavy-sum-requires c κs = (taken (c .before), c .before .before .before .pre .0 .few)
 
--- src/lib.rt:60:1
 returns-2 : tie.Need-returns-2
 returns-2 c = search needs
 

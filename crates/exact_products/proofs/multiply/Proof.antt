@@ -15,11 +15,6 @@ use Rattle.exact_products.proofs.Joins.{told-handed}
 use Rattle.exact_products.proofs.Making.{Made, made-none, made-ready, made-same, made-next, made-out, told-taken, told-left, made-all, made-in}
 use Rattle.exact_products.proofs.multiply.Statement.{statement}
 use Rattle.exact_products.proofs.multiply.Tie as tie
-use Rattle.exact_products.proofs.multiply.Reads as reads
-use Rattle.exact_products.proofs.multiply.Lts as lts
-use Rattle.entry_steps.proofs.put.Reads as put-reads
-use Rattle.exact_products.proofs.coefficient.Reads as coefficient-reads
-use Rattle.exact_products.proofs.weight_of.Reads as weight-of-reads
 
 abbrev Inv-loop : tie.InvT-loop
 Inv-loop b₀ f have light i₀ b i = Made f b₀ b i
@@ -27,26 +22,21 @@ Inv-loop b₀ f have light i₀ b i = Made f b₀ b i
 abbrev μ-loop : tie.MeasureT-loop
 μ-loop b₀ f have light i₀ b i = i
 
--- src/lib.rt:84:17
 weight-of-requires : tie.Need-weight-of-requires Inv-loop μ-loop
 weight-of-requires c κs = search needs
 
--- src/lib.rt:86:5
 loop-holds : tie.Need-loop-holds Inv-loop μ-loop
 loop-holds c = made-none (c .before .args .f .now) (c .before .args .b .now)
 
--- src/lib.rt:87:9
 sub-i : tie.Need-sub-i Inv-loop μ-loop
 sub-i c = omega arith
 
--- src/lib.rt:88:13
 coefficient-requires : tie.Need-coefficient-requires Inv-loop μ-loop
-coefficient-requires c κs = 
+coefficient-requires c κs =
     let at = c .before .before in
-    let p = at .before .before in
-    (
+    let p = at .before .before in (
       made-ready (at .loop .inv) (c .before .loop-test .taken) (p .args .have) (p .pre .0) (p .pre .1) (p .pre .2)
-      (p .pre .3) (p .pre .4),
+          (p .pre .3) (p .pre .4),
       λ t. omega (arith, at .before .weight-of .ensures, ltb-true (at .before .weight-of .result) 1073741824 t),
     )
 
@@ -76,45 +66,37 @@ module _ (c : tie.After-coefficient Inv-loop μ-loop) where
   seen-is : seen (c .coefficient .result) ≡ told coefficient-of
   seen-is = told-handed coefficient-of is
 
--- src/lib.rt:90:13
 same-length : tie.Need-same-length Inv-loop μ-loop
 same-length c = c .before .before .before .before .loop .inv .stands .len
 
--- src/lib.rt:90:13
 returns : tie.Need-returns Inv-loop μ-loop
-returns c = 
-    let q = c .before in
-    (
+returns c =
+    let q = c .before in (
       ap not (sym (made-out (so-far q) (some q)
-      (told-taken (coefficient-of q) (q .coefficient .result) (is q) (seen-is q) (c .if1 .taken)))),
+          (told-taken (coefficient-of q) (q .coefficient .result) (is q) (seen-is q) (c .if1 .taken)))),
       ((λ e. absurd (false≢true e)), so-far q .stands .len),
     )
 
--- src/lib.rt:92:9
 put-requires : tie.Need-put-requires Inv-loop μ-loop
-put-requires c κs = 
+put-requires c κs =
     let q = c .before .before in
     omega (arith, so-far q .stands .len, so-far q .most, some q)
 
--- src/lib.rt:86:5
 loop-less : tie.Need-loop-less Inv-loop μ-loop
 loop-less c = omega arith
 
--- src/lib.rt:86:5
 loop-again : tie.Need-loop-again Inv-loop μ-loop
-loop-again c = 
+loop-again c =
     let q = c .before .before .before .before in
     subst (λ l. Made (f q) (old q) l (at q .loop .i - 1)) (sym (c .before .put .ensures))
     (made-next (so-far q) (some q) (seen (q .coefficient .result)) (seen-is q)
     (told-left (coefficient-of q) (q .coefficient .result) (is q) (c .before .before .before .if1 .left)))
 
--- src/lib.rt:73:1
 same-length-2 : tie.Need-same-length-2 Inv-loop μ-loop
 same-length-2 c = c .before .loop .inv .stands .len
 
--- src/lib.rt:73:1
 returns-2 : tie.Need-returns-2 Inv-loop μ-loop
-returns-2 c = 
+returns-2 c =
     let l = c .before .loop in
     let none = c .loop-test .left in
     (ap not (sym (made-in (l .inv) none)), ((λ e. made-all (l .inv) none), l .inv .stands .len))

@@ -7,13 +7,9 @@ use lib.ListN.{length}
 use lib.IntN.{natAbs}
 use Rattle.definitions.specs.Steps.{entries}
 use Rattle.step_laws.specs.Machine.{handed}
-use Rattle.exact_products.specs.Dots.{weight, weightTo, weightTo-more, weightTo-most, weightTo-none, weightTo-whole}
+use Rattle.exact_products.specs.Weight.{weight, weightTo, weightTo-more, weightTo-most, weightTo-none, weightTo-whole}
 use Rattle.exact_products.proofs.weight_of.Statement.{statement}
 use Rattle.exact_products.proofs.weight_of.Tie as tie
-use Rattle.exact_products.proofs.weight_of.Reads as reads
-use Rattle.exact_products.proofs.weight_of.Lts as lts
-use Rattle.entry_steps.proofs.read_entry.Reads as read-entry-reads
-use Rattle.heights.proofs.magnitude.Reads as magnitude-reads
 
 abbrev Inv-loop : tie.InvT-loop
 Inv-loop f w₀ i₀ w i = (i ≤ length f) × (w ≡ weightTo (entries f) i) × (w < 9223372036854775808)
@@ -21,15 +17,12 @@ Inv-loop f w₀ i₀ w i = (i ≤ length f) × (w ≡ weightTo (entries f) i) ×
 abbrev μ-loop : tie.MeasureT-loop
 μ-loop f w₀ i₀ w i = length f - i
 
--- src/lib.rt:33:5
 loop-holds : tie.Need-loop-holds Inv-loop μ-loop
 loop-holds c = (omega arith, sym (weightTo-none (entries (c .args .f .now))), omega arith)
 
--- src/lib.rt:34:27
 read-entry-requires : tie.Need-read-entry-requires Inv-loop μ-loop
 read-entry-requires c κs = omega arith
 
--- src/lib.rt:34:13
 magnitude-requires : tie.Need-magnitude-requires Inv-loop μ-loop
 magnitude-requires c κs = search needs
 
@@ -45,36 +38,29 @@ upto c =
     let m : c .magnitude .result ≡ natAbs (entries f i) = c .magnitude .ensures ∙ ap natAbs (handed fits is) in
     omega (arith, weightTo-more (entries f) i)
 
--- src/lib.rt:35:12
 sub-if1 : tie.Need-sub-if1 Inv-loop μ-loop
 sub-if1 c = omega arith
 
--- src/lib.rt:36:13
 returns : tie.Need-returns Inv-loop μ-loop
-returns c = 
+returns c =
     let l = c .before .before .before .before .loop in
     let f = c .before .before .before .before .before .args .f .now in
     omega (arith, upto (c .before), l .inv .1, weightTo-most f (l .i + 1), c .if1 .taken)
 
--- src/lib.rt:38:9
 add-w : tie.Need-add-w Inv-loop μ-loop
 add-w c = omega arith
 
--- src/lib.rt:39:9
 add-i : tie.Need-add-i Inv-loop μ-loop
 add-i c = omega arith
 
--- src/lib.rt:33:5
 loop-less : tie.Need-loop-less Inv-loop μ-loop
 loop-less c = omega arith
 
--- src/lib.rt:33:5
 loop-again : tie.Need-loop-again Inv-loop μ-loop
 loop-again c = (omega arith, omega (arith, upto (c .before), c .before .before .before .before .loop .inv .1), omega arith)
 
--- src/lib.rt:28:1
 returns-2 : tie.Need-returns-2 Inv-loop μ-loop
-returns-2 c = 
+returns-2 c =
     let l = c .before .loop in
     let f = c .before .before .args .f .now in
     let same : l .i ≡ length f = omega arith in

@@ -51,7 +51,6 @@ abbrev from-place-below : ℕ → In 2 from-place-kinds.ps
 from-place-below t =
     and 2 from-place-kinds.ps (falls 2 from-place-kinds.ps _<_ μ-from-place t) from-place.Pre
 
--- src/digits.rt:102:25
 from-place-place-sum-requires : (t : ℕ) → from-place-lts.Need-place-sum-requires (
   place-sum-reads.Asked,
   place-sum-reads.Learnt,
@@ -66,7 +65,6 @@ from-place-place-sum-requires : (t : ℕ) → from-place-lts.Need-place-sum-requ
 ) (from-place-at t) from-place.Post
 from-place-place-sum-requires t c κs = (c .pre .1 .0, c .pre .1 .1, c .pre .1 .2)
 
--- src/digits.rt:102:9
 from-place-plus-requires : (t : ℕ) → from-place-lts.Need-plus-requires (
   place-sum-reads.Asked,
   place-sum-reads.Learnt,
@@ -79,12 +77,11 @@ from-place-plus-requires : (t : ℕ) → from-place-lts.Need-plus-requires (
   with-digit-reads.Asked,
   with-digit-reads.Learnt,
 ) (from-place-at t) from-place.Post
-from-place-plus-requires t c κs = 
+from-place-plus-requires t c κs =
     let p = c .before in
     here-asks (digits-of (p .args .f .now) (p .args .b .now) (p .args .i)) (p .args .k) (p .args .carry) (p .fits .carry) (p .pre .1 .3)
-      (c .place-sum .ensures .0) (c .place-sum .ensures .1)
+    (c .place-sum .ensures .0) (c .place-sum .ensures .1)
 
--- src/digits.rt:104:9
 from-place-returns : (t : ℕ) → from-place-lts.Need-returns (
   place-sum-reads.Asked,
   place-sum-reads.Learnt,
@@ -97,16 +94,15 @@ from-place-returns : (t : ℕ) → from-place-lts.Need-returns (
   with-digit-reads.Asked,
   with-digit-reads.Learnt,
 ) (from-place-at t) from-place.Post
-from-place-returns t c = 
+from-place-returns t c =
     let q = c .before .before in
     let p = q .before in
     here-seen (digits-of (p .args .f .now) (p .args .b .now) (p .args .i)) (p .args .k) (p .args .carry) (p .fits .carry) (p .pre .1 .3)
-      (q .place-sum .ensures .0) (q .place-sum .ensures .1) (c .before .plus .ensures)
+    (q .place-sum .ensures .0) (q .place-sum .ensures .1) (c .before .plus .ensures)
     ∙ last-place (digits-of (p .args .f .now) (p .args .b .now) (p .args .i)) (p .args .k) (p .args .carry) (c .if1 .taken)
     (here-most (digits-of (p .args .f .now) (p .args .b .now) (p .args .i)) (p .args .k) (p .args .carry) (p .fits .carry) (p .pre .1 .3)
-      (q .place-sum .ensures .0) (q .place-sum .ensures .1))
+    (q .place-sum .ensures .0) (q .place-sum .ensures .1))
 
--- src/digits.rt:106:43
 from-place-add-from-place : (t : ℕ) → from-place-lts.Need-add-from-place (
   place-sum-reads.Asked,
   place-sum-reads.Learnt,
@@ -121,7 +117,6 @@ from-place-add-from-place : (t : ℕ) → from-place-lts.Need-add-from-place (
 ) (from-place-at t) from-place.Post
 from-place-add-from-place t c = omega arith
 
--- src/digits.rt:106:50
 from-place-above-digit-requires : (t : ℕ) → from-place-lts.Need-above-digit-requires (
   place-sum-reads.Asked,
   place-sum-reads.Learnt,
@@ -136,7 +131,6 @@ from-place-above-digit-requires : (t : ℕ) → from-place-lts.Need-above-digit-
 ) (from-place-at t) from-place.Post
 from-place-above-digit-requires t c κs = search needs
 
--- src/digits.rt:106:9
 from-place-from-place-requires : (t : ℕ) → from-place-lts.Need-from-place-requires (
   place-sum-reads.Asked,
   place-sum-reads.Learnt,
@@ -149,14 +143,13 @@ from-place-from-place-requires : (t : ℕ) → from-place-lts.Need-from-place-re
   with-digit-reads.Asked,
   with-digit-reads.Learnt,
 ) (from-place-at t) from-place.Post
-from-place-from-place-requires t c κs = 
+from-place-from-place-requires t c κs =
     let q = c .before .before .before in
     let p = q .before in
     let most = here-most (digits-of (p .args .f .now) (p .args .b .now) (p .args .i)) (p .args .k) (p .args .carry) (p .fits .carry) (p .pre .1 .3)
-      (q .place-sum .ensures .0) (q .place-sum .ensures .1) in
+    (q .place-sum .ensures .0) (q .place-sum .ensures .1) in
     let sum = here-seen (digits-of (p .args .f .now) (p .args .b .now) (p .args .i)) (p .args .k) (p .args .carry) (p .fits .carry) (p .pre .1 .3)
-      (q .place-sum .ensures .0) (q .place-sum .ensures .1) (c .before .before .plus .ensures) in
-    (
+    (q .place-sum .ensures .0) (q .place-sum .ensures .1) (c .before .before .plus .ensures) in (
       subst (λ n. 5 - (p .args .k + 1) < n) (p .pre .0) (below (p .args .k) (p .pre .1 .2) (c .before .if1 .left)),
       (
         p .pre .1 .0,
@@ -166,7 +159,6 @@ from-place-from-place-requires t c κs =
       ),
     )
 
--- src/digits.rt:107:5
 from-place-with-digit-requires : (t : ℕ) → from-place-lts.Need-with-digit-requires (
   place-sum-reads.Asked,
   place-sum-reads.Learnt,
@@ -181,7 +173,6 @@ from-place-with-digit-requires : (t : ℕ) → from-place-lts.Need-with-digit-re
 ) (from-place-at t) from-place.Post
 from-place-with-digit-requires t c κs = search needs
 
--- src/digits.rt:96:1
 from-place-returns-2 : (t : ℕ) → from-place-lts.Need-returns-2 (
   place-sum-reads.Asked,
   place-sum-reads.Learnt,
@@ -194,7 +185,7 @@ from-place-returns-2 : (t : ℕ) → from-place-lts.Need-returns-2 (
   with-digit-reads.Asked,
   with-digit-reads.Learnt,
 ) (from-place-at t) from-place.Post
-from-place-returns-2 t c = 
+from-place-returns-2 t c =
     let d = c .before .before in
     let q = d .before .before .before in
     let p = q .before in
@@ -202,13 +193,13 @@ from-place-returns-2 t c =
     let k = p .args .k in
     let n = p .args .carry ⊕ at k in
     let most = here-most (digits-of (p .args .f .now) (p .args .b .now) (p .args .i)) (p .args .k) (p .args .carry) (p .fits .carry) (p .pre .1 .3)
-      (q .place-sum .ensures .0) (q .place-sum .ensures .1) in
+    (q .place-sum .ensures .0) (q .place-sum .ensures .1) in
     let sum = here-seen (digits-of (p .args .f .now) (p .args .b .now) (p .args .i)) (p .args .k) (p .args .carry) (p .fits .carry) (p .pre .1 .3)
-      (q .place-sum .ensures .0) (q .place-sum .ensures .1) (d .before .before .plus .ensures) in
+    (q .place-sum .ensures .0) (q .place-sum .ensures .1) (d .before .before .plus .ensures) in
     let above = carry-seen most sum (d .above-digit .ensures) in
     let upper : seen (c .before .from-place .result) ≡ told (shrZ n base ⊕ number at (5 - (k + 1)) (k + 1)) =
-      told-handed (shrZ n base ⊕ number at (5 - (k + 1)) (k + 1))
-      (c .before .from-place .ensures ∙ ap (λ a. told (a ⊕ number at (5 - (k + 1)) (k + 1))) above) in
+    told-handed (shrZ n base ⊕ number at (5 - (k + 1)) (k + 1))
+    (c .before .from-place .ensures ∙ ap (λ a. told (a ⊕ number at (5 - (k + 1)) (k + 1))) above) in
     told-handed (p .args .carry ⊕ number at (5 - k) k)
     (c .with-digit .ensures ∙ ap₂ (λ a b. told (a ⊗ pos base ⊕ pos (rest base b))) upper sum
     ∙ next-place at k (p .args .carry) (less k (p .pre .1 .2) (d .before .if1 .left)) n refl)

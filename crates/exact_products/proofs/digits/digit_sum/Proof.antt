@@ -13,11 +13,6 @@ use Rattle.exact_products.specs.Digits.{digitOf}
 use Rattle.exact_products.proofs.DigitSums.{DigitsTo, start, done, more, more-asks, digit-fits}
 use Rattle.exact_products.proofs.digits.digit_sum.Statement.{statement}
 use Rattle.exact_products.proofs.digits.digit_sum.Tie as tie
-use Rattle.exact_products.proofs.digits.digit_sum.Reads as reads
-use Rattle.exact_products.proofs.digits.digit_sum.Lts as lts
-use Rattle.entry_steps.proofs.read_entry.Reads as read-entry-reads
-use Rattle.exact_products.proofs.digits.digit.Reads as digit-reads
-use Rattle.exact_products.proofs.sums.add_product.Reads as add-product-reads
 
 abbrev Inv-loop : tie.InvT-loop
 Inv-loop f b i from to a c s₀ j₀ s j = (from ≤ j) × (j ≤ to) × DigitsTo f b i j a c (toZ w64 s)
@@ -25,27 +20,21 @@ Inv-loop f b i from to a c s₀ j₀ s j = (from ≤ j) × (j ≤ to) × DigitsT
 abbrev μ-loop : tie.MeasureT-loop
 μ-loop f b i from to a c s₀ j₀ s j = to - j
 
--- src/digits.rt:70:5
 loop-holds : tie.Need-loop-holds Inv-loop μ-loop
 loop-holds c = (omega arith, c .pre .0 .order, start (c .args .a) (c .args .c) (c .pre .0))
 
--- src/digits.rt:71:23
 read-entry-requires : tie.Need-read-entry-requires Inv-loop μ-loop
 read-entry-requires c κs = omega (arith, c .before .before .pre .0 .few)
 
--- src/digits.rt:71:13
 digit-requires : tie.Need-digit-requires Inv-loop μ-loop
 digit-requires c κs = search needs
 
--- src/digits.rt:72:37
 sub-read-entry : tie.Need-sub-read-entry Inv-loop μ-loop
 sub-read-entry c = omega (arith, c .before .before .before .before .pre .0 .most)
 
--- src/digits.rt:72:23
 read-entry-requires-2 : tie.Need-read-entry-requires-2 Inv-loop μ-loop
 read-entry-requires-2 c κs = omega (arith, c .before .before .before .before .pre .0 .inside)
 
--- src/digits.rt:72:13
 digit-requires-2 : tie.Need-digit-requires-2 Inv-loop μ-loop
 digit-requires-2 c κs = search needs
 
@@ -83,30 +72,25 @@ module _ (c : tie.After-digit2 Inv-loop μ-loop) where
   next : SFits w64 p × SFits w64 (toZ w64 (at .loop .s) ⊕ p)
   next = more-asks (at .loop .inv .2) x-fits y-fits (omega (arith, at .before .pre .0 .few, at .before .pre .1))
 
--- src/digits.rt:73:9
 add-product-requires : tie.Need-add-product-requires Inv-loop μ-loop
 add-product-requires c κs = rw (x-seen c, y-seen c) (next c)
 
--- src/digits.rt:74:9
 add-j : tie.Need-add-j Inv-loop μ-loop
 add-j c = omega arith
 
--- src/digits.rt:70:5
 loop-less : tie.Need-loop-less Inv-loop μ-loop
 loop-less c = omega arith
 
--- src/digits.rt:70:5
 loop-again : tie.Need-loop-again Inv-loop μ-loop
-loop-again c = 
+loop-again c =
     let q = c .before in
     let is : seen (c .add-product .result) ≡ toZ w64 (at q .loop .s) ⊕ p q =
-      handed (next q .1)
-      (c .add-product .ensures ∙ ap₂ (λ s t. toZ w64 (at q .loop .s) ⊕ s ⊗ t) (x-seen q) (y-seen q)) in
+    handed (next q .1)
+    (c .add-product .ensures ∙ ap₂ (λ s t. toZ w64 (at q .loop .s) ⊕ s ⊗ t) (x-seen q) (y-seen q)) in
     (omega arith, omega arith, rw is (more (at q .loop .inv .2) (x-fits q) (y-fits q)))
 
--- src/digits.rt:62:1
 returns : tie.Need-returns Inv-loop μ-loop
-returns c = 
+returns c =
     let l = c .before .loop in
     let a = c .before .before .args in
     let t = c .before .before .pre .0 in

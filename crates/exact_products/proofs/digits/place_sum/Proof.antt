@@ -67,8 +67,7 @@ loop-again c =
     let q = c .before in
     let a = at q .before .args in
     let is : seen (c .plus .result) ≡ toZ w64 (at q .loop .s) ⊕ one q =
-      handed (next q) (c .plus .ensures ∙ ap (λ n. toZ w64 (at q .loop .s) ⊕ n) (one-seen q)) in
-    (
+    handed (next q) (c .plus .ensures ∙ ap (λ n. toZ w64 (at q .loop .s) ⊕ n) (one-seen q)) in (
       omega arith,
       is ∙ ap (λ n. n ⊕ one q) (at q .loop .inv .1)
           ∙ sym (place-more (entries (a .f .now)) (entries (a .b .now)) (a .i) (a .k) (at q .loop .a)),
@@ -79,8 +78,7 @@ returns : tie.Need-returns Inv-loop μ-loop
 returns c =
     let l = c .before .loop in
     let a = c .before .before .args in
-    let same : l .a ≡ a .k + 1 = omega arith in
-    (
+    let same : l .a ≡ a .k + 1 = omega arith in (
       l .inv .1 ∙ ap (placeTo (entries (a .f .now)) (entries (a .b .now)) (a .i) (a .k)) (same ∙ add-one (a .k)),
       omega (arith, l .inv .2, c .before .before .pre .2),
     )

@@ -43,8 +43,8 @@ returns : tie.Need-returns
 returns c =
     let p = c .before .before .before .before in
     let sum : seen (c .before .before .plus .result) ≡ p .args .high ⊕ highHalf (p .args .low) =
-      handed (p .pre)
-      (c .before .before .plus .ensures ∙ ap₂ _⊕_ (toZ-ofZ (p .fits .high)) (above (c .before .before .before))) in
+    handed (p .pre)
+    (c .before .before .plus .ensures ∙ ap₂ _⊕_ (toZ-ofZ (p .fits .high)) (above (c .before .before .before))) in
     told-handed (p .args .high ⊗ pos half ⊕ p .args .low)
     (c .joined .ensures
     ∙ ap told (ap₂ (λ a b. a ⊗ pos half ⊕ b) sum (low (c .before))

@@ -17,8 +17,6 @@ use Rattle.exact_products.proofs.Joins.{shr-fits, rest-fits, told-hande
 use Rattle.exact_products.proofs.Lights.{LightTo, start, done, more, high-asks, low-asks, low-half-fits, whole-fits}
 use Rattle.exact_products.proofs.light.light_sum.Statement.{statement}
 use Rattle.exact_products.proofs.light.light_sum.Tie as tie
-use Rattle.exact_products.proofs.light.light_sum.Reads as reads
-use Rattle.exact_products.proofs.light.light_sum.Lts as lts
 
 abbrev Inv-loop : tie.InvT-loop
 Inv-loop f b i from to high₀ low₀ j₀ high low j =
@@ -102,11 +100,11 @@ loop-again c =
     let a = c .before .before in
     let q = a .before .before in
     let high-is : seen (a .add-product .result) ≡ toZ w64 (at q .loop .high) ⊕ X q ⊗ highHalf (Y q) =
-      handed (high-next q .1)
-      (a .add-product .ensures ∙ ap₂ (λ s t. toZ w64 (at q .loop .high) ⊕ s ⊗ t) (x-seen q) (high-seen (a .before))) in
+    handed (high-next q .1)
+    (a .add-product .ensures ∙ ap₂ (λ s t. toZ w64 (at q .loop .high) ⊕ s ⊗ t) (x-seen q) (high-seen (a .before))) in
     let low-is : seen (c .add-product2 .result) ≡ toZ w64 (at q .loop .low) ⊕ X q ⊗ lowHalf (Y q) =
-      handed (low-next q .1)
-      (c .add-product2 .ensures ∙ ap₂ (λ s t. toZ w64 (at q .loop .low) ⊕ s ⊗ t) (x-seen q) (low-seen (c .before))) in
+    handed (low-next q .1)
+    (c .add-product2 .ensures ∙ ap₂ (λ s t. toZ w64 (at q .loop .low) ⊕ s ⊗ t) (x-seen q) (low-seen (c .before))) in
     (omega arith, omega arith, rw (high-is, low-is) (more (at q .loop .inv .2) (X q) (Y q) (y-fits q) refl refl))
 
 whole-requires : tie.Need-whole-requires Inv-loop μ-loop
@@ -118,7 +116,7 @@ returns c =
     let p = c .before .before .before in
     let same : l .j ≡ p .args .to = omega arith in
     let end : LightTo (p .args .f .now) (p .args .b .now) (p .args .i) (p .args .to) (toZ w64 (l .high)) (toZ w64 (l .low)) =
-      rw same at (l .inv .2) in
+    rw same at (l .inv .2) in
     told-handed ((entries (p .args .f .now) · entries (p .args .b .now)) (p .args .i))
     (c .whole .ensures ∙ ap told (done (p .pre .0) end))
 
