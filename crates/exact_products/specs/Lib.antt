@@ -4,6 +4,7 @@ pub mod Told
 pub mod Dots
 pub mod Weight
 pub mod Terms
+pub mod Light
 pub mod Digits
 pub mod Products
 mod Vectors
