@@ -1,7 +1,3 @@
--- Laws that the functions' proofs share.
-mod Joins
-mod Lights
-mod DigitSums
-mod Places
+-- Laws of a product in the making; and one outcome.
 mod Making
 pub mod OneOutcome

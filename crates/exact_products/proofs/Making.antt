@@ -19,7 +19,7 @@ use Rattle.step_laws.specs.Firsts.{is-firsts}
 use Rattle.step_laws.specs.Outside.{outside-is, inside-all}
 use Rattle.entry_steps.specs.Passes.{Split}
 use Rattle.entry_steps.proofs.Split.{moved-down}
-use Rattle.exact_products.specs.Told.{told, outside, told-in, told-not, told-same}
+use Rattle.light_sums.specs.Told.{told, outside, told-in, told-not, told-same}
 use Rattle.exact_products.specs.Products.{Ready}
 
 pub record Made (f old l : List ℤ) (i : ℕ) : Type 0 where

@@ -12,7 +12,7 @@ use Rattle.definitions.specs.Series.{Series, _·_}
 use Rattle.definitions.specs.Steps.{entries, inRange, largest}
 use Rattle.step_laws.specs.Firsts.{entries-past}
 use Rattle.series.specs.Laws.{agree-mul}
-use Rattle.exact_products.specs.Terms.{Terms}
+use Rattle.light_sums.specs.Terms.{Terms}
 
 pub record Ready (b f : List ℤ) (have i : ℕ) : Type 0 where
   pub some : 1 ≤ have

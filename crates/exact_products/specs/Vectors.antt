@@ -7,11 +7,11 @@ use lib.IntN.{ℤ, pos, negsuc}
 use Rattle.definitions.specs.Integers.{_⊕_, _⊗_}
 use Rattle.definitions.specs.Series.{_·_, firsts}
 use Rattle.definitions.specs.Steps.{entries, largest, inRange, someOutside}
-use Rattle.exact_products.specs.Parts.{rest}
-use Rattle.exact_products.specs.Told.{told}
-use Rattle.exact_products.specs.Dots.{dot}
-use Rattle.exact_products.specs.Weight.{weight}
-use Rattle.exact_products.specs.Digits.{digitOf, placeTo, place, digits, number}
+use Rattle.light_sums.specs.Parts.{rest}
+use Rattle.light_sums.specs.Told.{told}
+use Rattle.light_sums.specs.Dots.{dot}
+use Rattle.light_sums.specs.Weight.{weight}
+use Rattle.digit_sums.specs.Digits.{digitOf, placeTo, place, digits, number}
 
 -- 1 - z + 2 z^2, and 2^62 - 1 and -2^62
 f : List ℤ

@@ -1,10 +1,5 @@
 // Inner: the callers show each `requires`. A polynomial times another, in place and exact: whether every coefficient of
 // the product is within the range from -(2^63 - 1) to 2^63 - 1, and if so the product.
-mod digits;
-mod halves;
-mod light;
-mod sums;
-
 ghost use Prim.Native.Nat.{ℕ, _+_, _-_, _≤_, _<_, min};
 ghost use mathlib.Core.Path.{_≡_};
 ghost use mathlib.Core.Bool.{true, not};
@@ -12,17 +7,15 @@ ghost use lib.ListN.{length};
 ghost use Rattle.definitions.specs.Series.{_·_, firsts};
 ghost use Rattle.definitions.specs.Steps.{entries, largest, someOutside};
 ghost use Rattle.series.specs.Degree.{ZeroFrom};
-ghost use Rattle.exact_products.specs.Told.{told};
-ghost use Rattle.exact_products.specs.Weight.{weight};
+ghost use Rattle.light_sums.specs.Told.{told};
+ghost use Rattle.light_sums.specs.Weight.{weight};
 ghost use Rattle.exact_products.specs.Products.{Ready};
-use digits::heavy_sum;
+use digit_sums::heavy_sum;
 use entry_steps::put;
 use entry_steps::read_entry;
 use heights::magnitude;
-use light::light_sum;
-
-// -2^63, which is no value that is delivered: the coefficient is outside the range.
-pub(crate) const OUTSIDE: i64 = -9223372036854775808;
+use light_sums::OUTSIDE;
+use light_sums::light_sum;
 
 // The magnitudes of all entries added up, or 2^63 where that is more.
 pub fn weight_of(f: &[i64]) -> u64

@@ -1,5 +1,5 @@
 -- `coefficient`: the terms that are left out are 0.
-use Rattle.exact_products.specs.Terms.{Terms}
+use Rattle.light_sums.specs.Terms.{Terms}
 use Rattle.exact_products.specs.Products.{ready-terms}
 use borrow.Author.Needs.{needs}
 use Rattle.exact_products.proofs.coefficient.Statement.{statement}

@@ -10,8 +10,8 @@ use lib.IntN.{ℤ}
 use Rattle.definitions.specs.Series.{_·_}
 use Rattle.definitions.specs.Steps.{entries}
 use Rattle.step_laws.specs.Machine.{seen}
-use Rattle.exact_products.specs.Told.{told}
-use Rattle.exact_products.proofs.Joins.{told-handed}
+use Rattle.light_sums.specs.Told.{told}
+use Rattle.light_sums.proofs.Joins.{told-handed}
 use Rattle.exact_products.proofs.Making.{Made, made-none, made-ready, made-same, made-next, made-out, told-taken, told-left, made-all, made-in}
 use Rattle.exact_products.proofs.multiply.Statement.{statement}
 use Rattle.exact_products.proofs.multiply.Tie as tie

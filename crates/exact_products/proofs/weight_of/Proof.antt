@@ -7,7 +7,7 @@ use lib.ListN.{length}
 use lib.IntN.{natAbs}
 use Rattle.definitions.specs.Steps.{entries}
 use Rattle.step_laws.specs.Machine.{handed}
-use Rattle.exact_products.specs.Weight.{weight, weightTo, weightTo-more, weightTo-most, weightTo-none, weightTo-whole}
+use Rattle.light_sums.specs.Weight.{weight, weightTo, weightTo-more, weightTo-most, weightTo-none, weightTo-whole}
 use Rattle.exact_products.proofs.weight_of.Statement.{statement}
 use Rattle.exact_products.proofs.weight_of.Tie as tie
 
