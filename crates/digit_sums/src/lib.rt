@@ -13,11 +13,11 @@ ghost use Rattle.light_sums.specs.Parts.{base, rest};
 ghost use Rattle.light_sums.specs.Told.{told};
 ghost use Rattle.light_sums.specs.Terms.{Terms};
 ghost use Rattle.digit_sums.specs.Digits.{digitOf, digits, place, number};
+use entry_steps::read_entry;
 use light_sums::OUTSIDE;
 use light_sums::add_product;
 use light_sums::less_product;
 use light_sums::plus;
-use entry_steps::read_entry;
 
 fn above_digit(v: i64) -> i64
     ensures { λ r. ⌜ r ≡ shrZ v base ⌝ }

@@ -1,6 +1,6 @@
 // Inner: the callers show each `requires`. A polynomial times another, in place and exact: whether every coefficient of
 // the product is within the range from -(2^63 - 1) to 2^63 - 1, and if so the product.
-ghost use Prim.Native.Nat.{ℕ, _+_, _-_, _≤_, _<_, min};
+ghost use Prim.Native.Nat.{_+_, _-_, _≤_, _<_, min};
 ghost use mathlib.Core.Path.{_≡_};
 ghost use mathlib.Core.Bool.{true, not};
 ghost use lib.ListN.{length};
