@@ -13,8 +13,7 @@ use Rattle.step_laws.specs.Tests.{by-order}
 use Rattle.step_laws.specs.Firsts.{is-firsts, firsts-entries}
 use Rattle.step_laws.specs.Signed.{sub-add}
 use Rattle.step_laws.specs.Step.{combed-from, stepped-below}
-use Rattle.entry_steps.specs.Passes.{newEntry, setFour}
-use Rattle.entry_steps.proofs.FourEntries.{moved-four-down}
+use Rattle.entry_steps.specs.Passes.{newEntry}
 use Rattle.entry_steps.proofs.Split.{moved-down, moved-up, all-firsts, all-below}
 use Rattle.combs.specs.Combs.{CombedTo}
 
@@ -43,16 +42,6 @@ module _ {d : ℕ} {l m : List ℤ} {i : ℕ} (p : CombedTo d l m i) where
         from = h;
         most = omega arith;
         split = moved-down (p .split) k k (omega arith) e refl _ (new-is k h (omega arith));
-      }
-
-  pub fours-next : (k : ℕ) → i ≡ k + 4 → d ≤ k → CombedTo d l (setFour m k (newEntry comb d m)) k
-  fours-next k e h =
-      record {
-        from = h;
-        most = omega arith;
-        split =
-            moved-four-down m k (newEntry comb d m) (p .split) e (p .most)
-            (λ x low high. new-is x (omega arith) (omega arith));
       }
 
   -- the place that was taken last

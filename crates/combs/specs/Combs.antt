@@ -14,12 +14,6 @@ pub record CombedTo (d : ℕ) (l m : List ℤ) (i : ℕ) : Type 0 where
   pub most : i ≤ length l
   pub split : Split m (length l) i (entries l) (stepped comb d (entries l))
 
--- m is what a comb left of some list whose new values all fit
-pub record Fitting (d : ℕ) (m : List ℤ) (i : ℕ) : Type 0 where
-  pub before : List ℤ
-  pub done : CombedTo d before m i
-  pub fit : Fit d (length before) (stepped comb d (entries before))
-
 -- a comb that has got so far, each old entry, which was read, fits, so that it can be put back
 pub record ReadTo (d : ℕ) (l m : List ℤ) (i : ℕ) : Type 0 where
   pub done : CombedTo d l m i

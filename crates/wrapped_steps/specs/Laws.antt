@@ -1,6 +1,7 @@
 -- What a step modulo 2^64 leaves: as many entries, each a 64-bit number, and modulo 2^64 those of the step on whole
 -- numbers, also where the entries were known only so.
 use mathlib.Core.Path.{_≡_, refl, sym, _∙_, ap}
+use mathlib.Core.Bool.{false}
 use mathlib.Core.List.{List}
 use Prim.Native.Nat.{ℕ, _-_, _<_, _≤_}
 use native.Mathlib.Omega.{arith}
@@ -9,13 +10,14 @@ use lib.ListN.{length}
 use lib.IntN.{ℤ, natAbs}
 use Rattle.definitions.specs.Integers.{_⊕_, _⊝_}
 use Rattle.definitions.specs.Series.{Series, firsts}
-use Rattle.definitions.specs.Steps.{Sort, comb, accumulate, stepped, entries, largest}
+use Rattle.definitions.specs.Steps.{Sort, comb, accumulate, stepped, entries, stepOver, stepList, largest}
 use Rattle.step_laws.specs.Tests.{by-order}
 use Rattle.step_laws.specs.Firsts.{length-firsts, firsts-here, firsts-past, firsts-same, firsts-entries, is-firsts}
 use Rattle.step_laws.specs.Accumulated.{accumulated-from, accumulated-below, by-chain}
-use Rattle.step_laws.specs.Step.{combed-from, stepped-below}
+use Rattle.step_laws.specs.Machine.{range-fits}
+use Rattle.step_laws.specs.Step.{combed-from, stepped-below, not-over-each}
 use Rattle.wrapped_steps.specs.Wrapped.{wrap, wrappedStep, wrappedList, Like, AllFit}
-use Rattle.wrapped_steps.specs.Residues.{wrap-fits, wrap-wrap, like-⊕, like-⊝, like-equal}
+use Rattle.wrapped_steps.specs.Residues.{wrap-fits, wrap-fit, wrap-wrap, like-⊕, like-⊝, like-equal}
 
 module _ (s : Sort) (d : ℕ) (f : Series) where
   pub wrapped-below : (i : ℕ) → i < d → wrappedStep s d f i ≡ f i
@@ -117,3 +119,13 @@ pub like-exact : (l : List ℤ) (f : Series) → AllFit l → Like (length l) (e
 unfolding entries
 like-exact l f fit like small =
     is-firsts (length l) f l refl (λ i b. like-equal (fit i) (small i b) (like i b))
+
+-- where no value leaves the range it is the step
+pub wrapped-known : (s : Sort) (d : ℕ) (l : List ℤ) → stepOver largest s d l ≡ false → wrappedList s d l ≡ stepList s d l
+unfolding wrappedList stepList
+wrapped-known s d l inside =
+    firsts-same (length l) (wrappedStep s d (entries l)) (stepped s d (entries l))
+    (λ k b.
+    by-order k d (λ low. wrapped-below s d (entries l) k low ∙ sym (stepped-below d (entries l) s k low))
+    (λ high. wrapped-above s d (entries l) k high
+    ∙ wrap-fit (range-fits (stepped s d (entries l) k) (not-over-each s d l largest inside k high b))))

@@ -37,7 +37,7 @@ fn ones_down(a: &mut [i64], d: usize, from: usize)
     }
 }
 
-pub(crate) fn comb(a: &mut [i64], d: usize)
+pub fn comb(a: &mut [i64], d: usize)
     requires { ⌜ d ≤ length (now a) ⌝ }
     ensures { λ _. ⌜ now (a .exit) ≡ wrappedList comb d (now (a .entry)) ⌝ }
 {

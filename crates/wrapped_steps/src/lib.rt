@@ -1,5 +1,5 @@
 // Inner: each `requires` is shown by the callers. A comb and an accumulate on numbers modulo 2^64: a sum that a signed
-// number does not hold wraps, and nothing is tested.
+// number does not hold wraps, and nothing is tested. Where no value leaves the range the numbers are the true ones.
 
 mod down;
 mod up;
@@ -9,7 +9,7 @@ ghost use mathlib.Core.Path.{_≡_};
 ghost use Prim.Native.Nat.{_≤_};
 ghost use Rattle.entry_steps.specs.Sorts.{sortMeans};
 ghost use Rattle.wrapped_steps.specs.Wrapped.{wrappedList};
-use down::comb;
+pub use down::comb;
 use entry_steps::Sort;
 use up::accumulate;
 

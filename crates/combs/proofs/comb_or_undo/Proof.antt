@@ -1,31 +1,38 @@
--- `combs::tested::comb_or_undo` meets its contract: the comb is known to stay within w, and so in the range, or it came
+-- `combs::comb_or_undo` meets its contract: the comb is known to stay within w, and so in the range, or it came
 -- to its end, or stopped and was undone.
 use Prim.Native.Nat.{_-_, _<_}
-use mathlib.Core.Path.{_≡_}
+use mathlib.Core.Path.{_≡_, _∙_}
 use mathlib.Core.Bool.{false}
 use native.Mathlib.Omega.{arith}
 use borrow.Author.Needs.{needs}
 use Rattle.definitions.specs.Steps.{comb, stepOver}
 use Rattle.step_laws.specs.WorkingLimit.{over-more}
+use Rattle.wrapped_steps.specs.Laws.{wrapped-known}
 use Rattle.entry_steps.proofs.Tested.{whole, undone}
 use Rattle.combs.proofs.CombedTo.{ended}
-use Rattle.combs.proofs.tested.comb_or_undo.Statement.{statement}
-use Rattle.combs.proofs.tested.comb_or_undo.Tie as tie
+use Rattle.combs.proofs.comb_or_undo.Statement.{statement}
+use Rattle.combs.proofs.comb_or_undo.Tie as tie
 
 -- no value passes w
 none : (c : tie.Then1) → stepOver (c .before .args .w) comb (c .before .args .d) (c .before .args .a .now) ≡ false
 none c = rw (c .if1 .taken) at (c .before .pre .3)
 
 comb-requires : tie.Need-comb-requires
-comb-requires c κs =
-    let p = c .before .before in
-    (p .pre .1, over-more (p .pre .2 .1) comb (p .args .d) (p .args .a .now) (none (c .before)))
+comb-requires c κs = c .before .before .pre .1
 
 same-length : tie.Need-same-length
 same-length c = search needs
 
 returns : tie.Need-returns
-returns c = record { over = none (c .before .before .before); leaves = c .before .comb .ensures }
+returns c =
+    let t = c .before .before .before in
+    let p = t .before in
+    record {
+      over = none t;
+      leaves = c .before .comb .ensures
+          ∙ wrapped-known comb (p .args .d) (p .args .a .now)
+          (over-more (p .pre .2 .1) comb (p .args .d) (p .args .a .now) (none t));
+    }
 
 take-tested-requires : tie.Need-take-tested-requires
 take-tested-requires c κs = search needs

@@ -1,4 +1,4 @@
--- `combs::tested::take_tested` meets its contract, which is the loop's invariant: the comb got down to t, tested.
+-- `combs::take_tested` meets its contract, which is the loop's invariant: the comb got down to t, tested.
 use mathlib.Core.Path.{_≡_, sym, _∙_, ap}
 use Prim.Native.Nat.{_-_}
 use native.Mathlib.Nat.{not-le-of-lt}
@@ -8,8 +8,8 @@ use lib.ListN.{length}
 use Rattle.combs.specs.Combs.{TestedTo}
 use Rattle.combs.proofs.CombedTo.{new-is}
 use Rattle.combs.proofs.TestedTo.{tested-start, tested-next, asked-next}
-use Rattle.combs.proofs.tested.take_tested.Statement.{statement}
-use Rattle.combs.proofs.tested.take_tested.Tie as tie
+use Rattle.combs.proofs.take_tested.Statement.{statement}
+use Rattle.combs.proofs.take_tested.Tie as tie
 
 abbrev Inv-loop : tie.InvT-loop
 Inv-loop test w a₀ d t₀ a t = TestedTo w d a₀ a t

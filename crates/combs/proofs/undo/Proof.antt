@@ -1,4 +1,4 @@
--- `combs::tested::undo` meets its contract. The invariant: of whatever list the comb got down to `from`, it is taken
+-- `combs::undo` meets its contract. The invariant: of whatever list the comb got down to `from`, it is taken
 -- back to i.
 use mathlib.Core.Path.{sym, _∙_}
 use mathlib.Core.List.{List}
@@ -9,8 +9,8 @@ use lib.IntN.{ℤ}
 use Rattle.combs.specs.Combs.{ReadTo}
 use Rattle.combs.proofs.CombedTo.{not-begun}
 use Rattle.combs.proofs.TestedTo.{read-back, back-fits}
-use Rattle.combs.proofs.tested.undo.Statement.{statement}
-use Rattle.combs.proofs.tested.undo.Tie as tie
+use Rattle.combs.proofs.undo.Statement.{statement}
+use Rattle.combs.proofs.undo.Tie as tie
 
 abbrev Inv-loop : tie.InvT-loop
 Inv-loop a₀ d from i₀ a i = (l : List ℤ) → ReadTo d l a₀ from → ReadTo d l a i
