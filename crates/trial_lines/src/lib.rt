@@ -1,6 +1,6 @@
-// An inner crate: what a line of the program `trial` asks, read word by word: a name, numbers, and buffers of entries
-// and of bytes (second/README.md has the form). Little is promised, only that each function is safe and ends, and how
-// much of a buffer can be lent: what is made of what was read is printed, and held to a stored output.
+// An inner crate: what a line of the program `trial` asks, read word by word: a name, numbers, a list of indices, and
+// buffers of entries and of bytes (second/README.md has the form). Little is promised, only that each function is safe
+// and ends, and how much of a buffer can be lent: what is made of what was read is printed, and held to a stored output.
 //
 // A reader is told the place of the byte before its word, and tells the place after it. From NOWHERE, which is told
 // where a word is not there, nothing can be read: so whoever reads to the end of a line has read all its words well.
@@ -129,6 +129,44 @@ fn of_bytes(asked: usize, a: &[u8]) -> usize
     ensures { λ r. ⌜ Lends r (now (a .entry)) ⌝ }
 {
     if asked <= a.len() { asked } else { a.len() }
+}
+
+// The same of indices.
+fn of_indices(asked: usize, a: &[u64]) -> usize
+    ensures { λ r. ⌜ Lends r (now (a .entry)) ⌝ }
+{
+    if asked <= a.len() { asked } else { a.len() }
+}
+
+// A list of indices: after an n, with commas between; or none, where the word has no n. More than there is room for is
+// not cut but no good word.
+pub fn indices(line: &[u8], at: usize, buf: &mut [u64]) -> Lent
+    ensures { λ r. ⌜ Lends (r .count) (now (buf .exit)) ⌝ }
+{
+    let first = wrapping_add_usize(at, 1);
+    let second = wrapping_add_usize(at, 2);
+    let mut next = first;
+    let mut before = b'n';
+    let mut count = 0;
+    while count < buf.len() {
+        let v = number(line, next, before);
+        if v.next == NOWHERE {
+            break;
+        }
+        buf[count] = v.bits;
+        count += 1;
+        next = v.next;
+        before = b',';
+    }
+    let none = if byte_at(line, first) == b'n' {
+        second
+    } else {
+        at
+    };
+    Lent {
+        count: of_indices(count, buf),
+        next: if 0 < count { next } else { none },
+    }
 }
 
 // Entries: a length, a star and what each of them holds; or two or more with commas between. More than there are is not
