@@ -53,8 +53,10 @@ LISTS = (
     (1, 65519, 17),
     (8191,) * 4,
     (8191,) * 8,
-    # a sum of products that leaves 64 bits on its way, though its end does not
+    # sums of products that leave 64 bits on their way, though their end does not
     (13982,) * 6 + (210,),
+    (2998,) * 7 + (90,),
+    (1874, 1006, 1402, 2458, 2638, 898, 926, 1365),
     # gains next to 2^63, below and above, where no coefficient is near it
     (157, 179, 179, 277, 277, 277, 281, 307),
     (163, 199, 229, 233, 233, 251, 293, 311),
