@@ -7,22 +7,6 @@ ghost use mathlib.Core.Path.{_≡_};
 ghost use lib.ListN.{length};
 use libc::STDIN_FILENO;
 use libc::STDOUT_FILENO;
-use trial_lines::Row;
-
-// A request that was read, asked at its door.
-fn ask(
-    name: u64,
-    asked: Row,
-    indices: &[u64],
-    buf: &mut [i64],
-    scratch: &mut [i64],
-    space: &mut [u8],
-) {
-    let known = trial_doors::ask(name, asked, buf);
-    if !known {
-        trial_pair_doors::ask(name, asked, indices, buf, scratch, space);
-    }
-}
 
 // A whole line. Its words are a name and numbers; then, each where there are some, indices, entries, entries of a
 // second buffer, and bytes.
@@ -38,7 +22,7 @@ fn answer(line: &[u8], list: &mut [u64], buf: &mut [i64], scratch: &mut [i64], s
     let j = others.count;
     let m = bytes.count;
     if bytes.next == line.len() {
-        ask(
+        trial_pair_doors::ask(
             name.bits,
             asked,
             &list[..i],

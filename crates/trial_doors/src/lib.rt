@@ -1,6 +1,7 @@
 // An inner crate: each door of the library that is lent one buffer, asked for the program `trial`, and its answer told
 // (second/README.md has the form). Nothing is promised but that each function is safe and ends: what is told is held to
 // a stored output. A request that comes is one function more here, or in trial_pair_doors.
+use libc::STDOUT_FILENO;
 use trial_lines::Row;
 
 // The names of the requests, as `trial_lines::name` reads them.
@@ -45,14 +46,15 @@ fn accumulate(asked: Row, entries: &mut [i64]) {
     trial_output::entries(entries);
 }
 
-// A request by its name: whether it is one of these.
-pub fn ask(name: u64, asked: Row, entries: &mut [i64]) -> bool {
+// A request by its name; a question mark for any other.
+pub fn ask(name: u64, asked: Row, entries: &mut [i64]) {
     match name {
         POLYNOMIAL => polynomial(asked, entries),
         PARTIAL => partial(asked, entries),
         COMB => comb(asked, entries),
         ACCUMULATE => accumulate(asked, entries),
-        _ => return false,
+        _ => {
+            io::write_all(STDOUT_FILENO, b"?\n");
+        }
     }
-    true
 }

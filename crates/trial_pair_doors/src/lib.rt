@@ -1,7 +1,6 @@
 // An inner crate: each door of the library that is lent more than one buffer, asked for the program `trial`, and its
 // answer told (second/README.md has the form). Nothing is promised but that each function is safe and ends: what is
 // told is held to a stored output. The buffers that a request does not take are empty.
-use libc::STDOUT_FILENO;
 use trial_lines::Row;
 
 // The names of the requests, as `trial_lines::name` reads them.
@@ -32,7 +31,7 @@ fn cascade(asked: Row, indices: &[u64], entries: &mut [i64], scratch: &mut [i64]
     trial_output::two(entries, scratch);
 }
 
-// A request by its name; a question mark for any other.
+// A request by its name; any other is one of one buffer.
 pub fn ask(
     name: u64,
     asked: Row,
@@ -45,8 +44,6 @@ pub fn ask(
         WRITE => write(asked, entries, bytes),
         READ => read(entries, bytes),
         CASCADE => cascade(asked, indices, entries, scratch),
-        _ => {
-            io::write_all(STDOUT_FILENO, b"?\n");
-        }
+        _ => trial_doors::ask(name, asked, entries),
     }
 }
