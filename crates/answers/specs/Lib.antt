@@ -2,3 +2,4 @@
 -- codes', and the paragraphs around it.
 pub mod Polynomial
 pub mod Partial
+pub mod Cascade

@@ -35,6 +35,8 @@ pub const RINDEX: u64 = 14;
 
 pub const RCOUNT: u64 = 15;
 
+pub const LIST: u64 = 16;
+
 // A polynomial request's answer.
 #[repr(C)]
 pub struct Answer {

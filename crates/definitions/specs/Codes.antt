@@ -46,3 +46,6 @@ RINDEX = 14
 
 abbrev pub RCOUNT : ℕ
 RCOUNT = 15
+
+abbrev pub LIST : ℕ
+LIST = 16

@@ -8,3 +8,4 @@ pub mod Steps
 pub mod KeptHalf
 pub mod Answer
 pub mod Requests
+pub mod Cascades

@@ -1,0 +1,120 @@
+-- A step modulo 2^64 that has got to some place: where it starts, that what is put at the next place is the step's
+-- value, and where it ends.
+use mathlib.Core.Path.{_≡_, refl, sym, _∙_, ap, ap₂}
+use mathlib.Core.List.{List}
+use Prim.Native.Nat.{ℕ, _+_, _-_, _<_, _≤_}
+use native.Mathlib.Nat.{not-le-of-lt}
+use native.Mathlib.Omega.{arith}
+use lib.ListN.{length, getD, set}
+use lib.Seq.{getD-set-same}
+use lib.IntN.{ℤ}
+use Rattle.definitions.specs.Integers.{_⊕_, _⊝_, 0ℤ}
+use Rattle.definitions.specs.Steps.{comb, accumulate, entries}
+use Rattle.step_laws.specs.Tests.{by-order}
+use Rattle.step_laws.specs.Firsts.{is-firsts}
+use Rattle.entry_steps.specs.Passes.{setFour}
+use Rattle.entry_steps.proofs.FourEntries.{moved-four-down, moved-four-up}
+use Rattle.entry_steps.proofs.Split.{moved-down, moved-up, all-firsts, all-below}
+use Rattle.wrapped_steps.specs.Wrapped.{wrap, wrapEntry, wrappedStep, wrappedList, DownTo, UpTo}
+use Rattle.wrapped_steps.specs.Laws.{wrapped-below, wrapped-comb, wrapped-sum}
+
+module _ (d : ℕ) (l : List ℤ) (h : d ≤ length l) where
+  pub start-down : DownTo d l l (length l)
+  unfolding entries
+  start-down =
+      record {
+        from = h;
+        most = omega arith;
+        split = record { len = refl; below = λ k b m. refl; above = λ k b m. absurd (not-le-of-lt m b) };
+      }
+
+  pub start-up : UpTo d l l d
+  unfolding entries
+  start-up =
+      record {
+        from = omega arith;
+        most = h;
+        split =
+            record {
+              len = refl;
+              below = λ k b m. sym (wrapped-below accumulate d (entries l) k b);
+              above = λ k b m. refl;
+            };
+      }
+
+module _ {d : ℕ} {l m : List ℤ} {i : ℕ} (p : DownTo d l m i) where
+  -- a place that is not yet taken, and the one d before it
+  new-down : (k : ℕ) → d ≤ k → k < i → wrapEntry comb d m k ≡ wrappedStep comb d (entries l) k
+  new-down k h b =
+      ap wrap
+      (ap₂ _⊝_ (p .split .below k b (omega arith))
+      (p .split .below (k - d) (omega arith) (omega arith)))
+      ∙ sym (wrapped-comb d (entries l) k h)
+
+  pub next-down : (k : ℕ) → i ≡ k + 1 → d ≤ k → DownTo d l (set m k (wrapEntry comb d m k)) k
+  next-down k e h =
+      record {
+        from = h;
+        most = omega arith;
+        split = moved-down (p .split) k k (omega arith) e refl _ (new-down k h (omega arith));
+      }
+
+  pub four-down : (k : ℕ) → i ≡ k + 4 → d ≤ k → DownTo d l (setFour m k (wrapEntry comb d m)) k
+  four-down k e h =
+      record {
+        from = h;
+        most = omega arith;
+        split =
+            moved-four-down m k (wrapEntry comb d m) (p .split) e (p .most)
+            (λ x low high. new-down x (omega arith) (omega arith));
+      }
+
+  pub ended-down : i ≤ d → m ≡ wrappedList comb d l
+  unfolding wrappedList
+  ended-down e =
+      is-firsts (length l) (wrappedStep comb d (entries l)) m (p .split .len)
+      (λ k b.
+      by-order k i (λ low. p .split .below k low b ∙ sym (wrapped-below comb d (entries l) k (omega arith)))
+      (λ high. p .split .above k high b))
+
+module _ {d : ℕ} {l m : List ℤ} {i : ℕ} (p : UpTo d l m i) (one : 1 ≤ d) where
+  -- a place that is not yet taken, where the one d before it is
+  new-up : (k : ℕ) → i ≤ k → k < i + d → k < length l → wrapEntry accumulate d m k
+      ≡ wrappedStep accumulate d (entries l) k
+  new-up k h b c =
+      ap wrap
+      (ap₂ _⊕_ (p .split .above k h c)
+      (p .split .below (k - d) (omega arith) (omega arith)))
+      ∙ sym (wrapped-sum d (entries l) k (omega arith) one)
+
+  pub next-up : i < length l → UpTo d l (set m i (wrapEntry accumulate d m i)) (i + 1)
+  next-up b =
+      record {
+        from = omega arith;
+        most = omega arith;
+        split = moved-up (p .split) i (i + 1) b refl refl _ (new-up i (omega arith) (omega arith) b);
+      }
+
+  pub four-up : 4 ≤ d → i + 4 ≤ length l → UpTo d l (setFour m i (wrapEntry accumulate d m)) (i + 4)
+  four-up four b =
+      record {
+        from = omega arith;
+        most = b;
+        split =
+            moved-four-up m i (wrapEntry accumulate d m) (p .split) refl refl b
+            (λ x low high. new-up x low (omega arith) (omega arith));
+      }
+
+  pub ended-up : length l ≤ i → m ≡ wrappedList accumulate d l
+  unfolding wrappedList
+  ended-up h = all-firsts (all-below (p .split) h)
+
+-- a running sum that is stored at i is the entry before the next place
+pub summed : {l m m′ : List ℤ} {i : ℕ} (v : ℤ) → UpTo 1 l m i → i < length l → m′ ≡ set m i v
+    → v ≡ wrapEntry accumulate 1 m i → UpTo 1 l m′ (i + 1) × (v ≡ getD m′ (i + 1 - 1) 0ℤ)
+summed {l} {m} {m′} {i} v p b e w =
+    let here : i + 1 - 1 ≡ i = omega arith in
+    let in′ : i < length m = omega (arith, p .split .len) in (
+      rw (e, w) (next-up p (omega arith) b),
+      sym (ap (λ k. getD m′ k 0ℤ) here ∙ ap (λ x. getD x i 0ℤ) e ∙ getD-set-same m i v 0ℤ in′),
+    )

@@ -1,0 +1,4 @@
+-- What the contracts of `wrapped_steps` cite beside `definitions` and `entry_steps`, and laws that its callers use.
+pub mod Wrapped
+pub mod Residues
+pub mod Laws

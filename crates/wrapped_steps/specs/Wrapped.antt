@@ -1,0 +1,61 @@
+-- Numbers modulo 2^64, as the 64-bit numbers from -2^63 on; what a step leaves that wraps; and a step that has got to
+-- some place.
+use Prim.Native.Nat.{ℕ, suc, _-_, _%_, _^_, _<_, _≤_}
+use mathlib.Core.Bool.{cond}
+use mathlib.Core.Path.{_≡_}
+use mathlib.Core.List.{List}
+use lib.Dec.{ltb}
+use lib.ListN.{length}
+use lib.IntN.{ℤ, pos, negsuc}
+use mir.Syntax.{w64}
+use mir.Val.{SFits, toZ}
+use Rattle.definitions.specs.Series.{Series, firsts}
+use Rattle.definitions.specs.Steps.{Sort, comb, accumulate, stepped, entries}
+use Rattle.entry_steps.specs.Passes.{newEntry, Split}
+
+-- v modulo 2^64, and the 64-bit number that is so much modulo 2^64
+unfoldable pub residue : ℤ → ℕ
+residue (pos n) = n % 2 ^ 64
+residue (negsuc n) = 2 ^ 64 - suc (n % 2 ^ 64)
+
+unfoldable pub wrap : ℤ → ℤ
+wrap v = toZ w64 (residue v)
+
+-- what is stored at the place i of a list
+abbrev pub wrapEntry : Sort → ℕ → List ℤ → ℕ → ℤ
+wrapEntry s d l i = wrap (newEntry s d l i)
+
+-- what a step leaves modulo 2^64: below d an entry stays, from d on stands what its value wraps to
+unfoldable pub wrappedStep : Sort → ℕ → Series → Series
+wrappedStep s d f i = cond (ltb i d) (f i) (wrap (stepped s d f i))
+
+unfoldable pub wrappedList : Sort → ℕ → List ℤ → List ℤ
+wrappedList s d l = firsts (length l) (wrappedStep s d (entries l))
+
+-- equal modulo 2^64 below n
+abbrev pub Like : ℕ → Series → Series → Type 0
+Like n f g = (i : ℕ) → i < n → wrap (f i) ≡ wrap (g i)
+
+-- every entry is a 64-bit number
+abbrev pub AllFit : List ℤ → Type 0
+AllFit l = (i : ℕ) → SFits w64 (entries l i)
+
+-- a comb of size d on l that has got down to the place i, and left m; an accumulate that has got up to it
+pub record DownTo (d : ℕ) (l m : List ℤ) (i : ℕ) : Type 0 where
+  pub from : d ≤ i
+  pub most : i ≤ length l
+  pub split : Split m (length l) i (entries l) (wrappedStep comb d (entries l))
+
+pub record UpTo (d : ℕ) (l m : List ℤ) (i : ℕ) : Type 0 where
+  pub from : d ≤ i
+  pub most : i ≤ length l
+  pub split : Split m (length l) i (wrappedStep accumulate d (entries l)) (entries l)
+
+-- m is what such a step left of some list
+pub record Downward (d : ℕ) (m : List ℤ) (i : ℕ) : Type 0 where
+  pub before : List ℤ
+  pub done : DownTo d before m i
+
+pub record Upward (d : ℕ) (m : List ℤ) (i : ℕ) : Type 0 where
+  pub before : List ℤ
+  pub done : UpTo d before m i
