@@ -17,7 +17,8 @@ MOST = 2**63 - 1
 
 @lru_cache(64)
 def products(indices):
-    """The product of F over the indices; None where that of some first ones has a coefficient or a gain out of range."""
+    """The product of F over the indices; None where that of some first ones has a coefficient or a gain out of range.
+    (A factor alone that is OVER would count too, but none is.)"""
     if len(indices) == 1:
         made = cyclotomic(indices[0])
     else:
@@ -57,18 +58,30 @@ LISTS = (
     (13982,) * 6 + (210,),
     (2998,) * 7 + (90,),
     (1874, 1006, 1402, 2458, 2638, 898, 926, 1365),
+    (1126,) * 7 + (839,),
+    (1142,) * 7 + (821,),
+    (1774,) * 7 + (123,),
+    (1366, 1186, 1438, 1018, 1234, 1018, 1322, 491),
+    # and such ones whose height is next to 2^63, below and above, of either sign
+    (1082,) * 7 + (1514,),
+    (1594, 1042, 1766, 302, 1538, 1226, 1174, 1726),
+    (1346, 1454, 1294, 1646, 1642, 218, 1306, 1754),
+    (1138,) * 8,
+    (1082,) * 7 + (1706,),
+    (1366, 1042, 1774, 1706, 1486, 1594, 1574, 226),
+    (15015,) * 6,
     # gains next to 2^63, below and above, where no coefficient is near it
     (157, 179, 179, 277, 277, 277, 281, 307),
     (163, 199, 229, 233, 233, 251, 293, 311),
     (239,) * 8,
     # coefficients of both signs next to 2^63, below and above, where the gain is 1
-    (866, 922, 926, 1082, 1094, 1126, 1198, 7202),
-    (926, 926, 998, 1018, 1042, 1082, 1202, 7202),
+    (866, 922, 926, 1082, 1094, 1126, 1198, 7214),
+    (926, 926, 998, 1018, 1042, 1082, 1202, 7214),
 )
 
-# Taken so often, as far as the degree goes: powers of z - 1 and z + 1; gains that grow; factors of height 1, 2 and 3; all
-# signs alternating, so that the height grows and the gain does not.
-REPEATED = (1, 2, 3, 5, 7, 12, 15, 16, 105, 210, 211, 385, 422, 1009, 1155, 2003, 2018, 4006, 4620, 8191, 15015, 16382)
+# Taken so often, as far as the degree goes: powers of z - 1 and z + 1; gains that grow; factors of height 1, 2 and 3;
+# all signs alternating, so that the height grows and the gain does not.
+REPEATED = (1, 2, 3, 5, 7, 12, 15, 16, 105, 210, 211, 385, 422, 1009, 1155, 2003, 2018, 4006, 4620, 8191)
 
 
 def repeats():
@@ -83,7 +96,8 @@ def orders():
     told by what their first factors make."""
     for some in ((1, 2, 3), (1, 3, 9, 105), (6, 10, 15, 30), (2, 2, 5, 5)):
         yield from dict.fromkeys(permutations(some))
-    for n, count, one in ((13099, 5, 1), (2003, 7, 1), (2003, 6, 2), (4006, 7, 2), (4006, 6, 1), (569, 7, 1), (1138, 7, 2)):
+    growing = ((13099, 5, 1), (2003, 7, 1), (2003, 6, 2), (4006, 7, 2), (4006, 6, 1), (569, 7, 1), (1138, 7, 2))
+    for n, count, one in growing:
         for place in range(count + 1):
             yield (n,) * place + (one,) + (n,) * (count - place)
 
