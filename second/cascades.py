@@ -56,6 +56,11 @@ LISTS = (
     (8191,) * 8,
     # sums of products that leave 64 bits on their way, though their end does not
     (13982,) * 6 + (210,),
+    (2998,) * 7 + (210,),
+    (2974,) * 7 + (330,),
+    (2902,) * 7 + (390,),
+    (2998,) * 7 + (2310,),
+    # products in range, which the height so far times the sum of the factor's magnitudes does not show
     (2998,) * 7 + (90,),
     (1874, 1006, 1402, 2458, 2638, 898, 926, 1365),
     (1126,) * 7 + (839,),
