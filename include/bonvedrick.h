@@ -284,19 +284,19 @@ bv_record bv_read(const uint8_t *bytes, size_t len, int64_t *coeffs, size_t coun
  *   BV_REFUSED_LIMIT   h is below 1                               0             untouched                untouched
  *   BV_REFUSED_SHORT   len is below degree + 1, or room below     yes           untouched                untouched
  *                      the largest degree of a factor + 1
- *   BV_REFUSED_OVER    the product of the first factors, so many  yes           entries 0 to degree: 0   all 0
- *                      of them as you like, has a coefficient or
- *                      a gain above 2^63 - 1 in magnitude
+ *   BV_REFUSED_OVER    the product of the first one, two, .. or   yes           entries 0 to degree: 0   all 0
+ *                      all factors has a coefficient or a gain
+ *                      above 2^63 - 1 in magnitude
  *   BV_REFUSED_TALL    the height is above h                      yes           entries 0 to degree: 0   all 0
  *
  * The order is that of the table. additions is always 0; on refusal height, peak and gain are 0 too. indices is only
  * read. The scratch is a second slice to work in: where the table says all 0, the whole of it is, however long it is.
  * 65536 entries in each have room for every cascade.
  *
- * The order of the list makes no difference to what is delivered, but it may to whether: all first factors count for
- * BV_REFUSED_OVER, so 13099 five times and then 1 is refused, and 1 first is delivered. Only those products count: sums
- * on the way to one may be as large as they like. A cascade of one index is that of bv_polynomial with BV_F and
- * BV_NO_LIMIT as w, but for additions.
+ * The order of the list makes no difference to what is delivered, but it may to whether it is: 13099 five times and
+ * then 1 is BV_REFUSED_OVER, since the first five are, and 1 first is delivered. Only those products count: a sum on
+ * the way to a coefficient may be as large as it likes. With a scratch that is long enough a cascade of one index is
+ * that of bv_polynomial with BV_F and BV_NO_LIMIT as w, but for additions.
  */
 bv_answer bv_cascade(const uint64_t *indices, size_t count, int64_t h, int64_t *buf, size_t len, int64_t *scratch,
                      size_t room);
