@@ -12,6 +12,7 @@ ghost use lib.ListN.{length};
 ghost use Rattle.definitions.specs.Steps.{comb, accumulate, stepCode, stepCount, stepLeaves};
 ghost use Rattle.answers.specs.Polynomial as Polynomial;
 ghost use Rattle.answers.specs.Partial as Partial;
+ghost use Rattle.answers.specs.Cascade as Cascade;
 ghost use Rattle.shelf.specs.Format.{writeAnswer, writeLeaves, readAnswer, readLeaves};
 
 // The polynomial of a kind and an index, no taller than h and made of steps within w.
@@ -30,6 +31,22 @@ pub extern "C" fn bv_partial(kind: u64, n: u64, j: u64, w: i64, buf: &mut [i64])
     ensures leaves { λ _. ⌜ now (buf .exit) ≡ Partial.leaves kind n j w (now (buf .entry)) ⌝ }
 {
     partial::partial(kind, n, j, w, buf)
+}
+
+// The product of F(n) for the n of a list, no taller than h; the scratch is lent for the factors.
+#[no_mangle]
+pub extern "C" fn bv_cascade(indices: &[u64], h: i64, buf: &mut [i64], scratch: &mut [i64]) -> Answer
+    ensures answer { λ r.
+        ⌜ r
+        ≡ Cascade.answer (now (indices .entry)) h (length (now (buf .entry))) (length (now (scratch .entry))) ⌝ }
+    ensures leaves { λ _.
+        ⌜ now (buf .exit)
+        ≡ Cascade.leaves (now (indices .entry)) h (now (buf .entry)) (length (now (scratch .entry))) ⌝ }
+    ensures scratches { λ _.
+        ⌜ now (scratch .exit)
+        ≡ Cascade.scratches (now (indices .entry)) h (length (now (buf .entry))) (now (scratch .entry)) ⌝ }
+{
+    cascade::cascade(indices, h, buf, scratch)
 }
 
 // A comb on its own, within w.

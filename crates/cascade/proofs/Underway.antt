@@ -1,0 +1,216 @@
+-- The product of the first i factors: the start, what is asked of one factor more, what it comes to, and the end.
+use Prim.Native.Nat.{ℕ, zero, suc, _+_, _<_, _≤_}
+use mathlib.Core.Path.{_≡_, refl, sym, _∙_, ap, ap₂, fun-ext}
+use mathlib.Core.Bool.{Bool, true, false, true≢false, not, _||_, Bool·not-not}
+use mathlib.Core.List.{List, []}
+use native.Mathlib.Omega.{arith}
+use native.Mathlib.Nat as NatL
+use native.Mathlib.Numerals.{add-one}
+use lib.ListN.{length, take, getD, set, length-set, length-replicate, getD-replicate}
+use lib.Seq.{take-all, take-length, getD-set-same, getD-set-other}
+use lib.IntN.{ℤ, pos, natAbs}
+use Rattle.definitions.specs.Integers.{_⊕_, _⊗_, 0ℤ, 1ℤ}
+use Rattle.definitions.specs.Series.{Series, _·_, constant, 𝟙, firsts}
+use Rattle.definitions.specs.Numbers.{phi}
+use Rattle.definitions.specs.Polynomials.{F}
+use Rattle.definitions.specs.Steps.{entries, inRange, someOutside, largest}
+use Rattle.definitions.specs.Requests.{zeros}
+use Rattle.definitions.specs.KeptHalf.{productOf, sumOf}
+use Rattle.definitions.specs.Answer.{heightOf, placeOf, peakOf, gainOf}
+use Rattle.definitions.specs.Cascades.{product, totalDegree, productCoefficients, longest, allGood, productOver}
+use Rattle.definitions.specs.Cascades.{firstsOver}
+use Rattle.step_laws.specs.Tests.{by-order, neither}
+use Rattle.step_laws.specs.Firsts.{length-firsts, is-firsts, firsts-here, firsts-past}
+use Rattle.step_laws.specs.Outside.{inside-each}
+use Rattle.step_laws.specs.Signed.{range-in}
+use Rattle.cyclotomic.specs.Heights.{entry-height, height-least}
+use Rattle.next_factor.specs.Taking.{Known, Room, Taken}
+use Rattle.next_factor.specs.declared.SoFar.{SoFar}
+use Rattle.cascade.specs.Making.{Roomy, ProductIs}
+use Rattle.cascade.proofs.Lists.{good-part, good-at, longest-at, degree-part, degree-more, product-more}
+use Rattle.cascade.proofs.Lists.{monic-product, gain-more, stays-over}
+
+pub record Underway (ns : List ℕ) (b scratch : List ℤ) (so : SoFar) (i : ℕ) : Type 0 where
+  pub roomy : Roomy ns b scratch
+  pub at : i ≤ length ns
+  pub told : so .over ≡ false
+  pub fine : firstsOver i ns ≡ false
+  pub leaves : b ≡ firsts (suc (totalDegree ns)) (product (take i ns))
+  pub have : so .have ≡ suc (totalDegree (take i ns))
+  pub height : so .height ≡ heightOf (productCoefficients (take i ns))
+  pub peak : so .peak ≡ peakOf (productCoefficients (take i ns))
+  pub gain : pos (so .gain) ≡ gainOf (productCoefficients (take i ns))
+  pub inside : so .height ≤ largest
+  pub small : so .gain ≤ largest
+
+-- ---- the start: 1
+abbrev pub one : SoFar
+one = record { over = false; have = 1; height = 1; peak = 0; gain = 1 }
+
+start-list : (n : ℕ) (m : List ℤ) → m ≡ set (zeros (suc n)) 0 1ℤ → m ≡ firsts (suc n) 𝟙
+unfolding entries zeros constant
+start-list n m e =
+    is-firsts (suc n) 𝟙 m (ap length e ∙ length-set (zeros (suc n)) 0 1ℤ ∙ length-replicate (suc n) 0ℤ)
+    (λ k b. ap (λ x. getD x k 0ℤ) e ∙ at k b)
+  where
+    at : (k : ℕ) → k < suc n → getD (set (zeros (suc n)) 0 1ℤ) k 0ℤ ≡ 𝟙 k
+    at zero b = refl
+    at (suc k) b = getD-replicate n k 0ℤ 0ℤ (NatL.le-of-suc-le-suc b)
+
+pub underway-start : (ns : List ℕ) (b scratch m : List ℤ) → Roomy ns b scratch → m ≡ set (zeros (length b)) 0 1ℤ
+    → Underway ns m scratch one 0
+unfolding firstsOver productCoefficients product totalDegree productOf sumOf heightOf peakOf placeOf gainOf firsts constant
+    zeros _⊕_
+underway-start ns b scratch m R e =
+    record {
+      roomy = record { good = R .good; room = ap length e ∙ length-set (zeros (length b)) 0 1ℤ ∙ length-replicate (length b) 0ℤ ∙ R .room; factor = R .factor };
+      at = omega arith;
+      told = refl;
+      fine = refl;
+      leaves = start-list (totalDegree ns) m (e ∙ ap (λ k. set (zeros k) 0 1ℤ) (R .room));
+      have = refl;
+      height = refl;
+      peak = refl;
+      gain = refl;
+      inside = omega arith;
+      small = omega arith;
+    }
+
+module _ {ns : List ℕ} {b scratch : List ℤ} {so : SoFar} {i : ℕ} (U : Underway ns b scratch so i) where
+  ends : (k : ℕ) → suc (totalDegree (take i ns)) ≤ k → product (take i ns) k ≡ 0ℤ
+  ends = monic-product (take i ns) (good-part ns i (U .roomy .good)) .above
+
+  -- the entries are the product's
+  entries-are : entries b ≡ product (take i ns)
+  entries-are =
+      ap entries (U .leaves)
+      ∙ fun-ext (λ k. by-order k (suc (totalDegree ns))
+      (λ l. firsts-here (suc (totalDegree ns)) (product (take i ns)) k l)
+      (λ l. firsts-past (suc (totalDegree ns)) (product (take i ns)) k l
+      ∙ sym (ends k (omega (arith, degree-part ns i)))))
+
+  pub known : Known b so
+  unfolding productCoefficients
+  known =
+      record {
+        some = rw (U .have) (omega arith);
+        ends = λ k l. ap (λ f. f k) entries-are ∙ ends k (rw (U .have) at l);
+        height = λ k. rw (entries-are, U .height) (bounded k);
+        inside = U .inside;
+        gain = U .small;
+      }
+    where
+      bounded : (k : ℕ) → natAbs (product (take i ns) k)
+          ≤ heightOf (firsts (suc (totalDegree (take i ns))) (product (take i ns)))
+      bounded k =
+          by-order k (suc (totalDegree (take i ns)))
+          (λ l. entry-height (suc (totalDegree (take i ns))) (product (take i ns)) k l)
+          (λ l. rw (ends k l) (omega arith))
+
+  module _ (l : i < length ns) where
+    pub room : Room (getD ns i 0) b scratch so
+    room =
+        record {
+          good = good-at ns i l (U .roomy .good);
+          room = omega (arith, U .have, U .roomy .room, degree-more ns i l, degree-part ns (suc i));
+          factor = omega (arith, longest-at ns i l, U .roomy .factor);
+        }
+
+    module _ {m : List ℤ} {r : SoFar} (T : Taken (getD ns i 0) b so m r) where
+      count : so .have + phi (getD ns i 0) ≡ suc (totalDegree (take (suc i) ns))
+      count = omega (arith, U .have, degree-more ns i l)
+
+      series : F (getD ns i 0) · entries b ≡ product (take (suc i) ns)
+      series = ap (λ f. F (getD ns i 0) · f) entries-are ∙ sym (product-more ns i l)
+
+      gains : pos (so .gain) ⊗ Rattle.definitions.specs.Answer.gain 1 (getD ns i 0)
+          ≡ gainOf (productCoefficients (take (suc i) ns))
+      gains = ap (λ g. g ⊗ Rattle.definitions.specs.Answer.gain 1 (getD ns i 0)) (U .gain)
+          ∙ sym (gain-more ns i l (U .roomy .good))
+
+      tested : r .over ≡ firstsOver (suc i) ns
+      unfolding firstsOver productOver
+      tested =
+          T .over
+          ∙ ap₂ (λ x y. x || not (inRange largest y))
+          (ap₂ (λ k f. someOutside largest 0 k f) count series) gains
+          ∙ sym (ap (λ x. x || productOver (take (suc i) ns)) (U .fine))
+
+      still-roomy : (s : List ℤ) → length s ≡ length scratch → Roomy ns m s
+      still-roomy s e =
+          record {
+            good = U .roomy .good;
+            room = T .len ∙ U .roomy .room;
+            factor = rw e (U .roomy .factor);
+          }
+
+      pub over-here : r .over ≡ true → ProductIs ns m r
+      over-here o = 
+          record {
+            over = o ∙ sym (stays-over ns (suc i) (length ns) l (sym tested ∙ o));
+            len = T .len ∙ U .roomy .room;
+            leaves = λ e. absurd (true≢false (sym o ∙ e));
+            height = λ e. absurd (true≢false (sym o ∙ e));
+            peak = λ e. absurd (true≢false (sym o ∙ e));
+            gain = λ e. absurd (true≢false (sym o ∙ e));
+            small = λ e. absurd (true≢false (sym o ∙ e));
+          }
+
+      coefficients-are : firsts (so .have + phi (getD ns i 0)) (F (getD ns i 0) · entries b)
+          ≡ productCoefficients (take (suc i) ns)
+      unfolding productCoefficients
+      coefficients-are = ap₂ firsts count series
+
+      module _ (o : r .over ≡ false) where
+        in-range : (someOutside largest 0 (so .have + phi (getD ns i 0)) (F (getD ns i 0) · entries b) ≡ false)
+            × (not (inRange largest (pos (so .gain) ⊗ Rattle.definitions.specs.Answer.gain 1 (getD ns i 0))) ≡ false)
+        in-range =
+            neither (someOutside largest 0 (so .have + phi (getD ns i 0)) (F (getD ns i 0) · entries b))
+            (not (inRange largest (pos (so .gain) ⊗ Rattle.definitions.specs.Answer.gain 1 (getD ns i 0))))
+            (sym (T .over) ∙ o)
+
+        height-inside : r .height ≤ largest
+        height-inside =
+            rw (T .height o)
+            (height-least (so .have + phi (getD ns i 0)) (F (getD ns i 0) · entries b) largest
+            (λ k c. range-in largest _
+            (inside-each largest 0 (F (getD ns i 0) · entries b) (so .have + phi (getD ns i 0)) (in-range .0) k (omega arith)
+            c)))
+
+        gain-inside : r .gain ≤ largest
+        gain-inside =
+            rw (sym (T .gain o))
+            at (range-in largest (pos (so .gain) ⊗ Rattle.definitions.specs.Answer.gain 1 (getD ns i 0))
+            (sym (Bool·not-not _) ∙ ap not (in-range .1)))
+
+        pub underway-more : (s : List ℤ) → length s ≡ length scratch → Underway ns m s r (i + 1)
+        underway-more s e =
+            rw (add-one i)
+            (record {
+              roomy = still-roomy s e;
+              at = l;
+              told = o;
+              fine = sym tested ∙ o;
+              leaves = T .leaves o ∙ ap₂ firsts (U .roomy .room) series;
+              have = T .have o ∙ count;
+              height = T .height o ∙ ap heightOf coefficients-are;
+              peak = T .peak o ∙ ap peakOf coefficients-are;
+              gain = T .gain o ∙ gains;
+              inside = height-inside;
+              small = gain-inside;
+            })
+
+  pub done : length ns ≤ i → ProductIs ns b so
+  unfolding productCoefficients
+  done l =
+      let all = take-all i ns l in
+      let last : i ≡ length ns = omega (arith, U .at) in
+      record {
+        over = U .told ∙ sym (U .fine) ∙ ap (λ k. firstsOver k ns) last;
+        len = U .roomy .room;
+        leaves = λ e. U .leaves ∙ ap (λ x. firsts (suc (totalDegree ns)) (product x)) all;
+        height = λ e. U .height ∙ ap (λ x. heightOf (productCoefficients x)) all;
+        peak = λ e. U .peak ∙ ap (λ x. peakOf (productCoefficients x)) all;
+        gain = λ e. U .gain ∙ ap (λ x. gainOf (productCoefficients x)) all;
+        small = λ e. U .small;
+      }

@@ -1,0 +1,2 @@
+-- A product by digits.
+pub mod Digits

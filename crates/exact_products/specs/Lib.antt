@@ -1,0 +1,3 @@
+-- A product that is made in place.
+pub mod Products
+mod Vectors

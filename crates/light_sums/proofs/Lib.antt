@@ -1,0 +1,3 @@
+-- Laws that the functions' proofs share, and `digit_sums`'s and `exact_products`'s.
+pub mod Joins
+mod Lights

@@ -1,0 +1,146 @@
+-- No request for F(n) is refused, once the index is good and there is room, where both limits are the largest: OVER is
+-- never met (crate `never_over`), so the kept half stays in range at every stop (`kept-inside`), and with it the
+-- height (`height-fits`).
+use Prim.Native.Nat.{ℕ, zero, suc, _+_, _-_, _<_, _≤_}
+use mathlib.Core.Path.{_≡_, refl, sym, _∙_, ap, ap₂}
+use mathlib.Core.Bool.{Bool, true, false, cond, _||_}
+use mathlib.Core.Logic.{_≢_}
+use mathlib.Core.List.{List, _++_}
+use native.Mathlib.Omega.{arith}
+use native.Mathlib.Nat as NatL
+use native.Mathlib.Decide.{ℕ-discrete}
+use borrow.Author.Tests.{le-ltb, lt-leb}
+use lib.Dec.{eqb}
+use lib.IntN.{ℤ, pos, natAbs}
+use lib.ListN.{length, take, drop, length-append, length-drop}
+use lib.Seq.{take-at}
+use mir.Syntax.{w64}
+use mir.Val.{SFits}
+use mir.Facts.{toZ-ofZ}
+use Rattle.definitions.specs.Codes.{DONE}
+use Rattle.definitions.specs.Integers.{⊖}
+use Rattle.definitions.specs.Series.{firsts, constant, 𝟙, -ˢ}
+use Rattle.definitions.specs.Numbers.{rOf, mOf, phi, kOf, divides, divisorsBelow}
+use Rattle.definitions.specs.Polynomials.{F, degree, polynomial}
+use Rattle.definitions.specs.Steps.{entries, largest, belowOne}
+use Rattle.definitions.specs.KeptHalf.{halfDegree, keptHalf, start}
+use Rattle.definitions.specs.Requests.{knownKind, goodIndex, divisorsDue, nextDivisor, overAt, overAmong, written}
+use Rattle.definitions.specs.Answer.{coefficients, height, gain}
+use Rattle.numbers.specs.Apart.{r-odd-squarefree, m-divides, m-above}
+use Rattle.numbers.specs.PhiPrime.{prime-phi}
+use Rattle.numbers.specs.Lists.{entry-has}
+use Rattle.step_laws.specs.Bound.{Bounded, stays-inside, firsts-bounded}
+use Rattle.step_laws.specs.Firsts.{length-firsts, firsts-here}
+use Rattle.step_laws.specs.Machine.{seen}
+use Rattle.step_laws.specs.Tests.{neither}
+use Rattle.cyclotomic.specs.Kept.{kept-all, step-kept, kept-start}
+use Rattle.cyclotomic.specs.Heights.{told-half, told-one, height-least}
+use Rattle.cyclotomic.specs.Gain.{gains, gain-prime, gain-composite}
+use Rattle.answers.specs.declared.Answer.{Answer}
+use Rattle.answers.specs.Polynomial.{code, answered, answer, left, leaves}
+use Rattle.index.proofs.Laws.{index-good}
+use Rattle.never_over.specs.NotOver.{not-over, promised-fits}
+use Rattle.next_factor.specs.Taking.{MadeIs}
+
+-- the start is 1 or -1, and then zeros
+start-bound : (kind i : ℕ) → natAbs (start kind i) ≤ 1
+unfolding start constant -ˢ ⊖
+start-bound kind i = go (eqb kind 1) i
+  where
+    go : (b : Bool) (i : ℕ) → natAbs (cond b 𝟙 (-ˢ 𝟙) i) ≤ 1
+    go true zero = omega arith
+    go true (suc i) = omega arith
+    go false zero = omega arith
+    go false (suc i) = omega arith
+
+divisor-in : (r j : ℕ) → j < divisorsDue r → 0 < nextDivisor r j
+unfolding nextDivisor divisorsDue divisorsBelow
+divisor-in r j h = entry-has (λ d. divides d r) (r - 1) j h .0
+
+kept-inside : (kind r w : ℕ) → 1 ≤ w → (j : ℕ) → j ≤ divisorsDue r → overAmong w kind r j ≡ false
+    → Bounded w (entries (keptHalf kind r j))
+unfolding overAmong overAt divisorsDue
+kept-inside kind r w one zero l e =
+    rw (kept-start kind r)
+    (firsts-bounded w (halfDegree kind r + 1) (start kind) (λ i b. omega (arith, start-bound kind i)))
+kept-inside kind r w one (suc j) l e =
+    let below : j < divisorsDue r = l in
+    let both = neither (overAmong w kind r j) (overAt w kind r j) e in
+    rw (sym (step-kept kind r j l (divisor-in r j below)))
+    (stays-inside w _ _ (keptHalf kind r j) (kept-inside kind r w one j (NatL.le-of-lt l) (both .0)) (both .1))
+
+-- the gain is no negative number, and small
+pub gain-whole : (n : ℕ) → goodIndex n ≡ true → (k : ℕ) × (gain 1 n ≡ pos k) × (k ≤ 65535)
+gain-whole n good = go (ℕ-discrete n 1)
+  where
+    above : 0 < n
+    above = index-good n good .0
+
+    prime-or-not : 1 < n → Dec (phi (mOf n) + 1 ≡ mOf n) → (k : ℕ) × (gain 1 n ≡ pos k) × (k ≤ 65535)
+    prime-or-not l (yes e) = (
+      mOf n,
+      gain-prime n above (prime-phi (mOf n) (m-above n l) .0 e),
+      NatL.le-trans (NatL.le-of-dvd above (m-divides n)) (index-good n good .1),
+    )
+    prime-or-not l (no u) =
+        (1, gain-composite n l (λ P. u (prime-phi (mOf n) (m-above n l) .1 P)), omega arith)
+
+    go : Dec (n ≡ 1) → (k : ℕ) × (gain 1 n ≡ pos k) × (k ≤ 65535)
+    go (yes e) = (0, ap (gain 1) e ∙ gains .F-at-one, omega arith)
+    go (no u) = prime-or-not (omega (arith, above)) (ℕ-discrete (phi (mOf n) + 1) (mOf n))
+
+module _ (n : ℕ) (good : goodIndex n ≡ true) where
+  pub never : overAmong largest 1 (rOf n) (divisorsDue (rOf n)) ≡ false
+  never =
+      not-over 1 n (index-good n good .0) (index-good n good .1) largest (promised-fits true (kOf n))
+      (divisorsDue (rOf n)) (omega arith)
+
+  pub height-fits : height 1 n ≤ largest
+  unfolding divisorsDue
+  height-fits = go (ℕ-discrete (rOf n) 1)
+    where
+      go : Dec (rOf n ≡ 1) → height 1 n ≤ largest
+      go (yes e) = rw (told-one 1 n (index-good n good .0) e .0) (omega arith)
+      go (no u) =
+          rw (told-half 1 n (index-good n good .0) u .0)
+          (height-least (halfDegree 1 (rOf n) + 1) (polynomial 1 (rOf n)) largest
+          (λ i b. rw (firsts-here (halfDegree 1 (rOf n) + 1) (polynomial 1 (rOf n)) i b)
+          at (rw (kept-all 1 (rOf n) (r-odd-squarefree n) u)
+          at (kept-inside 1 (rOf n) largest (omega arith) (divisorsDue (rOf n)) (omega arith) never i))))
+
+  module _ (l : List ℤ) (room : phi n < length l) where
+    delivered : code 1 n (pos largest) (pos largest) (length l) ≡ DONE
+    unfolding code knownKind belowOne degree
+    delivered = rw (good, lt-leb (length l) (phi n) room, never, le-ltb largest (height 1 n) height-fits)
+
+    its-answer : answer 1 n (pos largest) (pos largest) (length l) ≡ answered 1 n DONE
+    unfolding answer
+    its-answer = ap (answered 1 n) delivered
+
+    its-leaves : leaves 1 n (pos largest) (pos largest) l ≡ written (coefficients 1 n) l
+    unfolding leaves left
+    its-leaves = ap (λ c. left 1 n c l) delivered
+
+    factor-length : length (coefficients 1 n) ≡ suc (phi n)
+    unfolding coefficients degree
+    factor-length = length-firsts (suc (degree 1 n)) (polynomial 1 n)
+
+    pub made-is :
+        {a : Answer} {m : List ℤ} {g : ℕ} → a ≡ answer 1 n (pos largest) (pos largest) (length l)
+        → m ≡ leaves 1 n (pos largest) (pos largest) l → g ≡ natAbs (seen (a .gain))
+        → MadeIs n l m (record { degree = a .degree; gain = g })
+    unfolding answered written degree coefficients polynomial
+    made-is {a} {m} {g} is left read =
+        let e = is ∙ its-answer in
+        let w = left ∙ its-leaves in
+        let (k, whole, small) = gain-whole n good in
+        let fits : SFits w64 (pos k) = record { sfits = omega arith } in
+        record {
+          degree = ap (λ x. x .degree) e;
+          gain = ap pos (read ∙ ap (λ x. natAbs (seen x)) (ap (λ x. x .gain) e ∙ whole) ∙ ap natAbs (toZ-ofZ fits))
+              ∙ sym whole;
+          factor = ap (take (suc (phi n))) w
+              ∙ take-at (coefficients 1 n) (drop (length (coefficients 1 n)) l) (suc (phi n)) factor-length;
+          len = ap length w ∙ length-append (coefficients 1 n) (drop (length (coefficients 1 n)) l)
+              ∙ omega (arith, factor-length, length-drop (length (coefficients 1 n)) l);
+        }

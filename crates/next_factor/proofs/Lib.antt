@@ -1,0 +1,4 @@
+-- One factor more: what the routine goes by.
+pub mod Multiplying
+pub mod Delivered
+pub mod Extending

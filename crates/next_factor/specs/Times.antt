@@ -1,0 +1,30 @@
+-- A product's entries, and what its product with F(n) comes to.
+use Prim.Native.Nat.{ℕ, suc, _+_, _≤_}
+use mathlib.Core.Path.{_≡_}
+use mathlib.Core.Bool.{Bool, true, not}
+use mathlib.Core.List.{List}
+use lib.ListN.{length}
+use lib.IntN.{ℤ}
+use Rattle.definitions.specs.Series.{_·_, firsts}
+use Rattle.definitions.specs.Numbers.{phi}
+use Rattle.definitions.specs.Polynomials.{F}
+use Rattle.definitions.specs.Steps.{entries, someOutside, largest}
+use Rattle.definitions.specs.Requests.{goodIndex}
+use Rattle.series.specs.Degree.{ZeroFrom}
+use Rattle.step_laws.specs.Bound.{Bounded}
+
+-- l has `have` entries of a product, none larger than the height, and then as many zeros as F(n), which is in f, needs
+pub record Factor (n : ℕ) (l f : List ℤ) (have height : ℕ) : Type 0 where
+  pub good : goodIndex n ≡ true
+  pub some : 1 ≤ have
+  pub ends : ZeroFrom have (entries l)
+  pub room : length l ≡ have + phi n
+  pub bounded : Bounded height (entries l)
+  pub inside : height ≤ largest
+  pub factor : f ≡ firsts (suc (phi n)) (F n)
+
+-- the product with F(n) stands in m, or a coefficient of it is out of range
+pub record Multiplied (n : ℕ) (l m : List ℤ) (fits : Bool) : Type 0 where
+  pub inside : fits ≡ not (someOutside largest 0 (length l) (F n · entries l))
+  pub leaves : fits ≡ true → m ≡ firsts (length l) (F n · entries l)
+  pub len : length m ≡ length l

@@ -1,0 +1,96 @@
+// Inner: each `requires` is shown by the caller `cascade`. A product of some F, and one factor more: its F(n) is made
+// in the scratch, and the product is multiplied by it in place.
+mod times;
+
+use heights::magnitude;
+use times::times;
+ghost use mathlib.Core.Path.{_≡_};
+ghost use mathlib.Core.Bool.{true};
+ghost use Prim.Native.Nat.{_*_, _<_};
+ghost use lib.Dec.{leb};
+ghost use lib.ListN.{length};
+ghost use Rattle.definitions.specs.Numbers.{phi};
+ghost use Rattle.definitions.specs.Steps.{largest};
+ghost use Rattle.definitions.specs.Requests.{goodIndex};
+ghost use Rattle.next_factor.specs.Taking.{MadeIs, Known, Room, Taken};
+
+// A product so far: whether it is out of range; how many entries it has, its height, peak and gain.
+pub struct SoFar {
+    pub over: bool,
+    pub have: usize,
+    pub height: u64,
+    pub peak: u64,
+    pub gain: u64,
+}
+
+// F(n), made: its degree and its gain.
+pub(crate) struct Made {
+    pub degree: usize,
+    pub gain: u64,
+}
+
+// The largest coefficient, and the largest gain.
+pub(crate) const MOST: u64 = 9223372036854775807;
+
+impl SoFar {
+    fn out_of_range() -> SoFar
+        ensures { λ r. ⌜ r ≡ record { over = true; have = 0; height = 0; peak = 0; gain = 0 } ⌝ }
+    {
+        SoFar {
+            over: true,
+            have: 0,
+            height: 0,
+            peak: 0,
+            gain: 0,
+        }
+    }
+}
+
+// Is the product of two numbers at most MOST?
+pub(crate) fn product_fits(a: u64, b: u64) -> bool
+    ensures { λ r. ⌜ r ≡ leb (a * b) largest ⌝ }
+{
+    if a == 0 {
+        return true;
+    }
+    b <= MOST / a
+}
+
+// F(n) in the first entries of the scratch; its degree and gain are told. No request for it is refused.
+fn make_factor(scratch: &mut [i64], n: u64) -> Made
+    requires { ⌜ (goodIndex n ≡ true) × (phi n < length (now scratch)) ⌝ }
+    ensures { λ r. ⌜ MadeIs n (now (scratch .entry)) (now (scratch .exit)) r ⌝ }
+{
+    let made = polynomial::polynomial(1, n, MOST as i64, MOST as i64, scratch);
+    Made {
+        degree: made.degree as usize,
+        gain: magnitude(made.gain),
+    }
+}
+
+// One factor more.
+pub fn take_factor(b: &mut [i64], scratch: &mut [i64], n: u64, so: SoFar) -> SoFar
+    requires { ⌜ Known (now b) so × Room n (now b) (now scratch) so ⌝ }
+    ensures { λ r. ⌜ Taken n (now (b .entry)) so (now (b .exit)) r ⌝ }
+    ensures { λ _. ⌜ length (now (scratch .exit)) ≡ length (now (scratch .entry)) ⌝ }
+{
+    let made = make_factor(scratch, n);
+    let before = so.have;
+    let gain = made.gain;
+    if !product_fits(so.gain, gain) {
+        return SoFar::out_of_range();
+    }
+    let size = made.degree + 1;
+    let have = before + made.degree;
+    if !times(&mut b[..have], n, &scratch[..size], before, so.height) {
+        return SoFar::out_of_range();
+    }
+    let top = heights::peak(&b[..have]);
+    SoFar {
+        over: false,
+        have,
+        height: top.height,
+        peak: top.place,
+        gain: so.gain * gain,
+    }
+}
