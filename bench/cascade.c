@@ -1,7 +1,7 @@
 /*
- * Cascades: the library beside FLINT (cyclotomic and mul; -DFLINT) and two designs in plain C, modulo 2^64 and untested:
- * a factor at a time by its steps on the product so far, and multiplied out. All are held to be equal first, where the
- * library delivers; then they take turns, and the median of each is printed in milliseconds.
+ * Cascades: the library beside FLINT (cyclotomic and mul; -DFLINT) and two designs in plain C, modulo 2^64 and
+ * untested: a factor at a time by its steps on the product so far, and multiplied out. All are held to be equal first,
+ * where the library delivers; then they take turns, and the median of each is printed in milliseconds.
  */
 #include <stdint.h>
 #include <stdio.h>
@@ -36,9 +36,11 @@ static const list LISTS[] = {
 static int64_t buf[MOST], scratch[MOST];
 static uint64_t product[MOST], factor[MOST];
 static bv_answer told;
+/* the entries of the list's largest factor: so many are lent as scratch, which is cleared as long as it is */
+static size_t longest;
 
 static void ours(const list *l) {
-    told = bv_cascade(l->indices, l->count, BV_NO_LIMIT, buf, MOST, scratch, MOST);
+    told = bv_cascade(l->indices, l->count, BV_NO_LIMIT, buf, MOST, scratch, longest);
 }
 
 /* The distinct primes of n, and how many. */
@@ -180,6 +182,10 @@ static void hold(int right, const list *l, const char *what) {
 }
 
 static void check(const list *l) {
+    longest = 0;
+    for (size_t i = 0; i < l->count; i++)
+        if (phi(l->indices[i]) >= longest)
+            longest = phi(l->indices[i]) + 1;
     ours(l);
     if (told.code != BV_DONE)
         return;
