@@ -13,6 +13,7 @@ from polynomials import height, product
 from whole import phi
 
 MOST = 2**63 - 1
+MOST_ENTRIES = 65536  # that a line can lend
 
 
 @lru_cache(64)
@@ -136,9 +137,9 @@ def limits(indices):
 
 
 def cases():
-    """Each list in a few entries more than needed, some under several limits."""
+    """Each list in a few entries more than needed, where a line can lend them; some under several limits."""
     singles = [(n,) for n in SINGLE]
     for indices in dict.fromkeys((*singles, *LISTS, *repeats(), *orders(), *mixed())):
         room, scratch = need(indices)
         for h in limits(indices) if indices in LISTS or len(set(indices)) == 1 else [MOST]:
-            yield asked(indices, h, room + 3, scratch + len(indices) - 1)
+            yield asked(indices, h, min(room + 3, MOST_ENTRIES), min(scratch + len(indices) - 1, MOST_ENTRIES))
