@@ -11,6 +11,7 @@ use Rattle.steps.proofs.Step.apply.Kinds as step-kinds
 use Rattle.steps.proofs.Step.apply.Reads as step-request
 use Rattle.polynomial.proofs.polynomial.Reads as polynomial-request
 use Rattle.partial.proofs.partial.Reads as partial-request
+use Rattle.cascade.proofs.cascade.Reads as cascade-request
 use Rattle.shelf.proofs.write.Reads as write-request
 use Rattle.shelf.proofs.read.Reads as read-request
 use Rattle.bonvedrick.proofs.bv_polynomial as polynomial
@@ -19,6 +20,9 @@ use Rattle.bonvedrick.proofs.bv_polynomial.Reads as polynomial-reads
 use Rattle.bonvedrick.proofs.bv_partial as partial
 use Rattle.bonvedrick.proofs.bv_partial.Kinds as partial-kinds
 use Rattle.bonvedrick.proofs.bv_partial.Reads as partial-reads
+use Rattle.bonvedrick.proofs.bv_cascade as cascade
+use Rattle.bonvedrick.proofs.bv_cascade.Kinds as cascade-kinds
+use Rattle.bonvedrick.proofs.bv_cascade.Reads as cascade-reads
 use Rattle.bonvedrick.proofs.bv_write as write
 use Rattle.bonvedrick.proofs.bv_write.Kinds as write-kinds
 use Rattle.bonvedrick.proofs.bv_write.Reads as write-reads
@@ -43,6 +47,12 @@ pub partial-door :
     (e : AtExit (endedOf 1 partial-kinds.ps partial-kinds.r) κs)
     → partial-reads.Post κs a z e ≡ partial-request.Post κs a z e
 partial-door κs a z e = refl
+
+pub cascade-door :
+    (κs : Lfts 3) (a : ArgsD cascade.signature κs) (z : ResD cascade.signature κs)
+    (e : AtExit (endedOf 3 cascade-kinds.ps cascade-kinds.r) κs)
+    → cascade-reads.Post κs a z e ≡ cascade-request.Post κs a z e
+cascade-door κs a z e = refl
 
 pub write-door :
     (κs : Lfts 2) (a : ArgsD write.signature κs) (z : ResD write.signature κs)

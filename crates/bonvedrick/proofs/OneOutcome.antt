@@ -1,5 +1,5 @@
 -- For each input the contract of each function of the C library leaves one outcome: two that meet it, as the checker
--- reads it off the clauses, have the same answer and leave the same in the lent slice.
+-- reads it off the clauses, have the same answer and leave the same in the lent slices.
 use mathlib.Core.Path.{_≡_, sym, _∙_}
 use contract.Lifetimes.{Lfts}
 use borrow.Fn.Kinds.{endedOf}
@@ -12,6 +12,9 @@ use Rattle.bonvedrick.proofs.bv_polynomial.Reads as polynomial-reads
 use Rattle.bonvedrick.proofs.bv_partial as partial
 use Rattle.bonvedrick.proofs.bv_partial.Kinds as partial-kinds
 use Rattle.bonvedrick.proofs.bv_partial.Reads as partial-reads
+use Rattle.bonvedrick.proofs.bv_cascade as cascade
+use Rattle.bonvedrick.proofs.bv_cascade.Kinds as cascade-kinds
+use Rattle.bonvedrick.proofs.bv_cascade.Reads as cascade-reads
 use Rattle.bonvedrick.proofs.bv_write as write
 use Rattle.bonvedrick.proofs.bv_write.Kinds as write-kinds
 use Rattle.bonvedrick.proofs.bv_write.Reads as write-reads
@@ -38,6 +41,14 @@ pub partial-one :
     partial-reads.Post κs a z e → partial-reads.Post κs a z′ e′
     → (z ≡ z′) × (now (e .1 .1 .1 .1 .0) ≡ now (e′ .1 .1 .1 .1 .0))
 partial-one κs a z z′ e e′ p p′ = (p .0 ∙ sym (p′ .0), p .1 ∙ sym (p′ .1))
+
+pub cascade-one :
+    (κs : Lfts 3) (a : ArgsD cascade.signature κs) (z z′ : ResD cascade.signature κs)
+    (e e′ : AtExit (endedOf 3 cascade-kinds.ps cascade-kinds.r) κs) →
+    cascade-reads.Post κs a z e → cascade-reads.Post κs a z′ e′
+    → (z ≡ z′) × (now (e .1 .1 .0) ≡ now (e′ .1 .1 .0)) × (now (e .1 .1 .1 .0) ≡ now (e′ .1 .1 .1 .0))
+cascade-one κs a z z′ e e′ p p′ =
+    (p .0 ∙ sym (p′ .0), p .1 .0 ∙ sym (p′ .1 .0), p .1 .1 ∙ sym (p′ .1 .1))
 
 pub write-one :
     (κs : Lfts 2) (a : ArgsD write.signature κs) (z z′ : ResD write.signature κs)
