@@ -35,7 +35,12 @@ pub extern "C" fn bv_partial(kind: u64, n: u64, j: u64, w: i64, buf: &mut [i64])
 
 // The product of F(n) for the n of a list, no taller than h; the scratch is lent for the factors.
 #[no_mangle]
-pub extern "C" fn bv_cascade(indices: &[u64], h: i64, buf: &mut [i64], scratch: &mut [i64]) -> Answer
+pub extern "C" fn bv_cascade(
+    indices: &[u64],
+    h: i64,
+    buf: &mut [i64],
+    scratch: &mut [i64],
+) -> Answer
     ensures answer { λ r.
         ⌜ r
         ≡ Cascade.answer (now (indices .entry)) h (length (now (buf .entry))) (length (now (scratch .entry))) ⌝ }

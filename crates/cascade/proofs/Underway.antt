@@ -145,7 +145,7 @@ module _ {ns : List ℕ} {b scratch : List ℤ} {so : SoFar} {i : ℕ} (U : Unde
           }
 
       pub over-here : r .over ≡ true → ProductIs ns m r
-      over-here o = 
+      over-here o =
           record {
             over = o ∙ sym (stays-over ns (suc i) (length ns) l (sym tested ∙ o));
             len = T .len ∙ U .roomy .room;

@@ -66,7 +66,13 @@ fn answer_of(indices: &[u64], total: u64, h: u64, b: &mut [i64], scratch: &mut [
 }
 
 // SHORT, or what the making comes to.
-pub(crate) fn answer_in(indices: &[u64], sizes: Sizes, h: u64, buf: &mut [i64], scratch: &mut [i64]) -> Answer
+pub(crate) fn answer_in(
+    indices: &[u64],
+    sizes: Sizes,
+    h: u64,
+    buf: &mut [i64],
+    scratch: &mut [i64],
+) -> Answer
     requires { ⌜ SizesAre (now indices) sizes × Ready (now indices) h ⌝ }
     ensures { λ r.
         ⌜ r

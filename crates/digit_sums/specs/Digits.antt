@@ -2,12 +2,12 @@
 -- product of two series is that of their digits' series, place by place: at the place k stand the products of the
 -- digits a and k - a.
 use mathlib.Core.Path.{_≡_, refl, sym, _∙_, ap, ap₂, fun-ext}
-use mathlib.Core.List.{List, [], _∷_}
-use Prim.Native.Nat.{ℕ, zero, suc, _+_, _*_, _-_, _^_, _<_, _≤_}
+use mathlib.Core.List.{[], _∷_}
+use Prim.Native.Nat.{ℕ, zero, suc, _+_, _-_}
 use native.Mathlib.Omega.{arith}
 use native.Mathlib.Numerals.{add-one}
-use lib.IntN.{ℤ, pos, negsuc, natAbs}
-use lib.Signed.{mag, shrZ}
+use lib.IntN.{ℤ, pos}
+use lib.Signed.{shrZ}
 use Rattle.definitions.specs.Integers.{_⊕_, _⊗_, 0ℤ}
 use Rattle.definitions.specs.Series.{Series, constant, 𝟘, _+ˢ_, _·_}
 use Rattle.integers.specs.Solver.{v, _:+_, _:*_}

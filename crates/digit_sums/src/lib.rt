@@ -13,11 +13,11 @@ ghost use Rattle.light_sums.specs.Parts.{base, rest};
 ghost use Rattle.light_sums.specs.Told.{told};
 ghost use Rattle.light_sums.specs.Terms.{Terms};
 ghost use Rattle.digit_sums.specs.Digits.{digitOf, digits, place, number};
+use entry_steps::read_entry;
 use light_sums::OUTSIDE;
 use light_sums::add_product;
 use light_sums::less_product;
 use light_sums::plus;
-use entry_steps::read_entry;
 
 fn above_digit(v: i64) -> i64
     ensures { λ r. ⌜ r ≡ shrZ v base ⌝ }
@@ -59,7 +59,7 @@ fn with_digit(v: i64, c: i64) -> i64
     add_product(last_digit(c), v, 4194304)
 }
 
-// The sum of the products of f's digits a and b's digits c.
+// The sum of the products of f's digits a and b's digits c: 2^16 products of two numbers up to 2^22, so at most 2^60.
 fn digit_sum(f: &[i64], b: &[i64], i: usize, from: usize, to: usize, a: usize, c: usize) -> i64
     requires { ⌜ Terms (now f) (now b) i from to × (length (now f) ≤ 65536) ⌝ }
     ensures { λ r.
@@ -77,7 +77,7 @@ fn digit_sum(f: &[i64], b: &[i64], i: usize, from: usize, to: usize, a: usize, c
     s
 }
 
-// What stands at the place k.
+// What stands at the place k: at most five such sums.
 fn place_sum(f: &[i64], b: &[i64], i: usize, from: usize, to: usize, k: usize) -> i64
     requires { ⌜ Terms (now f) (now b) i from to × (length (now f) ≤ 65536) × (k ≤ 4) ⌝ }
     ensures { λ r.
@@ -93,7 +93,7 @@ fn place_sum(f: &[i64], b: &[i64], i: usize, from: usize, to: usize, k: usize) -
 }
 
 // The number of what is carried to the place k and what stands from there on: the last digit stays at the place, and
-// what is above it is carried on.
+// what is above it, at most 2^41, is carried on.
 fn from_place(f: &[i64], b: &[i64], i: usize, from: usize, to: usize, k: usize, carry: i64) -> i64
     requires { ⌜ Terms (now f) (now b) i from to × (length (now f) ≤ 65536) × (k ≤ 4)
         × (natAbs carry ≤ 2199023255552) ⌝ }

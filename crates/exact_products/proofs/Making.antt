@@ -1,16 +1,15 @@
 -- A product that is made in place, from the top down: the coefficients from i on stand there, all in range, and below i
 -- the old entries, which are all that the next one down needs.
 use mathlib.Core.Path.{_≡_, refl, sym, _∙_, ap}
-use mathlib.Core.Bool.{true, false, not}
+use mathlib.Core.Bool.{true, false}
 use mathlib.Core.List.{List}
-use Prim.Native.Nat.{ℕ, suc, _+_, _-_, _≤_, _<_}
+use Prim.Native.Nat.{ℕ, _+_, _-_, _≤_, _<_}
 use native.Mathlib.Omega.{arith}
 use lib.ListN.{length, set}
 use lib.IntN.{ℤ}
 use mir.Syntax.{w64}
 use mir.Val.{toZ, ofZ}
-use Rattle.definitions.specs.Integers.{0ℤ}
-use Rattle.definitions.specs.Series.{Series, _·_, firsts}
+use Rattle.definitions.specs.Series.{_·_, firsts}
 use Rattle.definitions.specs.Steps.{entries, inRange, largest, someOutside}
 use Rattle.series.specs.Laws.{agree-mul}
 use Rattle.series.specs.Degree.{ZeroFrom}

@@ -1,17 +1,13 @@
--- A product that is made in place, from the top down. `Ready`: the coefficient at i can be taken. `Made`: those from i on
--- stand there, all in range, and below i the old entries.
-use mathlib.Core.Path.{_≡_, refl, sym, _∙_, ap}
-use mathlib.Core.Bool.{true}
+-- A product in place: when its coefficient at i can be taken, and by which terms.
+use mathlib.Core.Path.{_≡_}
 use mathlib.Core.List.{List}
-use Prim.Native.Nat.{ℕ, suc, _+_, _-_, _≤_, _<_, min}
+use Prim.Native.Nat.{ℕ, _+_, _-_, _≤_, _<_, min}
 use native.Mathlib.Omega.{arith}
 use lib.ListN.{length}
 use lib.IntN.{ℤ}
 use Rattle.definitions.specs.Integers.{0ℤ}
-use Rattle.definitions.specs.Series.{Series, _·_}
-use Rattle.definitions.specs.Steps.{entries, inRange, largest}
+use Rattle.definitions.specs.Steps.{entries}
 use Rattle.step_laws.specs.Firsts.{entries-past}
-use Rattle.series.specs.Laws.{agree-mul}
 use Rattle.light_sums.specs.Terms.{Terms}
 
 pub record Ready (b f : List ℤ) (have i : ℕ) : Type 0 where
@@ -23,8 +19,8 @@ pub record Ready (b f : List ℤ) (have i : ℕ) : Type 0 where
   pub zeros : (k : ℕ) → have ≤ k → k ≤ i → entries b k ≡ 0ℤ
 
 -- the terms that are taken
-pub ready-terms : (b f : List ℤ) (have i from to : ℕ) → Ready b f have i → from ≡ i + 1 - have → to ≡ min (i + 1) (length f)
-    → Terms f b i from to
+pub ready-terms : (b f : List ℤ) (have i from to : ℕ) → Ready b f have i → from ≡ i + 1 - have
+    → to ≡ min (i + 1) (length f) → Terms f b i from to
 ready-terms b f have i from to r e g =
     record {
       inside = r .inside;

@@ -1,7 +1,7 @@
 -- Products computed from the definitions, weights, digits, and what is told at the range's ends.
-use Prim.Native.Nat.{ℕ, _+_, _-_, _^_}
+use Prim.Native.Nat.{_+_, _-_, _^_}
 use mathlib.Core.Path.{_≡_, refl}
-use mathlib.Core.Bool.{Bool, true, false}
+use mathlib.Core.Bool.{true, false}
 use mathlib.Core.List.{List, [], _∷_, map}
 use lib.IntN.{ℤ, pos, negsuc}
 use Rattle.definitions.specs.Integers.{_⊕_, _⊗_}
@@ -53,6 +53,7 @@ least-digits : map (λ a. digitOf a (negsuc (2 ^ 63 - 1))) (0 ∷ 1 ∷ 2 ∷ []
 unfolding digitOf rest
 least-digits = refl
 
-by-places : map (λ i. number (place (entries f) (entries b) i) 5 0) (0 ∷ 1 ∷ 2 ∷ 3 ∷ []) ≡ firsts 4 (entries f · entries b)
+by-places : map (λ i. number (place (entries f) (entries b) i) 5 0) (0 ∷ 1 ∷ 2 ∷ 3 ∷ [])
+    ≡ firsts 4 (entries f · entries b)
 unfolding f b firsts number placeTo digits digitOf rest _·_ _⊕_ _⊗_ entries
 by-places = refl

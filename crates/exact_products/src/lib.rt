@@ -1,6 +1,6 @@
 // Inner: the callers show each `requires`. A polynomial times another, in place and exact: whether every coefficient of
 // the product is within the range from -(2^63 - 1) to 2^63 - 1, and if so the product.
-ghost use Prim.Native.Nat.{ℕ, _+_, _-_, _≤_, _<_, min};
+ghost use Prim.Native.Nat.{_+_, _-_, _≤_, _<_, min};
 ghost use mathlib.Core.Path.{_≡_};
 ghost use mathlib.Core.Bool.{true, not};
 ghost use lib.ListN.{length};
@@ -62,7 +62,9 @@ fn coefficient(b: &[i64], f: &[i64], have: usize, i: usize, light: bool) -> i64
     heavy_sum(f, b, i, from, to)
 }
 
-// b has `have` entries and zeros after them. From the top down, an entry needs the old ones up to its own place alone.
+// b, which has `have` entries and zeros after them, times f, in place: from the top down, an entry needs the old ones
+// up to its own place alone. Tells whether all are in range, and stops at the first that is not. A factor that is not
+// light, of a weight of 2^30 or more, takes the slow way.
 pub fn multiply(b: &mut [i64], f: &[i64], have: usize) -> bool
     requires { ⌜ (1 ≤ have) × (1 ≤ length (now f)) × (length (now f) ≤ 65536)
         × (have + length (now f) ≡ length (now b) + 1) × ZeroFrom have (entries (now b)) ⌝ }

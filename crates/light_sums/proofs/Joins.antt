@@ -57,10 +57,13 @@ module _ (m k : ℕ) (e : k * m ≡ 2 ^ 63) (two : 2 ≤ m) where
     above-seen : seen h ≡ shrZ v m
     above-seen = handed (shr-fits m v f) is
 
+    above-small : mag (shrZ v m) < k
+    above-small = mag-above m k (omega arith) v (omega (arith, f .sfits))
+
     pub rest-asks : SFits w64 (seen h ⊗ pos m) × SFits w64 (seen v ⊝ seen h ⊗ pos m)
     rest-asks =
         rw (above-seen, toZ-ofZ f) (
-          record { sfits = in-times m k e 0 (omega arith) (shrZ v m) (mag-above m k (omega arith) v (omega (arith, f .sfits))) },
+          record { sfits = in-times m k e 0 (omega arith) (shrZ v m) above-small },
           rw (rest-is v) (rest-fits v),
         )
 

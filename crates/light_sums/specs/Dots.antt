@@ -53,11 +53,13 @@ dot-past : (f g : Series) (i n k : ℕ) → ((j : ℕ) → n ≤ j → j < k + n
 unfolding dot
 dot-past f g i n zero h = ap (dot f g i) (NatL.zero-add n)
 dot-past f g i n (suc k) h =
-    ap (dot f g i) (NatL.suc-add k n) ∙ ap₂ (λ a b. a ⊕ b ⊗ g (i - (k + n))) (dot-past f g i n k (λ j a l. h j a (omega arith)))
+    ap (dot f g i) (NatL.suc-add k n)
+    ∙ ap₂ (λ a b. a ⊕ b ⊗ g (i - (k + n))) (dot-past f g i n k (λ j a l. h j a (omega arith)))
     (h (k + n) (omega arith) (omega arith))
     ∙ ap (λ a. dot f g i n ⊕ a) (zero-⊗ (g (i - (k + n)))) ∙ ⊕-zero (dot f g i n)
 
 pub dot-whole : (f g : Series) (i n : ℕ) → n ≤ suc i → ((j : ℕ) → n ≤ j → j ≤ i → f j ≡ 0ℤ)
     → dot f g i n ≡ (f · g) i
 dot-whole f g i n l h =
-    sym (dot-past f g i n (suc i - n) (λ j a b. h j a (omega arith))) ∙ ap (dot f g i) (NatL.sub-add-cancel l) ∙ dot-product f g i
+    sym (dot-past f g i n (suc i - n) (λ j a b. h j a (omega arith))) ∙ ap (dot f g i) (NatL.sub-add-cancel l)
+    ∙ dot-product f g i

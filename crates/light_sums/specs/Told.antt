@@ -2,14 +2,12 @@
 -- number. What is put under a number that is outside leaves it outside, so it may be told before.
 use mathlib.Core.Path.{_≡_, refl, sym, _∙_, ap}
 use mathlib.Core.Bool.{Bool, true, false, cond, true≢false}
-use Prim.Native.Nat.{ℕ, zero, suc, _+_, _*_, _^_, _<_, _≤_}
-use native.Mathlib.Nat.{le-trans, mul-le-mul-left, mul-le-mul-right}
+use Prim.Native.Nat.{ℕ, suc, _*_, _^_, _<_, _≤_}
+use native.Mathlib.Nat.{mul-le-mul-left, mul-le-mul-right}
 use native.Mathlib.Omega.{arith}
 use borrow.Author.Tests.{le-leb, lt-leb, ltb-true, ltb-false}
-use lib.IntN.{ℤ, pos, negsuc, natAbs}
+use lib.IntN.{ℤ, pos, negsuc}
 use lib.Signed.{mag, ltZ}
-use mir.Syntax.{w64}
-use mir.Val.{SFits}
 use Rattle.definitions.specs.Integers.{_⊕_, _⊗_}
 use Rattle.definitions.specs.Steps.{inRange, largest}
 use Rattle.integers.specs.Whole.{⊕-zero}

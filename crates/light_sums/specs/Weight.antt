@@ -1,5 +1,5 @@
--- The weight of a list, its magnitudes added up: a coefficient of its product with a series is no larger than the weight
--- times a bound of the other's coefficients (`product-bound`).
+-- The weight of a list, its magnitudes added up: a coefficient of its product with a series is no larger than the
+-- weight times a bound of the other's coefficients (`product-bound`).
 use mathlib.Core.Path.{_≡_, refl, ap}
 use mathlib.Core.List.{List, [], _∷_}
 use Prim.Native.Nat.{ℕ, zero, suc, _+_, _*_, _-_, _≤_}
@@ -71,7 +71,8 @@ weightTo-whole (c ∷ cs) = omega (arith, weightTo-tail (entries (c ∷ cs)) (le
 pub dot-bound : (f g : Series) (h : ℕ) → Bounded h g → (i n : ℕ) → natAbs (dot f g i n) ≤ weightTo f n * h
 unfolding dot weightTo
 dot-bound f g h b i zero = omega arith
-dot-bound f g h b i (suc n) = abs-more (dot f g i n) (f n) (g (i - n)) (weightTo f n) h (dot-bound f g h b i n) (b (i - n))
+dot-bound f g h b i (suc n) =
+    abs-more (dot f g i n) (f n) (g (i - n)) (weightTo f n) h (dot-bound f g h b i n) (b (i - n))
 
 -- the coefficients of a product are no larger than a factor's weight times a bound of the other
 pub product-bound : (l : List ℤ) (g : Series) (h : ℕ) → Bounded h g → (i : ℕ) → natAbs ((entries l · g) i)

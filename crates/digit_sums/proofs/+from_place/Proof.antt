@@ -12,7 +12,8 @@ use Rattle.light_sums.specs.Parts.{base, rest}
 use Rattle.light_sums.specs.Told.{told}
 use Rattle.digit_sums.specs.Digits.{place, number}
 use Rattle.light_sums.proofs.Joins.{told-handed}
-use Rattle.digit_sums.proofs.Places.{here-most, here-asks, here-seen, carry-seen, carry-small, last-place, next-place}
+use Rattle.digit_sums.proofs.Places.{here-of, here-most, here-asks, here-seen, carry-seen, carry-small}
+use Rattle.digit_sums.proofs.Places.{last-place, next-place}
 use Prim.Native.Nat.{ℕ, _+_, _-_, _<_, _≤_}
 use borrow.Fn.Kinds.{In}
 use borrow.Fn.PlainCycle.{Measures, is, falls, and}
@@ -27,8 +28,8 @@ use Rattle.digit_sums.proofs.+from_place.{statement}
 use Rattle.digit_sums.proofs.+from_place.Tie.{close}
 
 -- what stands at the places of a coefficient
-abbrev digits-of : List ℤ → List ℤ → ℕ → ℕ → ℤ
-digits-of f b i = place (entries f) (entries b) i
+abbrev at : List ℤ → List ℤ → ℕ → ℕ → ℤ
+at f b i = place (entries f) (entries b) i
 
 -- another place is left
 less : (k : ℕ) → k ≤ 4 → (k ≡ 4 → ⊥) → k < 4
@@ -79,8 +80,9 @@ from-place-plus-requires : (t : ℕ) → from-place-lts.Need-plus-requires (
 ) (from-place-at t) from-place.Post
 from-place-plus-requires t c κs =
     let p = c .before in
-    here-asks (digits-of (p .args .f .now) (p .args .b .now) (p .args .i)) (p .args .k) (p .args .carry) (p .fits .carry) (p .pre .1 .3)
-    (c .place-sum .ensures .0) (c .place-sum .ensures .1)
+    here-asks
+    (here-of (p .args .f .now) (p .args .b .now) (p .args .i) (p .args .k) (p .fits .carry) (p .pre .1 .3)
+    (c .place-sum .ensures))
 
 from-place-returns : (t : ℕ) → from-place-lts.Need-returns (
   place-sum-reads.Asked,
@@ -97,11 +99,11 @@ from-place-returns : (t : ℕ) → from-place-lts.Need-returns (
 from-place-returns t c =
     let q = c .before .before in
     let p = q .before in
-    here-seen (digits-of (p .args .f .now) (p .args .b .now) (p .args .i)) (p .args .k) (p .args .carry) (p .fits .carry) (p .pre .1 .3)
-    (q .place-sum .ensures .0) (q .place-sum .ensures .1) (c .before .plus .ensures)
-    ∙ last-place (digits-of (p .args .f .now) (p .args .b .now) (p .args .i)) (p .args .k) (p .args .carry) (c .if1 .taken)
-    (here-most (digits-of (p .args .f .now) (p .args .b .now) (p .args .i)) (p .args .k) (p .args .carry) (p .fits .carry) (p .pre .1 .3)
-    (q .place-sum .ensures .0) (q .place-sum .ensures .1))
+    let h = here-of (p .args .f .now) (p .args .b .now) (p .args .i) (p .args .k) (p .fits .carry) (p .pre .1 .3)
+    (q .place-sum .ensures) in
+    here-seen h (c .before .plus .ensures)
+    ∙ last-place (at (p .args .f .now) (p .args .b .now) (p .args .i)) (p .args .k) (p .args .carry) (c .if1 .taken)
+    (here-most h)
 
 from-place-add-from-place : (t : ℕ) → from-place-lts.Need-add-from-place (
   place-sum-reads.Asked,
@@ -146,16 +148,14 @@ from-place-from-place-requires : (t : ℕ) → from-place-lts.Need-from-place-re
 from-place-from-place-requires t c κs =
     let q = c .before .before .before in
     let p = q .before in
-    let most = here-most (digits-of (p .args .f .now) (p .args .b .now) (p .args .i)) (p .args .k) (p .args .carry) (p .fits .carry) (p .pre .1 .3)
-    (q .place-sum .ensures .0) (q .place-sum .ensures .1) in
-    let sum = here-seen (digits-of (p .args .f .now) (p .args .b .now) (p .args .i)) (p .args .k) (p .args .carry) (p .fits .carry) (p .pre .1 .3)
-    (q .place-sum .ensures .0) (q .place-sum .ensures .1) (c .before .before .plus .ensures) in (
+    let h = here-of (p .args .f .now) (p .args .b .now) (p .args .i) (p .args .k) (p .fits .carry) (p .pre .1 .3)
+    (q .place-sum .ensures) in (
       subst (λ n. 5 - (p .args .k + 1) < n) (p .pre .0) (below (p .args .k) (p .pre .1 .2) (c .before .if1 .left)),
       (
         p .pre .1 .0,
         p .pre .1 .1,
         room (p .args .k) (p .pre .1 .2) (c .before .if1 .left),
-        carry-small most sum (c .above-digit .ensures),
+        carry-small (here-most h) (here-seen h (c .before .before .plus .ensures)) (c .above-digit .ensures),
       ),
     )
 
@@ -189,20 +189,19 @@ from-place-returns-2 t c =
     let d = c .before .before in
     let q = d .before .before .before in
     let p = q .before in
-    let at = digits-of (p .args .f .now) (p .args .b .now) (p .args .i) in
+    let a = at (p .args .f .now) (p .args .b .now) (p .args .i) in
     let k = p .args .k in
-    let n = p .args .carry ⊕ at k in
-    let most = here-most (digits-of (p .args .f .now) (p .args .b .now) (p .args .i)) (p .args .k) (p .args .carry) (p .fits .carry) (p .pre .1 .3)
-    (q .place-sum .ensures .0) (q .place-sum .ensures .1) in
-    let sum = here-seen (digits-of (p .args .f .now) (p .args .b .now) (p .args .i)) (p .args .k) (p .args .carry) (p .fits .carry) (p .pre .1 .3)
-    (q .place-sum .ensures .0) (q .place-sum .ensures .1) (d .before .before .plus .ensures) in
-    let above = carry-seen most sum (d .above-digit .ensures) in
-    let upper : seen (c .before .from-place .result) ≡ told (shrZ n base ⊕ number at (5 - (k + 1)) (k + 1)) =
-    told-handed (shrZ n base ⊕ number at (5 - (k + 1)) (k + 1))
-    (c .before .from-place .ensures ∙ ap (λ a. told (a ⊕ number at (5 - (k + 1)) (k + 1))) above) in
-    told-handed (p .args .carry ⊕ number at (5 - k) k)
-    (c .with-digit .ensures ∙ ap₂ (λ a b. told (a ⊗ pos base ⊕ pos (rest base b))) upper sum
-    ∙ next-place at k (p .args .carry) (less k (p .pre .1 .2) (d .before .if1 .left)) n refl)
+    let n = p .args .carry ⊕ a k in
+    let h = here-of (p .args .f .now) (p .args .b .now) (p .args .i) (p .args .k) (p .fits .carry) (p .pre .1 .3)
+    (q .place-sum .ensures) in
+    let sum = here-seen h (d .before .before .plus .ensures) in
+    let above = carry-seen (here-most h) sum (d .above-digit .ensures) in
+    let upper : seen (c .before .from-place .result) ≡ told (shrZ n base ⊕ number a (5 - (k + 1)) (k + 1)) =
+    told-handed (shrZ n base ⊕ number a (5 - (k + 1)) (k + 1))
+    (c .before .from-place .ensures ∙ ap (λ m. told (m ⊕ number a (5 - (k + 1)) (k + 1))) above) in
+    told-handed (p .args .carry ⊕ number a (5 - k) k)
+    (c .with-digit .ensures ∙ ap₂ (λ m l. told (m ⊗ pos base ⊕ pos (rest base l))) upper sum
+    ∙ next-place a k (p .args .carry) (less k (p .pre .1 .2) (d .before .if1 .left)) n refl)
 
 pub +from-place-spec : {M : Type 1} → statement M
 +from-place-spec = close μ-from-place λ t. from-place-lts.spec (

@@ -1,5 +1,5 @@
 -- `heavy_sum`: from the first place on, nothing being carried to it.
-use mathlib.Core.Path.{_≡_, _∙_, ap}
+use mathlib.Core.Path.{_∙_, ap}
 use borrow.Author.Needs.{needs}
 use Rattle.definitions.specs.Series.{_·_}
 use Rattle.definitions.specs.Steps.{entries}

@@ -1,6 +1,6 @@
 -- `place_sum`: the sums of products of the digits a and k - a, one after the other.
 use Prim.Native.Nat.{_+_, _*_, _-_, _≤_}
-use mathlib.Core.Path.{_≡_, refl, sym, _∙_, ap, ap₂}
+use mathlib.Core.Path.{_≡_, sym, _∙_, ap}
 use native.Mathlib.Omega.{arith}
 use native.Mathlib.Numerals.{add-one}
 use lib.IntN.{ℤ, natAbs}
@@ -11,7 +11,7 @@ use Rattle.definitions.specs.Series.{_·_}
 use Rattle.definitions.specs.Steps.{entries}
 use Rattle.step_laws.specs.Signed.{abs-⊕}
 use Rattle.step_laws.specs.Machine.{seen, handed}
-use Rattle.digit_sums.specs.Digits.{digits, placeTo, place, place-more, place-none}
+use Rattle.digit_sums.specs.Digits.{digits, placeTo, place-more, place-none}
 use Rattle.light_sums.proofs.Joins.{small-fits}
 use Rattle.digit_sums.proofs.place_sum.Statement.{statement}
 use Rattle.digit_sums.proofs.place_sum.Tie as tie

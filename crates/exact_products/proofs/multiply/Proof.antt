@@ -1,5 +1,5 @@
 -- `multiply`: from the top down, each coefficient stands where it belongs and is in range, or it stops.
-use Prim.Native.Nat.{ℕ, _-_, _≤_}
+use Prim.Native.Nat.{_-_, _≤_}
 use mathlib.Core.Path.{_≡_, sym, _∙_, ap, subst}
 use mathlib.Core.Bool.{not, false≢true}
 use mathlib.Core.List.{List}
@@ -12,7 +12,8 @@ use Rattle.definitions.specs.Steps.{entries}
 use Rattle.step_laws.specs.Machine.{seen}
 use Rattle.light_sums.specs.Told.{told}
 use Rattle.light_sums.proofs.Joins.{told-handed}
-use Rattle.exact_products.proofs.Making.{Made, made-none, made-ready, made-same, made-next, made-out, told-taken, told-left, made-all, made-in}
+use Rattle.exact_products.proofs.Making.{Made, made-none, made-ready, made-same, made-next, made-out}
+use Rattle.exact_products.proofs.Making.{told-taken, told-left, made-all, made-in}
 use Rattle.exact_products.proofs.multiply.Statement.{statement}
 use Rattle.exact_products.proofs.multiply.Tie as tie
 

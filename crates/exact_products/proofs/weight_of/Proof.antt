@@ -57,7 +57,9 @@ loop-less : tie.Need-loop-less Inv-loop μ-loop
 loop-less c = omega arith
 
 loop-again : tie.Need-loop-again Inv-loop μ-loop
-loop-again c = (omega arith, omega (arith, upto (c .before), c .before .before .before .before .loop .inv .1), omega arith)
+loop-again c =
+    let l = c .before .before .before .before .loop in
+    (omega arith, omega (arith, upto (c .before), l .inv .1), omega arith)
 
 returns-2 : tie.Need-returns-2 Inv-loop μ-loop
 returns-2 c =

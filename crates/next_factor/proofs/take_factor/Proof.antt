@@ -50,7 +50,7 @@ returns c =
     let g = c .before .before .before .before in
     let p = start g in (
       rw (sym (c .out-of-range .ensures))
-      at (gain-over (p .pre .0) (p .pre .1) (g .make-factor .ensures) (c .before .before .product-fits .ensures)
+          at (gain-over (p .pre .0) (p .pre .1) (g .make-factor .ensures) (c .before .before .product-fits .ensures)
           (not-true _ (c .before .if1 .taken))),
       g .make-factor .ensures .len,
     )
@@ -93,7 +93,7 @@ returns-2 c =
     let g = c .before .before .before .before .before .before .before .before .before .before .before in
     let p = start g in (
       rw (sym (c .out-of-range2 .ensures))
-      at (coefficient-over (p .pre .0) (p .pre .1) (g .make-factor .ensures) (c .before .before .before .times .ensures)
+          at (coefficient-over (p .pre .0) (p .pre .1) (g .make-factor .ensures) (c .before .before .before .times .ensures)
           (not-true _ (c .before .if2 .taken))),
       g .make-factor .ensures .len,
     )
@@ -112,7 +112,7 @@ mul-t21 c =
     let e = c .before .before .before .before .before .before .before .before .before .before in
     let g = e .before .before .before in
     let small : start g .args .so .gain * g .make-factor .result .gain ≤ largest
-        = leb-true _ _ (sym (e .before .product-fits .ensures) ∙ not-false _ (e .if1 .left)) in
+    = leb-true _ _ (sym (e .before .product-fits .ensures) ∙ not-false _ (e .if1 .left)) in
     record { fits = omega arith }
 
 same-length-4 : tie.Need-same-length-4

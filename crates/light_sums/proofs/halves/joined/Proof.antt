@@ -1,7 +1,6 @@
 -- `halves::joined`: what lies at -2^31 or above and below 2^31 can be put together; any other number makes one that is
 -- outside.
 use mathlib.Core.Path.{_≡_, refl, sym}
-use mathlib.Core.Bool.{true, false}
 use native.Mathlib.Omega.{arith}
 use Prim.Native.Nat.{_≤_, _<_}
 use lib.IntN.{pos}
@@ -37,7 +36,8 @@ between c =
 add-product-requires : tie.Need-add-product-requires
 add-product-requires c κs =
     let p = c .before .before in
-    joined-asks half 2147483648 refl (omega arith) (p .args .v) (p .args .d) (p .fits .v) (p .fits .d) (p .pre) (between c)
+    joined-asks half 2147483648 refl (omega arith) (p .args .v) (p .args .d) (p .fits .v) (p .fits .d) (p .pre)
+    (between c)
 
 returns-3 : tie.Need-returns-3
 returns-3 c =

@@ -9,7 +9,7 @@ use mir.Facts.{toZ-ofZ}
 use Rattle.definitions.specs.Integers.{_⊕_, _⊗_}
 use Rattle.definitions.specs.Steps.{entries}
 use Rattle.step_laws.specs.Machine.{seen, handed}
-use Rattle.light_sums.specs.Light.{halfOf, LightTo}
+use Rattle.light_sums.specs.Light.{halfOf}
 use Rattle.light_sums.proofs.Lights.{half-fits, more, more-asks}
 use Rattle.light_sums.proofs.light.add_term.Statement.{statement}
 use Rattle.light_sums.proofs.light.add_term.Tie as tie

@@ -1,9 +1,9 @@
 -- `light::half_of`: one half or the other.
-use mathlib.Core.Path.{_≡_, _∙_, ap}
+use mathlib.Core.Path.{_∙_, ap}
 use mathlib.Core.Bool.{true, false}
 use borrow.Author.Needs.{needs}
 use mir.Facts.{toZ-ofZ}
-use Rattle.step_laws.specs.Machine.{seen, handed}
+use Rattle.step_laws.specs.Machine.{handed}
 use Rattle.light_sums.specs.Terms.{highHalf, lowHalf}
 use Rattle.light_sums.specs.Light.{halfOf}
 use Rattle.light_sums.proofs.Lights.{half-fits}
