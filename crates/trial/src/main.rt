@@ -10,13 +10,14 @@ use libc::STDOUT_FILENO;
 
 // A whole line. Its words are a name and numbers; then, each where there are some, indices, entries, entries of a
 // second buffer, and bytes.
-fn answer(line: &[u8], list: &mut [u64], buf: &mut [i64], scratch: &mut [i64], space: &mut [u8]) {
+fn answer(line: &[u8], buf: &mut [i64], scratch: &mut [i64], space: &mut [u8]) {
     let name = trial_lines::name(line);
     let asked = trial_lines::numbers(line, name.next);
-    let indices = trial_lines::indices(line, asked.next, list);
+    let indices = trial_lines::indices(line, asked.next);
     let entries = trial_lines::entries(line, indices.next, buf);
     let others = trial_lines::entries(line, entries.next, scratch);
     let bytes = trial_lines::bytes(line, others.next, space);
+    let values = indices.values;
     let i = indices.count;
     let k = entries.count;
     let j = others.count;
@@ -25,7 +26,7 @@ fn answer(line: &[u8], list: &mut [u64], buf: &mut [i64], scratch: &mut [i64], s
         trial_pair_doors::ask(
             name.bits,
             asked,
-            &list[..i],
+            &values[..i],
             &mut buf[..k],
             &mut scratch[..j],
             &mut space[..m],
@@ -36,17 +37,11 @@ fn answer(line: &[u8], list: &mut [u64], buf: &mut [i64], scratch: &mut [i64], s
 }
 
 // Line after line.
-fn answer_all(
-    input: &[u8],
-    list: &mut [u64],
-    buf: &mut [i64],
-    scratch: &mut [i64],
-    space: &mut [u8],
-) {
+fn answer_all(input: &[u8], buf: &mut [i64], scratch: &mut [i64], space: &mut [u8]) {
     let mut at = 0;
     while at < input.len() {
         let end = trial_lines::line_end(input, at);
-        answer(&input[at..end], list, buf, scratch, space);
+        answer(&input[at..end], buf, scratch, space);
         at = end + 1;
     }
 }
@@ -61,12 +56,10 @@ fn large() -> [u8; 4194304]
 fn main() {
     let mut input = large();
     let mut space = io::large_buffer();
-    let mut indices = [0u64; 12];
-    let list: &mut [u64] = &mut indices;
     let mut entries = [0i64; 65536];
     let buf: &mut [i64] = &mut entries;
     let mut others = [0i64; 65536];
     let scratch: &mut [i64] = &mut others;
     let n = io::read_full(STDIN_FILENO, &mut input);
-    answer_all(&input[..n], list, buf, scratch, &mut space);
+    answer_all(&input[..n], buf, scratch, &mut space);
 }

@@ -27,6 +27,13 @@ pub struct Row {
     pub next: usize,
 }
 
+// Up to 12 indices, and how many.
+pub struct Listed {
+    pub values: [u64; 12],
+    pub count: usize,
+    pub next: usize,
+}
+
 // How many entries or bytes of a buffer are lent.
 pub struct Lent {
     pub count: usize,
@@ -131,29 +138,23 @@ fn of_bytes(asked: usize, a: &[u8]) -> usize
     if asked <= a.len() { asked } else { a.len() }
 }
 
-// The same of indices.
-fn of_indices(asked: usize, a: &[u64]) -> usize
-    ensures { λ r. ⌜ Lends r (now (a .entry)) ⌝ }
-{
-    if asked <= a.len() { asked } else { a.len() }
-}
-
 // A list of indices: after an n, with commas between; or none, where the word has no n. More than there is room for is
 // not cut but no good word.
-pub fn indices(line: &[u8], at: usize, buf: &mut [u64]) -> Lent
-    ensures { λ r. ⌜ Lends (r .count) (now (buf .exit)) ⌝ }
+pub fn indices(line: &[u8], at: usize) -> Listed
+    ensures { λ r. ⌜ Lends (r .count) (r .values) ⌝ }
 {
     let first = wrapping_add_usize(at, 1);
     let second = wrapping_add_usize(at, 2);
+    let mut values = [0u64; 12];
     let mut next = first;
     let mut before = b'n';
     let mut count = 0;
-    while count < buf.len() {
+    while count < 12 {
         let v = number(line, next, before);
         if v.next == NOWHERE {
             break;
         }
-        buf[count] = v.bits;
+        values[count] = v.bits;
         count += 1;
         next = v.next;
         before = b',';
@@ -163,8 +164,9 @@ pub fn indices(line: &[u8], at: usize, buf: &mut [u64]) -> Lent
     } else {
         at
     };
-    Lent {
-        count: of_indices(count, buf),
+    Listed {
+        values,
+        count,
         next: if 0 < count { next } else { none },
     }
 }

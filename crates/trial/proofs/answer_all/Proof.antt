@@ -8,15 +8,14 @@ use Rattle.trial.proofs.answer_all.Statement.{statement}
 use Rattle.trial.proofs.answer_all.Tie as tie
 
 abbrev Inv-loop : tie.InvT-loop
-Inv-loop input list₀ buf₀ scratch₀ space₀ at₀ list buf scratch space at =
-    (length list ≡ length list₀) × (length buf ≡ length buf₀) × (length scratch ≡ length scratch₀) ×
-    (length space ≡ length space₀)
+Inv-loop input buf₀ scratch₀ space₀ at₀ buf scratch space at =
+    (length buf ≡ length buf₀) × (length scratch ≡ length scratch₀) × (length space ≡ length space₀)
 
 abbrev μ-loop : tie.MeasureT-loop
-μ-loop input list₀ buf₀ scratch₀ space₀ at₀ list buf scratch space at = length input + 1 - at
+μ-loop input buf₀ scratch₀ space₀ at₀ buf scratch space at = length input + 1 - at
 
 loop-holds : tie.Need-loop-holds Inv-loop μ-loop
-loop-holds c = (refl, refl, refl, refl)
+loop-holds c = (refl, refl, refl)
 
 line-end-requires : tie.Need-line-end-requires Inv-loop μ-loop
 line-end-requires c κs = omega arith
@@ -51,9 +50,6 @@ same-length-2 c = search needs
 same-length-3 : tie.Need-same-length-3 Inv-loop μ-loop
 same-length-3 c = search needs
 
-same-length-4 : tie.Need-same-length-4 Inv-loop μ-loop
-same-length-4 c = search needs
-
 returns : tie.Need-returns Inv-loop μ-loop
 returns c = tt
 
@@ -75,5 +71,4 @@ answer-all-spec =
     same-length
     same-length-2
     same-length-3
-    same-length-4
     returns)

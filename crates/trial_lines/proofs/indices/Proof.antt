@@ -1,18 +1,18 @@
--- `trial_lines::indices` is safe and ends: the buffer keeps its length, and the place stays within it.
+-- `trial_lines::indices` is safe and ends: there are twelve places.
 use Prim.Native.Nat.{_-_, _≤_}
 use mathlib.Core.Path.{_≡_}
 use native.Mathlib.Omega.{arith}
 use borrow.Author.Needs.{needs}
-use lib.ListN.{length}
+use lib.ListN.{length, length-take}
 use Rattle.trial_lines.proofs.indices.Statement.{statement}
 use Rattle.trial_lines.proofs.indices.Tie as tie
 
 abbrev Inv-loop : tie.InvT-loop
-Inv-loop line at buf₀ first second next₀ before₀ count₀ buf next before count =
-    (count ≤ length buf₀) × (length buf ≡ length buf₀)
+Inv-loop line at first second values₀ next₀ before₀ count₀ values next before count =
+    (count ≤ 12) × (length values ≡ 12)
 
 abbrev μ-loop : tie.MeasureT-loop
-μ-loop line at buf₀ first second next₀ before₀ count₀ buf next before count = length buf₀ - count
+μ-loop line at first second values₀ next₀ before₀ count₀ values next before count = 12 - count
 
 wrapping-add-usize-requires : tie.Need-wrapping-add-usize-requires Inv-loop μ-loop
 wrapping-add-usize-requires c κs = tt
@@ -26,11 +26,11 @@ loop-holds c = omega arith
 number-requires : tie.Need-number-requires Inv-loop μ-loop
 number-requires c κs = tt
 
-mul-buf : tie.Need-mul-buf Inv-loop μ-loop
-mul-buf c = omega arith
+mul-values : tie.Need-mul-values Inv-loop μ-loop
+mul-values c = omega arith
 
-slice-write-buf : tie.Need-slice-write-buf Inv-loop μ-loop
-slice-write-buf c = omega arith
+array-write-values : tie.Need-array-write-values Inv-loop μ-loop
+array-write-values c = omega arith
 
 add-count : tie.Need-add-count Inv-loop μ-loop
 add-count c = omega arith
@@ -44,20 +44,11 @@ loop-again c = search needs
 byte-at-requires : tie.Need-byte-at-requires Inv-loop μ-loop
 byte-at-requires c κs = tt
 
-of-indices-requires : tie.Need-of-indices-requires Inv-loop μ-loop
-of-indices-requires c κs = tt
-
-same-length : tie.Need-same-length Inv-loop μ-loop
-same-length c = search needs
-
 returns : tie.Need-returns Inv-loop μ-loop
-returns c = search needs
-
-same-length-2 : tie.Need-same-length-2 Inv-loop μ-loop
-same-length-2 c = search needs
+returns c = (omega arith, rw length-take (omega arith))
 
 returns-2 : tie.Need-returns-2 Inv-loop μ-loop
-returns-2 c = search needs
+returns-2 c = (omega arith, rw length-take (omega arith))
 
 pub indices-spec : {M : Type 1} → statement M
 indices-spec =
@@ -69,14 +60,11 @@ indices-spec =
     wrapping-add-usize-requires-2
     loop-holds
     number-requires
-    mul-buf
-    slice-write-buf
+    mul-values
+    array-write-values
     add-count
     loop-less
     loop-again
     byte-at-requires
-    of-indices-requires
-    same-length
     returns
-    same-length-2
     returns-2)
