@@ -4,7 +4,8 @@
  *   F(n)  the cyclotomic polynomial: the product of F(d) over all divisors d of n is z^n - 1.
  *   I(n)  the inverse one: F(n) times I(n) is z^n - 1.
  *
- * for n from 1 to 65535, with whole 64-bit coefficients, lowest degree first: coeffs[i] belongs to z^i.
+ * for n from 1 to 65535, and cascades, which are products of up to eight F(n); with whole 64-bit coefficients, lowest
+ * degree first: coeffs[i] belongs to z^i.
  *
  * Link with libbonvedrick.a (`rt staticlib bonvedrick` writes target/staticlib/libbonvedrick.a, for x86-64).
  *
@@ -18,7 +19,7 @@
  *   A slice is a pointer and the number of its elements (not of its bytes). The number may be 0, and then the pointer
  *   may be NULL: an empty slice. Otherwise the pointer must be aligned, as C has it, and point to that many elements,
  *   of any contents, that nobody else writes during the call and, where the pointer is not const, nobody else reads: so
- *   the two slices of one call must not overlap. This is all that is asked, and no callee in C could test it.
+ *   no two slices of one call may overlap. This is all that is asked, and no callee in C could test it.
  *
  *   An element past the part that a function says it writes is never changed, and what a function says is untouched is
  *   not written at all or stands again as it was when the call returns.
@@ -46,15 +47,18 @@ extern "C" {
  * PATCH moves for everything else.
  */
 #define BV_VERSION_MAJOR 1
-#define BV_VERSION_MINOR 0
+#define BV_VERSION_MINOR 1
 #define BV_VERSION_PATCH 0
 
 /* The two kinds of polynomial. */
 #define BV_F UINT64_C(1) /* F(n), of degree phi(n): how many numbers from 1 to n share no factor above 1 with n */
 #define BV_I UINT64_C(2) /* I(n), of degree n - phi(n) */
 
-/* The largest index, and the largest size of a step. */
+/* The largest index, and the largest size of a step; and the largest degree of a cascade. */
 #define BV_MOST UINT64_C(65535)
+
+/* The most indices of a cascade. */
+#define BV_MOST_FACTORS 8
 
 /*
  * No limit: for the height limit h and for the working limit w.
@@ -74,8 +78,9 @@ extern "C" {
 #define BV_REFUSED_KIND UINT64_C(1)    /* kind is not 1 or 2 */
 #define BV_REFUSED_INDEX UINT64_C(2)   /* n is 0 or above 65535; bv_partial: also where n has no odd prime factor */
 #define BV_REFUSED_LIMIT UINT64_C(3)   /* the height limit h or the working limit w is below 1 */
-#define BV_REFUSED_SHORT UINT64_C(4)   /* the slice to be filled is too short */
-#define BV_REFUSED_OVER UINT64_C(5)    /* a step would pass w in magnitude; bv_write: a coefficient is -2^63 */
+#define BV_REFUSED_SHORT UINT64_C(4)   /* the slice to be filled is too short; bv_cascade: or the scratch is */
+#define BV_REFUSED_OVER UINT64_C(5)    /* a step would pass w in magnitude; bv_write: a coefficient is -2^63;
+                                          bv_cascade: a product of first factors is out of range */
 #define BV_REFUSED_TALL UINT64_C(6)    /* a coefficient is larger in magnitude than h */
 #define BV_REFUSED_STEP UINT64_C(7)    /* size is 0 or above 65535; bv_partial: there are fewer than j divisors */
 #define BV_REFUSED_CUT UINT64_C(8)     /* bv_read: the record ends early */
@@ -85,6 +90,7 @@ extern "C" {
 #define BV_REFUSED_RWIDTH UINT64_C(13) /* bv_read: the header's width, at byte 3, is not 1, 2, 4 or 8 */
 #define BV_REFUSED_RINDEX UINT64_C(14) /* bv_read: the header's n, at byte 4, is 0 */
 #define BV_REFUSED_RCOUNT UINT64_C(15) /* bv_write: count is not degree + 1; bv_read: nor is the header's, at byte 6 */
+#define BV_REFUSED_LIST UINT64_C(16)   /* bv_cascade: no index, more than 8, or a total degree above 65535 */
 /* 10 was given where any field of a header was wrong; it is given no more. */
 
 /* The name of a code, as after BV_ or BV_REFUSED_: "DONE", "KIND", ..; "?" for any other number, 10 too. */
@@ -105,6 +111,7 @@ static inline const char *bv_name(uint64_t code) {
     case BV_REFUSED_RWIDTH: return "RWIDTH";
     case BV_REFUSED_RINDEX: return "RINDEX";
     case BV_REFUSED_RCOUNT: return "RCOUNT";
+    case BV_REFUSED_LIST: return "LIST";
     default: return "?";
     }
 }
@@ -114,7 +121,8 @@ static inline const char *bv_name(uint64_t code) {
 typedef struct bv_answer {
     uint64_t code;
     uint64_t degree;    /* of the polynomial: degree + 1 entries are needed, and filled */
-    uint64_t additions; /* the count of its steps: for each, the entries of the kept half from its size on */
+    uint64_t additions; /* the count of its steps: for each, the entries of the kept half from its size on; of a
+                           cascade 0 */
     uint64_t height;    /* the largest magnitude among its coefficients */
     uint64_t peak;      /* the lowest degree at which that magnitude occurs */
     int64_t gain;       /* the sum of its coefficients */
@@ -261,6 +269,37 @@ bv_written bv_write(uint64_t kind, uint64_t n, const int64_t *coeffs, size_t cou
  * bv_write chooses the next width.
  */
 bv_record bv_read(const uint8_t *bytes, size_t len, int64_t *coeffs, size_t count);
+
+/*
+ * A cascade: the product of F(n) over a list of indices, in which an index may come again. That is a filter made of
+ * several stages, one after the other: F(2) F(4) F(8) = 1 + z + .. + z^7 is a decimator by 8. Its degree, the total
+ * degree, is the sum of the degrees of its factors; no coefficient may be larger in magnitude than h.
+ *
+ *   code               given where                                degree told   buf                      scratch
+ *   BV_DONE            nothing below applies                      yes           entries 0 to degree:     all 0
+ *                                                                               the product
+ *   BV_REFUSED_LIST    count is 0 or above 8                      0             untouched                untouched
+ *   BV_REFUSED_INDEX   an index is 0 or above 65535               0             untouched                untouched
+ *   BV_REFUSED_LIST    the total degree is above 65535            0             untouched                untouched
+ *   BV_REFUSED_LIMIT   h is below 1                               0             untouched                untouched
+ *   BV_REFUSED_SHORT   len is below degree + 1, or room below     yes           untouched                untouched
+ *                      the largest degree of a factor + 1
+ *   BV_REFUSED_OVER    the product of the first one, two, .. or   yes           entries 0 to degree: 0   all 0
+ *                      all factors has a coefficient or a gain
+ *                      above 2^63 - 1 in magnitude
+ *   BV_REFUSED_TALL    the height is above h                      yes           entries 0 to degree: 0   all 0
+ *
+ * The order is that of the table. additions is always 0; on refusal height, peak and gain are 0 too. indices is only
+ * read. The scratch is a second slice to work in: where the table says all 0, the whole of it is, however long it is.
+ * 65536 entries in each have room for every cascade.
+ *
+ * The order of the list makes no difference to what is delivered, but it may to whether it is: 13099 five times and
+ * then 1 is BV_REFUSED_OVER, since the first five are, and 1 first is delivered. Only those products count: a sum on
+ * the way to a coefficient may be as large as it likes. With a scratch that is long enough a cascade of one index is
+ * that of bv_polynomial with BV_F and BV_NO_LIMIT as w, but for additions.
+ */
+bv_answer bv_cascade(const uint64_t *indices, size_t count, int64_t h, int64_t *buf, size_t len, int64_t *scratch,
+                     size_t room);
 
 #ifdef __cplusplus
 }

@@ -8,22 +8,31 @@ wide enough by a bound, and w doubles until the product is right.
 from array import array
 
 TYPES = {8: "B", 16: "H", 32: "I", 64: "Q"}
+WIDTHS = (*TYPES, 128)
+WORD = (1 << 64) - 1
+
+
+def slots(values, width):
+    """Values from 0 on, each below 2^width, side by side as one whole number."""
+    if width == 128:
+        values, width = [part for v in values for part in (v & WORD, v >> 64)], 64
+    return int.from_bytes(array(TYPES[width], values).tobytes(), "little")
 
 
 def packed(coefficients, width):
     """The value at z = 2^width; every coefficient lies below 2^width in magnitude."""
-    code = TYPES[width]
-    above = array(code, [c if c > 0 else 0 for c in coefficients])
-    below = array(code, [-c if c < 0 else 0 for c in coefficients])
-    return int.from_bytes(above.tobytes(), "little") - int.from_bytes(below.tobytes(), "little")
+    above = slots([c if c > 0 else 0 for c in coefficients], width)
+    return above - slots([-c if c < 0 else 0 for c in coefficients], width)
 
 
 def unpacked(value, count, width):
     """The count coefficients, each from -2^(width-1) to 2^(width-1) - 1, whose value this is."""
     half = 1 << (width - 1)
     value += packed([half] * count, width)
-    digits = array(TYPES[width])
+    digits = array(TYPES[min(width, 64)])
     digits.frombytes(value.to_bytes(count * width // 8, "little"))
+    if width == 128:
+        digits = [low + (high << 64) for low, high in zip(digits[::2], digits[1::2])]
     return [digit - half for digit in digits]
 
 
@@ -33,10 +42,10 @@ def height(coefficients):
 
 def width_for(bound):
     """The least width whose slots hold every number up to the bound in magnitude."""
-    for width in sorted(TYPES):
+    for width in WIDTHS:
         if bound < 1 << (width - 1):
             return width
-    raise OverflowError("no slot of 64 bits or fewer holds " + str(bound))
+    raise OverflowError("no slot of 128 bits or fewer holds " + str(bound))
 
 
 def product(a, b):

@@ -112,6 +112,73 @@ PARTIALS = [
     (1, 105, 0, 1, 25),
 ]
 
+# indices, h, room of the buffer, room of the scratch
+CASCADES = [
+    # LIST, none or more than eight: before all else
+    ((), 1, 9, 9),
+    ((), 0, 0, 0),
+    ((3,) * 9, MOST, 30, 9),
+    ((3,) * 9, 0, 30, 9),
+    ((3,) * 9, 1, 0, 0),
+    ((0,) * 9, 1, 30, 9),
+    ((3,) * 8 + (TOP,), LEAST, 0, 0),
+    ((65521,) * 9, 1, 0, 0),
+    ((239,) * 9, 1, 3000, 300),
+    ((1,) * 12, MOST, 30, 9),
+    # INDEX, before a total degree that is too large
+    ((65521, 65521, 0), MOST, 9, 9),
+    ((65536, 65521, 65521), 1, 65536, 65536),
+    ((0,), 0, 0, 0),
+    ((TOP,), LEAST, 9, 9),
+    ((65536,) * 8, 0, 0, 0),
+    ((239,) * 7 + (0,), 1, 3000, 300),
+    ((105, 65536), 1, 60, 50),
+    # LIST by the total degree, before LIMIT: one too many, and just enough
+    ((65521, 17), MOST, 65536, 65536),
+    ((65519, 17, 1, 1), 1, 65536, 65536),
+    ((65519, 17, 1, 2), 0, 65536, 65536),
+    ((65521, 65521), LEAST, 0, 0),
+    ((65521,) * 8, MOST, 65536, 65536),
+    ((16381,) * 5, 1, 65536, 65536),
+    ((1, 65519, 17), MOST, 65536, 65519),
+    ((17, 65519, 2), MOST, 65536, 65519),
+    ((1, 65519, 17), MOST, 65535, 65519),
+    ((1, 65519, 17), MOST, 65536, 65518),
+    ((1, 65519, 17), 0, 65535, 65518),
+    # LIMIT, before SHORT, OVER and TALL
+    ((3,), 0, 3, 3),
+    ((3,), -1, 0, 0),
+    ((105, 105), LEAST, 96, 49),
+    ((105, 105), 0, 97, 48),
+    ((239,) * 8, 0, 1905, 239),
+    # SHORT, before OVER and TALL
+    ((239,) * 8, MOST, 1904, 239),
+    ((239,) * 8, 1, 1905, 238),
+    ((105,), 1, 48, 49),
+    ((105,), 1, 49, 48),
+    ((105,), 1, 0, 0),
+    # OVER, before TALL
+    ((239,) * 8, 1, 1905, 239),
+    ((239,) * 8, MOST, 1905, 239),
+]
+
+# Where an index is not good, at each place among good ones, and alone.
+CASCADES += [
+    (some[:place] + (bad,) + some[place:], MOST, 70, 50)
+    for bad in (0, 65536, TOP)
+    for some in ((), (3, 105, 8, 2))
+    for place in range(len(some) + 1)
+]
+
+# One entry less than is needed, just enough, and two more, in the buffer and in the scratch: needed are so many.
+CASCADES += [
+    (indices, h, room + more, scratch + also)
+    for indices, room, scratch in (((1,), 2, 2), ((2, 4, 8), 8, 5), ((105, 3), 51, 49), ((7, 211), 217, 211))
+    for h in (MOST, 1)
+    for more in (-room, -1, 0, 2)
+    for also in (-scratch, -1, 0, 2)
+]
+
 # OVER, for each number of primes, 1 to 5, and both kinds: kind, r, and an index with m = 2r and, where ROOM has the entries, t > 1.
 # The least limit of every r with one or two primes is 1.
 REGISTERS = [

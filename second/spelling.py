@@ -1,7 +1,7 @@
 """The lines of the trial: how a request is spelled, and its answer (README.md has the form of both).
 
-A request is a name, its numbers and the buffers that are lent: entries as a list, bytes as bytes. Its answer is the fields
-in their order, and what then stands in each buffer that can be written.
+A request is a name, its numbers and what is lent: indices as a tuple, entries as a list, bytes as bytes. Its answer is the
+fields in their order, and what then stands in each buffer that can be written.
 """
 
 import answers
@@ -38,12 +38,19 @@ def read(numbers, lent, data):
     return shelf.read(data, lent)
 
 
-ANSWERS = {f.__name__: f for f in (polynomial, partial, comb, accumulate, write, read)}
+def cascade(numbers, indices, lent, scratch):
+    fields, written = answers.cascade(indices, *numbers, len(lent), len(scratch))
+    return fields, written + lent[len(written):], [0] * len(scratch) if written else scratch
+
+
+ANSWERS = {f.__name__: f for f in (polynomial, partial, comb, accumulate, write, read, cascade)}
 
 
 def spelled(buffer):
-    """All of a buffer."""
-    return "x" + buffer.hex() if isinstance(buffer, bytes) else ",".join(map(str, buffer))
+    """All of a buffer, or of a list of indices."""
+    if isinstance(buffer, bytes):
+        return "x" + buffer.hex()
+    return "n" * isinstance(buffer, tuple) + ",".join(map(str, buffer))
 
 
 def lent(buffer):
@@ -71,5 +78,5 @@ def asked(name, numbers, buffers):
 
 
 def answered(name, numbers, buffers):
-    fields, buffer = ANSWERS[name](numbers, *buffers)
-    return (" ".join(map(str, fields)) + " : " + left(buffer)).rstrip() + "\n"
+    fields, *written = ANSWERS[name](numbers, *buffers)
+    return " ".join([*map(str, fields), *(" ".join([":", left(buffer)]).rstrip() for buffer in written)]) + "\n"

@@ -1,18 +1,15 @@
 """Every request of the trial, each said once: (name, numbers, buffers), in the order of crates/trial/stdin."""
 
+import cascades
 import choice
 import over
 import refusals
 import shelf
 import steps
+from cascades import lent
 from choice import FILLING, LARGEST_LIMIT
 from kept import degree
 from whole import divisors_below
-
-
-def lent(room):
-    """Entries to be lent, all different where they are few."""
-    return [FILLING + i for i in range(room)] if room <= 64 else [FILLING] * room
 
 
 def edges():
@@ -21,6 +18,8 @@ def edges():
         yield "polynomial", numbers, (lent(room),)
     for *numbers, room in refusals.PARTIALS:
         yield "partial", numbers, (lent(room),)
+    for case in refusals.CASCADES:
+        yield cascades.asked(*case)
 
 
 def table():
@@ -41,5 +40,5 @@ def stops():
 
 
 def cases():
-    for some in (edges, steps.cases, shelf.cases, stops, over.cases, table):
+    for some in (edges, steps.cases, shelf.cases, stops, over.cases, cascades.cases, table):
         yield from some()

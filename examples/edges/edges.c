@@ -1,6 +1,6 @@
 /*
  * The edges of every argument: NULL with length 0, 0, the largest numbers, the places just inside and just outside each
- * range. Each call is held to its whole outcome: the answer's fields and the contents of the slice. Prints how many
+ * range. Each call is held to its whole outcome: the answer's fields and the contents of each slice. Prints how many
  * outcomes were held.
  */
 #include <stdio.h>
@@ -380,11 +380,115 @@ static void record(void) {
     lowest();
 }
 
+/* a second slice, likewise */
+static int64_t scratch[65536 + 8];
+static const size_t BOTH = sizeof buf / sizeof *buf;
+
+static int fresh_scratch(void) {
+    for (size_t i = 0; i < BOTH; i++)
+        scratch[i] = 77;
+    return fresh();
+}
+
+/* all of its first so many are what is told, and the others stand as they were */
+static int scratch_holds(size_t room, int64_t told) {
+    for (size_t i = 0; i < BOTH; i++)
+        if (scratch[i] != (i < room ? told : 77))
+            return 0;
+    return 1;
+}
+
+static int refused_list(const uint64_t *indices, size_t count, int64_t h, size_t len, size_t room, uint64_t code) {
+    bv_answer a = bv_cascade(count == 0 ? NULL : indices, count, h, len == 0 ? NULL : buf, len,
+                             room == 0 ? NULL : scratch, room);
+    return answers(a, code, 0, 0, 0, 0, 0) && untouched_from(0) && scratch_holds(0, 0);
+}
+
+/* what a cascade tells, from the second program; its largest factor has so many entries; height 0 is OVER */
+typedef struct cascade_case {
+    uint64_t indices[8];
+    size_t count, longest;
+    uint64_t degree, height, peak;
+    int64_t gain;
+} cascade_case;
+
+static const cascade_case CASCADES[] = {
+    {{1}, 1, 2, 1, 1, 0, 0},
+    {{2}, 1, 2, 1, 1, 0, 2},
+    {{2, 4, 8}, 3, 5, 7, 1, 0, 8},
+    {{8, 4, 2}, 3, 5, 7, 1, 0, 8},
+    {{2, 4, 8, 30}, 4, 9, 15, 2, 1, 8},
+    {{1, 1, 1, 1, 1, 1, 1, 1}, 8, 2, 8, 70, 4, 0},
+    {{105, 105, 105, 105, 105, 105, 105, 105}, 8, 49, 384, 3997316807, 192, 1},
+    {{2, 4, 8, 16, 32, 64, 105, 1155}, 8, 481, 591, 6, 99, 64},
+    {{239, 239, 239, 239, 239, 239, 239, 239}, 8, 239, 1904, 0, 0, 0},
+    {{2003, 2003, 2003, 2003, 2003, 2003, 1}, 7, 2003, 12013, 0, 0, 0},
+    {{1, 2003, 2003, 2003, 2003, 2003, 2003}, 7, 2003, 12013, 7404799259935, 4486, 0},
+    {{2998, 2998, 2998, 2998, 2998, 2998, 2998, 210}, 8, 1499, 10534, 5796087793766877839, 5267, 1},
+    {{17, 2, 65519}, 3, 65519, 65535, 34, 17, 2227646},
+};
+
+/* A cascade at an h and with rooms of any sort. */
+static void cascaded(const cascade_case *p, int64_t h, size_t len, size_t room) {
+    fresh_scratch();
+    bv_answer a = bv_cascade(p->indices, p->count, h, len == 0 ? NULL : buf, len, room == 0 ? NULL : scratch, room);
+    if (h < 1)
+        HOLD(answers(a, BV_REFUSED_LIMIT, 0, 0, 0, 0, 0) && untouched_from(0) && scratch_holds(0, 0));
+    else if (len <= p->degree || room < p->longest)
+        HOLD(answers(a, BV_REFUSED_SHORT, p->degree, 0, 0, 0, 0) && untouched_from(0) && scratch_holds(0, 0));
+    else if (p->height == 0 || p->height > (uint64_t)h)
+        HOLD(answers(a, p->height == 0 ? BV_REFUSED_OVER : BV_REFUSED_TALL, p->degree, 0, 0, 0, 0) &&
+             zero_to(p->degree) && untouched_from(p->degree + 1) && scratch_holds(room, 0));
+    else
+        HOLD(answers(a, BV_DONE, p->degree, 0, p->height, p->peak, p->gain) && buf[p->degree] == 1 &&
+             untouched_from(p->degree + 1) && scratch_holds(room, 0));
+}
+
+/* Every edge of h with every edge of both lengths; then h at the height and one less. */
+static void cascades(void) {
+    for (size_t i = 0; i < COUNT(CASCADES); i++) {
+        const cascade_case *p = &CASCADES[i];
+        const size_t enough = p->degree + 1;
+        const size_t lens[] = {0, enough - 1, enough, enough + 2}, rooms[] = {0, p->longest - 1, p->longest, 65536};
+        for (size_t k = 0; k < 16; k++)
+            cascaded(p, LIMITS[k % COUNT(LIMITS)], lens[k / 4], rooms[k % 4]);
+        for (size_t k = 0; k < COUNT(LIMITS); k++)
+            cascaded(p, LIMITS[k], enough, p->longest);
+        cascaded(p, (int64_t)p->height, enough + 1, p->longest + 1);
+        cascaded(p, (int64_t)p->height - 1, enough + 1, p->longest + 1);
+    }
+}
+
+/* LIST by the number of indices, INDEX, and LIST by the degree come first, in this order, whatever follows. */
+static void no_cascades(void) {
+    static const uint64_t good[9] = {3, 5, 7, 9, 11, 13, 15, 17, 19}, none[9] = {0};
+    static const uint64_t large[][8] = {{65521, 17}, {65519, 17, 1, 1}, {65521, 65521, 65521, 65521}};
+    static const size_t counts[] = {2, 4, 4};
+    fresh_scratch();
+    for (size_t k = 0; k < COUNT(LIMITS); k++) {
+        int64_t h = LIMITS[k];
+        for (size_t room = 0; room <= 65536; room += 65536) {
+            HOLD(refused_list(good, 0, h, room, room, BV_REFUSED_LIST));
+            HOLD(refused_list(good, 9, h, room, 65536 - room, BV_REFUSED_LIST));
+            HOLD(refused_list(none, 9, h, room, room, BV_REFUSED_LIST));
+            for (size_t i = 0; i < COUNT(large); i++)
+                HOLD(refused_list(large[i], counts[i], h, room, 65536 - room, BV_REFUSED_LIST));
+            for (size_t i = 0; i < COUNT(NO_INDEX); i++)
+                for (size_t at = 0; at < 8; at++) {
+                    uint64_t list[8] = {65521, 65521, 2, 3, 5, 7, 11, 13};
+                    list[at] = NO_INDEX[i];
+                    HOLD(refused_list(list, 8, h, room, room, BV_REFUSED_INDEX));
+                    HOLD(refused_list(list, at + 1, h, 65536 - room, room, BV_REFUSED_INDEX));
+                }
+        }
+    }
+}
+
 /* Each code has its name, and no other number has one. */
 static void names(void) {
     static const char *const of[] = {"DONE",   "KIND",   "INDEX", "LIMIT", "SHORT", "OVER",  "TALL",
                                      "STEP",   "CUT",    "MARK",  "?",     "WIDTH", "RKIND", "RWIDTH",
-                                     "RINDEX", "RCOUNT", "?",     "?",     "?",     "?",     "?"};
+                                     "RINDEX", "RCOUNT", "LIST",  "?",     "?",     "?",     "?"};
     for (size_t code = 0; code < COUNT(of); code++)
         HOLD(strcmp(bv_name(code), of[code]) == 0);
     HOLD(strcmp(bv_name(UINT64_MAX), "?") == 0);
@@ -399,6 +503,8 @@ int main(void) {
     one_step(bv_accumulate, -1);
     limits();
     record();
+    no_cascades();
+    cascades();
     names();
     printf("%d outcomes, all as told in bonvedrick.h\n", calls);
     return 0;

@@ -41,6 +41,7 @@ NAMES = {
     13: "RWIDTH",
     14: "RINDEX",
     15: "RCOUNT",
+    16: "LIST",
 }
 # The codes that tell a degree, where the answer has one.
 TELL_DEGREE = {"SHORT", "OVER", "TALL"}
@@ -54,7 +55,7 @@ FIELDS = {
 
 
 class Answer(NamedTuple):
-    """What is told of a polynomial."""
+    """What is told of a polynomial, or of a cascade: then additions is 0."""
 
     code: int
     degree: int
@@ -96,6 +97,7 @@ class Record(NamedTuple):
 
 WORDS = (POINTER(c_int64), c_size_t)
 BYTES = (POINTER(c_uint8), c_size_t)
+INDICES = (POINTER(c_uint64), c_size_t)
 FUNCTIONS = {  # what each answers and takes
     "bv_polynomial": (Answer, c_uint64, c_uint64, c_int64, c_int64, *WORDS),
     "bv_partial": (Stop, c_uint64, c_uint64, c_uint64, c_int64, *WORDS),
@@ -103,6 +105,7 @@ FUNCTIONS = {  # what each answers and takes
     "bv_accumulate": (Step, c_uint64, c_int64, *WORDS),
     "bv_write": (Written, c_uint64, c_uint64, *WORDS, *BYTES),
     "bv_read": (Record, *BYTES, *WORDS),
+    "bv_cascade": (Answer, *INDICES, c_int64, *WORDS, *WORDS),
 }
 
 
@@ -158,7 +161,7 @@ class Bonvedrick:
     ) -> tuple[list[int], Answer]:
         """The coefficients, lowest degree first, and the answer. None may be larger in magnitude than h, and no value
         that a step on the way makes larger than w."""
-        buf = _room(room)
+        buf = _room("room", room)
         a = self._ask("bv_polynomial", _u64("kind", kind), _u64("n", n), _i64("h", h), _i64("w", w), buf)
         return buf[: a.degree + 1], a
 
@@ -171,7 +174,7 @@ class Bonvedrick:
         room: SupportsIndex = MOST_ENTRIES,
     ) -> tuple[list[int], Stop]:
         """The kept half after j divisors, and the answer."""
-        buf = _room(room)
+        buf = _room("room", room)
         a = self._ask("bv_partial", _u64("kind", kind), _u64("n", n), _u64("j", j), _i64("w", w), buf)
         return buf[: a.degree + 1], a
 
@@ -202,9 +205,22 @@ class Bonvedrick:
         self, data: bytes | bytearray | memoryview, room: SupportsIndex = MOST_ENTRIES
     ) -> tuple[int, int, list[int], int]:
         """The kind, the index and the coefficients of the record that the bytes start with, and the bytes it uses."""
-        buf = _room(room)
+        buf = _room("room", room)
         a = self._ask("bv_read", _bytes(data), buf)
         return a.kind, a.n, buf[: a.degree + 1], a.used
+
+    def cascade(
+        self,
+        indices: Iterable[SupportsIndex],
+        h: SupportsIndex = NO_LIMIT,
+        room: SupportsIndex = MOST_ENTRIES,
+        scratch: SupportsIndex = MOST_ENTRIES,
+    ) -> tuple[list[int], Answer]:
+        """The coefficients of the product of F over the indices, lowest degree first, and the answer. None may be
+        larger in magnitude than h. `scratch` is how many entries are lent to work in."""
+        buf = _room("room", room)
+        a = self._ask("bv_cascade", _indices(indices), _i64("h", h), buf, _room("scratch", scratch))
+        return buf[: a.degree + 1], a
 
     def _ask(self, function, *arguments):
         """The answer of a C function, or Refused. An array goes over with its length."""
@@ -244,21 +260,33 @@ def _i64(name, value):
     return _within(name, value, -(2**63), 2**63 - 1)
 
 
-def _words(name, values):
-    """A copy of the entries for C."""
+def _numbers(name, values, low, high):
+    """The whole numbers of a list, each looked at."""
     if isinstance(values, (Set, Mapping)):
         raise TypeError(f"{name}: a {type(values).__name__} has no places")
     numbers = [operator.index(value) for value in values]
     for place, number in enumerate(numbers):
-        if not -(2**63) <= number < 2**63:
-            _i64(f"{name}[{place}]", number)
+        if not low <= number <= high:
+            _within(f"{name}[{place}]", number, low, high)
+    return numbers
+
+
+def _words(name, values):
+    """A copy of the entries for C."""
+    numbers = _numbers(name, values, -(2**63), 2**63 - 1)
     return (c_int64 * len(numbers))(*numbers)
 
 
-def _room(room):
+def _indices(values):
+    """A copy of the indices for C."""
+    numbers = _numbers("indices", values, 0, 2**64 - 1)
+    return (c_uint64 * len(numbers))(*numbers)
+
+
+def _room(name, room):
     """The entries to lend. No more than any polynomial has: the others would stand there untouched, and memory may not
     have so many."""
-    return (c_int64 * min(_within("room", room, 0, SIZE_MAX), MOST_ENTRIES))()
+    return (c_int64 * min(_within(name, room, 0, SIZE_MAX), MOST_ENTRIES))()
 
 
 def _bytes(data):

@@ -96,9 +96,31 @@ def record_of(coeffs):
     return bytes([0xC9, 0x50, 1, width, 6, 0, 3, 0, 0, 0]) + body
 
 
+def cascade_of(indices):
+    """By plain multiplication, of indices that `small` knows, under a height limit of 2."""
+    if not all(1 <= n <= 65535 for n in indices):
+        return refused("INDEX")
+    product = [1]
+    for factor in map(small, indices):
+        product = [sum(c * product[i - j] for j, c in enumerate(factor) if 0 <= i - j < len(product))
+                   for i in range(len(product) + len(factor) - 1)]
+    degree, height = len(product) - 1, max(map(abs, product))
+    if height > 2:
+        return refused("TALL", degree)
+    return product, Answer(0, degree, 0, height, [abs(c) for c in product].index(height), sum(product))
+
+
+def small(n):
+    """F(n) of 1, an odd prime or a power of two."""
+    if n == 1:
+        return [-1, 1]
+    return [1] * n if n % 2 else [1] + [0] * (n // 2 - 1) + [1]
+
+
 F15_DONE, I15_DONE = (F15, Answer(0, 8, 6, 1, 0, 1)), (I15, Answer(0, 7, 4, 1, 0, 0))
 F15_STOPS = {0: ([1, 0, 0, 0, 0], Stop(0, 4, 0, 3)), 1: ([1, -1, 0, 0, 0], Stop(0, 4, 4, 2))}
 I15_STOP = ([-1, -1, -1, -1], Stop(0, 3, 3, 2))
+BY_8 = ([1] * 8, Answer(0, 7, 0, 1, 0, 8))
 
 # For each function good arguments, and for each number among them what fits its C type and what the rules give then.
 REQUESTS = {
@@ -138,12 +160,17 @@ REQUESTS = {
         dict(data=F6_RECORD, room=3),
         dict(room=entries(3, (F, 6, F6, 13), 2)),
     ),
+    "cascade": (
+        dict(indices=[2, 4, 8], h=1, room=8, scratch=5),
+        dict(h=limit(BY_8), room=entries(8, BY_8, 7), scratch=entries(5, BY_8, 7)),
+    ),
 }
-# The lists among the arguments, and what the rules give for any numbers of 64 bits in them.
+# The lists among the arguments, what fits their C type, and what the rules give for any numbers of 64 bits in them.
 LISTS = {
-    "comb": ("entries", dict(size=1, w=NO_LIMIT), [0, 0, 0], comb_of),
-    "accumulate": ("entries", dict(size=1, w=NO_LIMIT), [0, 0, 0], accumulate_of),
-    "write": ("coeffs", dict(kind=F, n=6), F6, record_of),
+    "comb": ("entries", dict(size=1, w=NO_LIMIT), [0, 0, 0], i64, comb_of),
+    "accumulate": ("entries", dict(size=1, w=NO_LIMIT), [0, 0, 0], i64, accumulate_of),
+    "write": ("coeffs", dict(kind=F, n=6), F6, i64, record_of),
+    "cascade": ("indices", dict(h=2), [1, 2, 3], u64, cascade_of),
 }
 
 
@@ -180,18 +207,22 @@ class Numbers(Wrapper):
                         self.held(lambda: rule(v), fits(v), function, **{**good, name: v})
 
     def test_every_size_at_every_place_of_a_list(self):
-        for function, (name, others, good, rule) in LISTS.items():
+        for function, (name, others, good, fits, rule) in LISTS.items():
             for place in range(len(good)):
                 for v in [*SIZES, good[place] - 2**64, good[place] + 2**64, 127, 128, -128, -(2**63) + 1]:
                     values = [*good[:place], v, *good[place + 1 :]]
                     with self.subTest(function=function, place=place, bits=v.bit_length(), negative=v < 0):
-                        self.held(lambda: rule(values), i64(v), function, **others, **{name: values})
+                        self.held(lambda: rule(values), fits(v), function, **others, **{name: values})
 
     def test_the_message_names_the_number(self):
         with self.assertRaisesRegex(OverflowError, r"^n is not from 0 to 18446744073709551615$"):
             self.bv.polynomial(F, 2**64 + 21)
         with self.assertRaisesRegex(OverflowError, r"^coeffs\[1\] is not from -9223372036854775808 to "):
             self.bv.write(F, 3, [1, 2**64, 5])
+        with self.assertRaisesRegex(OverflowError, r"^indices\[2\] is not from 0 to 18446744073709551615$"):
+            self.bv.cascade([2, 4, -1])
+        with self.assertRaisesRegex(OverflowError, r"^scratch is not from 0 to "):
+            self.bv.cascade([2, 4, 8], scratch=-1)
 
     def test_what_is_no_whole_number(self):
         for function, (good, rules) in REQUESTS.items():
@@ -199,7 +230,7 @@ class Numbers(Wrapper):
                 for v in NO_NUMBERS:
                     with self.subTest(function=function, name=name, value=v):
                         self.assertEqual(self.outcome(function, **{**good, name: v}), (TypeError, 0))
-        for function, (name, others, good, _) in LISTS.items():
+        for function, (name, others, good, _, _) in LISTS.items():
             for place in range(len(good)):
                 for v in NO_NUMBERS:
                     values = [*good[:place], v, *good[place + 1 :]]
@@ -239,10 +270,11 @@ class Numbers(Wrapper):
 
 class Lists(Wrapper):
     def test_any_sequence_is_taken_and_none_is_changed(self):
-        for function, (name, others, _, rule) in LISTS.items():
+        for function, (name, others, _, fits, rule) in LISTS.items():
+            numbers = [5, -1, 7] if fits(-1) else [5, 1, 7]
             for make in list, tuple, lambda v: array.array("q", v), lambda v: memoryview(array.array("q", v)), iter:
-                values, same = make([5, -1, 7]), make([5, -1, 7])
-                self.assertEqual(self.outcome(function, **others, **{name: values}), (rule([5, -1, 7]), 1))
+                values, same = make(numbers), make(numbers)
+                self.assertEqual(self.outcome(function, **others, **{name: values}), (rule(numbers), 1))
                 if make is not iter:
                     self.assertEqual(values, same)
         values = [1, 2, NO_LIMIT]
@@ -257,6 +289,7 @@ class Lists(Wrapper):
             self.assertEqual(self.outcome("comb", size=0, entries=empty), (refused("STEP"), 1))
             self.assertEqual(self.outcome("comb", size=1, entries=empty, w=0), (refused("LIMIT"), 1))
             self.assertEqual(self.outcome("write", kind=F, n=6, coeffs=empty), (refused("RCOUNT", byte=6), 1))
+            self.assertEqual(self.outcome("cascade", indices=empty, h=0), (refused("LIST"), 1))
         for empty in b"", bytearray(), memoryview(b""):
             self.assertEqual(self.outcome("read", data=empty), (refused("CUT"), 1))
             self.assertEqual(self.outcome("read", data=empty, room=0), (refused("CUT"), 1))
@@ -274,6 +307,22 @@ class Lists(Wrapper):
         for data in "c950", list(F6_RECORD), None, 13, array.array("B", F6_RECORD), 1.5, {}:
             with self.subTest(sort=type(data)):
                 self.assertEqual(self.outcome("read", data=data), (TypeError, 0))
+
+    def test_cascades(self):
+        """In as many entries as are needed, and with the order of the list."""
+        for n in 1, 2, 9, 105, 30030, 65535:
+            coeffs, answer = self.bv.polynomial(F, n)
+            told = self.bv.cascade([n], room=len(coeffs), scratch=len(coeffs))
+            self.assertEqual(told, (coeffs, answer._replace(additions=0)))
+        one, last = [1] + [13099] * 5, [13099] * 5 + [1]
+        self.assertEqual(self.bv.cascade(one)[1], Answer(0, 65491, 0, 1225881442660, 23694, 0))
+        self.assertEqual(self.outcome("cascade", indices=last), (refused("OVER", 65491), 1))
+        tall = [13982] * 6 + [210]
+        self.assertEqual(self.bv.cascade(tall, room=41989, scratch=6991)[1].height, 9184446742301304167)
+        self.assertEqual(self.outcome("cascade", indices=tall, room=41988), (refused("SHORT", 41988), 1))
+        self.assertEqual(self.outcome("cascade", indices=tall, scratch=6990), (refused("SHORT", 41988), 1))
+        for indices in [3] * 9, [65521, 17], [65521] * 8:
+            self.assertEqual(self.outcome("cascade", indices=indices, h=0), (refused("LIST"), 1))
 
     def test_there_and_back(self):
         for kind, n in (F, 1), (I, 1), (F, 105), (I, 105), (F, 65535), (I, 30030), (F, 65521):
@@ -302,6 +351,8 @@ class Refusals(Wrapper):
             ("CUT", lambda: self.bv.read(F6_RECORD[:12])),
             ("OVER", lambda: self.bv.comb(1, [0, 5], w=4)),
             ("SHORT", lambda: self.bv.polynomial(I, 1, room=0)),
+            ("LIST", lambda: self.bv.cascade([])),
+            ("TALL", lambda: self.bv.cascade([2, 2], 1)),
         ]
         for at, byte, name in [(0, 0, "MARK"), *fields, (10, 128, "WIDTH")]:
             damaged = F6_RECORD[:at] + bytes([byte]) + F6_RECORD[at + 1 :]
@@ -331,6 +382,8 @@ class Refusals(Wrapper):
                 "CUT (8)",
                 "OVER (5)",
                 "SHORT (4), degree 0",
+                "LIST (16)",
+                "TALL (6), degree 2",
                 "MARK (9)",
                 "RKIND (12), the record's kind, at byte 2, is wrong: right is 1 or 2",
                 "RWIDTH (13), the record's width, at byte 3, is wrong: right is 1, 2, 4 or 8",

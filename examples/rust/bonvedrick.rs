@@ -58,6 +58,15 @@ mod c {
         pub fn bv_accumulate(size: u64, w: i64, buf: *mut i64, len: usize) -> Step;
         pub fn bv_write(kind: u64, n: u64, coeffs: *const i64, count: usize, bytes: *mut u8, len: usize) -> Written;
         pub fn bv_read(bytes: *const u8, len: usize, coeffs: *mut i64, count: usize) -> Record;
+        pub fn bv_cascade(
+            indices: *const u64,
+            count: usize,
+            h: i64,
+            buf: *mut i64,
+            len: usize,
+            scratch: *mut i64,
+            room: usize,
+        ) -> Answer;
     }
 }
 
@@ -112,7 +121,7 @@ impl Field {
 
 /// Why nothing was delivered. The degree is that of the polynomial, and for `partial` that of its lower half; it is
 /// `None` where the request tells none, as a step does. `Field` is of `write` and `read`: the field that is wrong, and
-/// the byte of the record at which it starts.
+/// the byte of the record at which it starts. `List` is of `cascade`.
 #[derive(Clone, Copy, Debug, PartialEq, Eq)]
 pub enum Refusal {
     Kind,
@@ -126,6 +135,7 @@ pub enum Refusal {
     Mark,
     Width,
     Field { field: Field, byte: usize },
+    List,
     /// A code that this wrapper doesn't know: a later library.
     Unknown(u64),
 }
@@ -151,6 +161,7 @@ impl Refusal {
             13 => wrong(Field::Width),
             14 => wrong(Field::Index),
             15 => wrong(Field::Count),
+            16 => Refusal::List,
             other => Refusal::Unknown(other),
         }
     }
@@ -172,6 +183,7 @@ impl Refusal {
             Refusal::Field { field: Field::Width, .. } => 13,
             Refusal::Field { field: Field::Index, .. } => 14,
             Refusal::Field { field: Field::Count, .. } => 15,
+            Refusal::List => 16,
             Refusal::Unknown(code) => code,
         }
     }
@@ -194,6 +206,7 @@ impl fmt::Display for Refusal {
             Refusal::Field { field, byte } => {
                 write!(f, "the record's {}, at byte {byte}, is wrong: right is {}", field.name(), field.right())
             }
+            Refusal::List => f.write_str("a cascade has from 1 to 8 indices and a degree of at most 65535"),
             Refusal::Unknown(code) => write!(f, "code {code}"),
         }
     }
@@ -211,7 +224,7 @@ fn outcome(code: u64, degree: Option<u64>, byte: u64) -> Result<(), Refusal> {
     if code == 0 { Ok(()) } else { Err(Refusal::of(code, degree, byte)) }
 }
 
-/// A delivered polynomial: its coefficients, a part of the buffer that was lent, and what the library tells of it.
+/// A delivered polynomial or cascade: its coefficients, a part of the buffer that was lent, and what the library tells of it.
 #[derive(Debug)]
 pub struct Polynomial<'a> {
     pub coeffs: &'a mut [i64],
@@ -244,6 +257,10 @@ pub struct Record<'a> {
 
 pub fn polynomial(kind: Kind, n: u64, h: i64, w: i64, buf: &mut [i64]) -> Result<Polynomial<'_>, Refusal> {
     let a = unsafe { c::bv_polynomial(kind as u64, n, h, w, buf.as_mut_ptr(), buf.len()) };
+    delivered(a, buf)
+}
+
+fn delivered(a: c::Answer, buf: &mut [i64]) -> Result<Polynomial<'_>, Refusal> {
     outcome(a.code, Some(a.degree), 0)?;
     let coeffs = &mut buf[..=place(a.degree)];
     Ok(Polynomial { coeffs, additions: a.additions, height: a.height, peak: place(a.peak), gain: a.gain })
@@ -283,4 +300,16 @@ pub fn read<'a>(bytes: &[u8], coeffs: &'a mut [i64]) -> Result<Record<'a>, Refus
     outcome(a.code, Some(a.degree), a.byte)?;
     let kind = if a.kind == 1 { Kind::F } else { Kind::I };
     Ok(Record { kind, n: a.n, coeffs: &mut coeffs[..=place(a.degree)], used: place(a.used) })
+}
+
+/// The product of F(n) over the indices. The scratch is to work in, and needs as many entries as the longest factor has.
+pub fn cascade<'a>(
+    indices: &[u64],
+    h: i64,
+    buf: &'a mut [i64],
+    scratch: &mut [i64],
+) -> Result<Polynomial<'a>, Refusal> {
+    let (work, room) = (scratch.as_mut_ptr(), scratch.len());
+    let a = unsafe { c::bv_cascade(indices.as_ptr(), indices.len(), h, buf.as_mut_ptr(), buf.len(), work, room) };
+    delivered(a, buf)
 }

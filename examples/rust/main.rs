@@ -1,9 +1,9 @@
 //! A mains notch in Rust, over the safe wrapper. At 750 samples a second 50 Hz is one turn in 15 samples, so F(15)
 //! stops it. It asks, grows the buffer as the refusal tells, shows how the polynomial grows divisor by divisor, and
-//! stores it. Then it asks which registers of a chip the steps of a larger one fit.
+//! stores it. Then it asks which registers of a chip the steps of a larger one fit, and for a cascade.
 mod bonvedrick;
 
-use bonvedrick::{Kind, NO_LIMIT, Refusal, accumulate, comb, partial, polynomial, read, registers, write};
+use bonvedrick::{Kind, NO_LIMIT, Refusal, accumulate, cascade, comb, partial, polynomial, read, registers, write};
 
 const RATE: u64 = 750;
 const MAINS: u64 = 50;
@@ -69,5 +69,11 @@ fn main() -> Result<(), Refusal> {
             break;
         }
     }
+
+    let (mut buf, mut scratch) = ([0; 16], [0; 9]);
+    let by_8 = cascade(&[2, 4, 8, 30], NO_LIMIT, &mut buf, &mut scratch)?;
+    println!("F(2) F(4) F(8) F(30): {:?}, gain {}", by_8.coeffs, by_8.gain);
+    println!("of height 1: {:?}", cascade(&[2, 4, 8, 30], 1, &mut buf, &mut scratch));
+    println!("no factor: {:?}", cascade(&[], 1, &mut buf, &mut scratch));
     Ok(())
 }

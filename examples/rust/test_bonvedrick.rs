@@ -2,7 +2,9 @@
 //! the ends of their types. `make rust` runs them.
 mod bonvedrick;
 
-use bonvedrick::{Field, Kind, NO_LIMIT, Refusal, accumulate, comb, partial, polynomial, read, registers, write};
+use bonvedrick::{
+    Field, Kind, NO_LIMIT, Refusal, accumulate, cascade, comb, partial, polynomial, read, registers, write,
+};
 
 /// F(6) and its record.
 const SIX: [i64; 3] = [1, -1, 1];
@@ -38,7 +40,8 @@ fn every_code_has_its_refusal() {
         (13, Refusal::Field { field: Field::Width, byte }),
         (14, Refusal::Field { field: Field::Index, byte }),
         (15, Refusal::Field { field: Field::Count, byte }),
-        (16, Refusal::Unknown(16)),
+        (16, Refusal::List),
+        (17, Refusal::Unknown(17)),
         (u64::MAX, Refusal::Unknown(u64::MAX)),
     ];
     for (code, refusal) in refusals {
@@ -162,4 +165,46 @@ fn a_record_is_read_or_refused() {
     let r = read(&RECORD, &mut coeffs).unwrap();
     assert_eq!((r.kind, r.n, r.used, &*r.coeffs), (Kind::F, 6, 13, &SIX[..]));
     assert_eq!(coeffs[3], 77);
+}
+
+#[test]
+fn a_cascade_is_delivered_or_refused_with_its_degree() {
+    let (mut buf, mut scratch) = ([77; 100], [77; 50]);
+    let ask = |indices: &[u64], h, buf: &mut [i64], scratch: &mut [i64]| {
+        cascade(indices, h, buf, scratch).map(|p| (p.coeffs.len(), p.additions, p.height, p.peak, p.gain))
+    };
+    for list in [&[][..], &[2; 9], &[0; 9], &[u64::MAX; 12], &[65521, 17], &[65519, 17, 1, 1]] {
+        assert_eq!(ask(list, 0, &mut buf, &mut []), Err(Refusal::List));
+    }
+    for n in [0, 65536, u64::MAX] {
+        for list in [[n, 65521, 65521], [3, n, 5], [3, 5, n]] {
+            assert_eq!(ask(&list, 0, &mut [], &mut scratch), Err(Refusal::Index));
+        }
+    }
+    for limit in [i64::MIN, -1, 0] {
+        assert_eq!(ask(&[105, 3], limit, &mut buf[..50], &mut scratch), Err(Refusal::Limit));
+    }
+    let short = Err(Refusal::Short { degree: Some(50) });
+    assert_eq!(ask(&[105, 3], 1, &mut [], &mut []), short);
+    assert_eq!(ask(&[105, 3], 1, &mut buf[..50], &mut scratch), short);
+    assert_eq!(ask(&[105, 3], 1, &mut buf, &mut scratch[..48]), short);
+    assert_eq!((buf, scratch), ([77; 100], [77; 50]));
+    assert_eq!(ask(&[105, 105], 10, &mut buf, &mut scratch[..49]), Err(Refusal::Tall { degree: Some(96) }));
+    assert!(buf[..97].iter().all(|&entry| entry == 0) && buf[97..].iter().all(|&entry| entry == 77));
+    assert!(scratch[..49].iter().all(|&entry| entry == 0) && scratch[49] == 77);
+    assert_eq!(ask(&[2, 4, 8], 1, &mut buf, &mut scratch), Ok((8, 0, 1, 0, 8)));
+    assert_eq!((&buf[..8], buf[8], scratch), (&[1; 8][..], 0, [0; 50]));
+}
+
+#[test]
+fn a_cascade_is_refused_by_what_its_first_factors_make() {
+    let (mut buf, mut scratch) = (vec![77; 65536], vec![77; 65536]);
+    let mut ask = |indices: &[u64], h| cascade(indices, h, &mut buf, &mut scratch).map(|p| (p.height, p.peak, p.gain));
+    assert_eq!(ask(&[13099, 13099, 13099, 13099, 13099, 1], 1), Err(Refusal::Over { degree: Some(65491) }));
+    assert_eq!(ask(&[1, 13099, 13099, 13099, 13099, 13099], NO_LIMIT), Ok((1225881442660, 23694, 0)));
+    let tall = [13982, 13982, 13982, 13982, 13982, 13982, 210];
+    assert_eq!(ask(&tall, 9184446742301304167), Ok((9184446742301304167, 20994, 1)));
+    assert_eq!(ask(&tall, 9184446742301304166), Err(Refusal::Tall { degree: Some(41988) }));
+    // no coefficient passes 2^63 - 1, but their sum does
+    assert_eq!(ask(&[239; 8], 1), Err(Refusal::Over { degree: Some(1904) }));
 }

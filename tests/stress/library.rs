@@ -56,6 +56,15 @@ extern "C" {
     fn bv_accumulate(size: u64, w: i64, buf: *mut i64, len: usize) -> Step;
     fn bv_write(kind: u64, n: u64, coeffs: *const i64, count: usize, bytes: *mut u8, len: usize) -> Written;
     fn bv_read(bytes: *const u8, len: usize, coeffs: *mut i64, count: usize) -> Record;
+    fn bv_cascade(
+        indices: *const u64,
+        count: usize,
+        h: i64,
+        buf: *mut i64,
+        len: usize,
+        scratch: *mut i64,
+        room: usize,
+    ) -> Answer;
 }
 
 fn lent<T>(a: &mut [T]) -> *mut T {
@@ -84,4 +93,8 @@ pub fn write(kind: u64, n: u64, coeffs: &[i64], bytes: &mut [u8]) -> Written {
 
 pub fn read(bytes: &[u8], coeffs: &mut [i64]) -> Record {
     unsafe { bv_read(shown(bytes), bytes.len(), lent(coeffs), coeffs.len()) }
+}
+
+pub fn cascade(indices: &[u64], h: i64, buf: &mut [i64], scratch: &mut [i64]) -> Answer {
+    unsafe { bv_cascade(shown(indices), indices.len(), h, lent(buf), buf.len(), lent(scratch), scratch.len()) }
 }

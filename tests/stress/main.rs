@@ -2,6 +2,7 @@
 //! Stops at the first difference with a message and a status other than 0; else tells how many inputs were tried.
 //! `stress [seed [share]]`: share is the part of the full run in percent, 100 if not given.
 
+mod cascades;
 mod halves;
 mod library;
 mod random;
@@ -40,5 +41,7 @@ fn main() {
     }
     all += tell("polynomials, every index", polynomials);
     all += tell("partial requests, every r", stops);
+    all += tell("cascades", (0..100 * share).map(|_| cascades::any(&mut random, &mut of)).sum());
+    all += tell("cascades of any indices", (0..share / 10).map(|_| cascades::large(&mut random, &mut of)).sum());
     println!("{all} inputs tried, no difference");
 }

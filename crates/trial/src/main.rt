@@ -8,27 +8,40 @@ ghost use lib.ListN.{length};
 use libc::STDIN_FILENO;
 use libc::STDOUT_FILENO;
 
-// A whole line. Its words are a name, numbers, entries and, where there are some, bytes.
-fn answer(line: &[u8], buf: &mut [i64], space: &mut [u8]) {
+// A whole line. Its words are a name and numbers; then, each where there are some, indices, entries, entries of a
+// second buffer, and bytes.
+fn answer(line: &[u8], buf: &mut [i64], scratch: &mut [i64], space: &mut [u8]) {
     let name = trial_lines::name(line);
     let asked = trial_lines::numbers(line, name.next);
-    let entries = trial_lines::entries(line, asked.next, buf);
-    let bytes = trial_lines::bytes(line, entries.next, space);
+    let indices = trial_lines::indices(line, asked.next);
+    let entries = trial_lines::entries(line, indices.next, buf);
+    let others = trial_lines::entries(line, entries.next, scratch);
+    let bytes = trial_lines::bytes(line, others.next, space);
+    let values = indices.values;
+    let i = indices.count;
     let k = entries.count;
+    let j = others.count;
     let m = bytes.count;
     if bytes.next == line.len() {
-        trial_doors::ask(name.bits, asked, &mut buf[..k], &mut space[..m]);
+        trial_pair_doors::ask(
+            name.bits,
+            asked,
+            &values[..i],
+            &mut buf[..k],
+            &mut scratch[..j],
+            &mut space[..m],
+        );
     } else {
         io::write_all(STDOUT_FILENO, b"?\n");
     }
 }
 
 // Line after line.
-fn answer_all(input: &[u8], buf: &mut [i64], space: &mut [u8]) {
+fn answer_all(input: &[u8], buf: &mut [i64], scratch: &mut [i64], space: &mut [u8]) {
     let mut at = 0;
     while at < input.len() {
         let end = trial_lines::line_end(input, at);
-        answer(&input[at..end], buf, space);
+        answer(&input[at..end], buf, scratch, space);
         at = end + 1;
     }
 }
@@ -45,6 +58,8 @@ fn main() {
     let mut space = io::large_buffer();
     let mut entries = [0i64; 65536];
     let buf: &mut [i64] = &mut entries;
+    let mut others = [0i64; 65536];
+    let scratch: &mut [i64] = &mut others;
     let n = io::read_full(STDIN_FILENO, &mut input);
-    answer_all(&input[..n], buf, &mut space);
+    answer_all(&input[..n], buf, scratch, &mut space);
 }

@@ -1,6 +1,6 @@
-// An inner crate: what a line of the program `trial` asks, read word by word: a name, numbers, and buffers of entries
-// and of bytes (second/README.md has the form). Little is promised, only that each function is safe and ends, and how
-// much of a buffer can be lent: what is made of what was read is printed, and held to a stored output.
+// An inner crate: what a line of the program `trial` asks, read word by word: a name, numbers, a list of indices, and
+// buffers of entries and of bytes (second/README.md has the form). Little is promised, only that each function is safe
+// and ends, and how much of a buffer can be lent: what is made of what was read is printed, and held to a stored output.
 //
 // A reader is told the place of the byte before its word, and tells the place after it. From NOWHERE, which is told
 // where a word is not there, nothing can be read: so whoever reads to the end of a line has read all its words well.
@@ -24,6 +24,13 @@ pub struct Found {
 pub struct Row {
     pub bits: [u64; 4],
     pub signed: [i64; 4],
+    pub next: usize,
+}
+
+// Up to 12 indices, and how many.
+pub struct Listed {
+    pub values: [u64; 12],
+    pub count: usize,
     pub next: usize,
 }
 
@@ -129,6 +136,39 @@ fn of_bytes(asked: usize, a: &[u8]) -> usize
     ensures { λ r. ⌜ Lends r (now (a .entry)) ⌝ }
 {
     if asked <= a.len() { asked } else { a.len() }
+}
+
+// A list of indices: after an n, with commas between; or none, where the word has no n. More than there is room for is
+// not cut but no good word.
+pub fn indices(line: &[u8], at: usize) -> Listed
+    ensures { λ r. ⌜ Lends (r .count) (r .values) ⌝ }
+{
+    let first = wrapping_add_usize(at, 1);
+    let second = wrapping_add_usize(at, 2);
+    let mut values = [0u64; 12];
+    let mut next = first;
+    let mut before = b'n';
+    let mut count = 0;
+    while count < 12 {
+        let v = number(line, next, before);
+        if v.next == NOWHERE {
+            break;
+        }
+        values[count] = v.bits;
+        count += 1;
+        next = v.next;
+        before = b',';
+    }
+    let none = if byte_at(line, first) == b'n' {
+        second
+    } else {
+        at
+    };
+    Listed {
+        values,
+        count,
+        next: if 0 < count { next } else { none },
+    }
 }
 
 // Entries: a length, a star and what each of them holds; or two or more with commas between. More than there are is not

@@ -64,8 +64,8 @@ fn sum(a: &[i64]) -> u64 {
     h
 }
 
-// What stands in some entries, and the end of the line.
-pub fn entries(a: &[i64]) {
+// What stands in some entries.
+fn buffer(a: &[i64]) {
     io::write_all(STDOUT_FILENO, b" :");
     if a.len() <= FEW {
         spelled(a);
@@ -73,6 +73,18 @@ pub fn entries(a: &[i64]) {
         io::write_all(STDOUT_FILENO, b" #");
         io::print_decimal(STDOUT_FILENO, sum(a));
     }
+}
+
+// What stands in some entries, and the end of the line.
+pub fn entries(a: &[i64]) {
+    buffer(a);
+    io::write_all(STDOUT_FILENO, b"\n");
+}
+
+// What stands in two buffers of entries, one after the other, and the end of the line.
+pub fn two(a: &[i64], b: &[i64]) {
+    buffer(a);
+    buffer(b);
     io::write_all(STDOUT_FILENO, b"\n");
 }
 

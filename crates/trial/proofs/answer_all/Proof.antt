@@ -8,13 +8,14 @@ use Rattle.trial.proofs.answer_all.Statement.{statement}
 use Rattle.trial.proofs.answer_all.Tie as tie
 
 abbrev Inv-loop : tie.InvT-loop
-Inv-loop input buf₀ space₀ at₀ buf space at = (length buf ≡ length buf₀) × (length space ≡ length space₀)
+Inv-loop input buf₀ scratch₀ space₀ at₀ buf scratch space at =
+    (length buf ≡ length buf₀) × (length scratch ≡ length scratch₀) × (length space ≡ length space₀)
 
 abbrev μ-loop : tie.MeasureT-loop
-μ-loop input buf₀ space₀ at₀ buf space at = length input + 1 - at
+μ-loop input buf₀ scratch₀ space₀ at₀ buf scratch space at = length input + 1 - at
 
 loop-holds : tie.Need-loop-holds Inv-loop μ-loop
-loop-holds c = (refl, refl)
+loop-holds c = (refl, refl, refl)
 
 line-end-requires : tie.Need-line-end-requires Inv-loop μ-loop
 line-end-requires c κs = omega arith
@@ -46,6 +47,9 @@ same-length c = search needs
 same-length-2 : tie.Need-same-length-2 Inv-loop μ-loop
 same-length-2 c = search needs
 
+same-length-3 : tie.Need-same-length-3 Inv-loop μ-loop
+same-length-3 c = search needs
+
 returns : tie.Need-returns Inv-loop μ-loop
 returns c = tt
 
@@ -66,4 +70,5 @@ answer-all-spec =
     loop-again
     same-length
     same-length-2
+    same-length-3
     returns)

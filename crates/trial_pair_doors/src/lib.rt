@@ -1,0 +1,49 @@
+// An inner crate: each door of the library that is lent more than one buffer, asked for the program `trial`, and its
+// answer told (second/README.md has the form). Nothing is promised but that each function is safe and ends: what is
+// told is held to a stored output. The buffers that a request does not take are empty.
+use trial_lines::Row;
+
+// The names of the requests, as `trial_lines::name` reads them.
+const WRITE: u64 = 24716933;
+
+const READ: u64 = 594980;
+
+const CASCADE: u64 = 3274802309;
+
+fn write(asked: Row, entries: &[i64], bytes: &mut [u8]) {
+    let v = asked.bits;
+    let a = bonvedrick::bv_write(v[0], v[1], entries, bytes);
+    trial_output::numbers(&[a.code, a.degree, a.used, a.byte]);
+    trial_output::bytes(bytes);
+}
+
+fn read(entries: &mut [i64], bytes: &[u8]) {
+    let a = bonvedrick::bv_read(bytes, entries);
+    trial_output::numbers(&[a.code, a.degree, a.used, a.kind, a.n, a.byte]);
+    trial_output::entries(entries);
+}
+
+fn cascade(asked: Row, indices: &[u64], entries: &mut [i64], scratch: &mut [i64]) {
+    let s = asked.signed;
+    let a = bonvedrick::bv_cascade(indices, s[0], entries, scratch);
+    trial_output::numbers(&[a.code, a.degree, a.additions, a.height, a.peak]);
+    trial_output::signed(b" ", a.gain);
+    trial_output::two(entries, scratch);
+}
+
+// A request by its name; any other is one of one buffer.
+pub fn ask(
+    name: u64,
+    asked: Row,
+    indices: &[u64],
+    entries: &mut [i64],
+    scratch: &mut [i64],
+    bytes: &mut [u8],
+) {
+    match name {
+        WRITE => write(asked, entries, bytes),
+        READ => read(entries, bytes),
+        CASCADE => cascade(asked, indices, entries, scratch),
+        _ => trial_doors::ask(name, asked, entries),
+    }
+}
