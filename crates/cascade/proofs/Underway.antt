@@ -1,5 +1,5 @@
 -- The product of the first i factors: the start, what is asked of one factor more, what it comes to, and the end.
-use Prim.Native.Nat.{ℕ, zero, suc, _+_, _<_, _≤_}
+use Prim.Native.Nat.{ℕ, zero, suc, _+_, _-_, _<_, _≤_}
 use mathlib.Core.Path.{_≡_, refl, sym, _∙_, ap, ap₂, fun-ext}
 use mathlib.Core.Bool.{Bool, true, false, true≢false, not, _||_, Bool·not-not}
 use mathlib.Core.List.{List, []}
@@ -19,11 +19,14 @@ use Rattle.definitions.specs.KeptHalf.{productOf, sumOf}
 use Rattle.definitions.specs.Answer.{heightOf, placeOf, peakOf, gainOf}
 use Rattle.definitions.specs.Cascades.{product, totalDegree, productCoefficients, longest, allGood, productOver}
 use Rattle.definitions.specs.Cascades.{firstsOver}
+use Rattle.series.specs.Laws.{constant-above}
+use Rattle.series.specs.Mirror.{mirror, is-mirror}
 use Rattle.step_laws.specs.Tests.{by-order, neither}
 use Rattle.step_laws.specs.Firsts.{length-firsts, is-firsts, firsts-here, firsts-past}
 use Rattle.step_laws.specs.Outside.{inside-each}
 use Rattle.step_laws.specs.Signed.{range-in}
 use Rattle.cyclotomic.specs.Heights.{entry-height, height-least}
+use Rattle.next_factor.specs.Times.{signed}
 use Rattle.next_factor.specs.Taking.{Known, Room, Taken}
 use Rattle.next_factor.specs.declared.SoFar.{SoFar}
 use Rattle.cascade.specs.Making.{Roomy, ProductIs}
@@ -42,10 +45,11 @@ pub record Underway (ns : List ℕ) (b scratch : List ℤ) (so : SoFar) (i : ℕ
   pub gain : pos (so .gain) ≡ gainOf (productCoefficients (take i ns))
   pub inside : so .height ≤ largest
   pub small : so .gain ≤ largest
+  pub mirrored : mirror (totalDegree (take i ns)) (product (take i ns)) ≡ signed (so .turned) (product (take i ns))
 
 -- ---- the start: 1
 abbrev pub one : SoFar
-one = record { over = false; have = 1; height = 1; peak = 0; gain = 1 }
+one = record { over = false; turned = false; have = 1; height = 1; peak = 0; gain = 1 }
 
 start-list : (n : ℕ) (m : List ℤ) → m ≡ set (zeros (suc n)) 0 1ℤ → m ≡ firsts (suc n) 𝟙
 unfolding entries zeros constant
@@ -60,7 +64,7 @@ start-list n m e =
 pub underway-start : (ns : List ℕ) (b scratch m : List ℤ) → Roomy ns b scratch → m ≡ set (zeros (length b)) 0 1ℤ
     → Underway ns m scratch one 0
 unfolding firstsOver productCoefficients product totalDegree productOf sumOf heightOf peakOf placeOf gainOf firsts constant
-    zeros _⊕_
+    zeros _⊕_ signed
 underway-start ns b scratch m R e =
     record {
       roomy = record { good = R .good; room = ap length e ∙ length-set (zeros (length b)) 0 1ℤ ∙ length-replicate (length b) 0ℤ ∙ R .room; factor = R .factor };
@@ -74,7 +78,12 @@ underway-start ns b scratch m R e =
       gain = refl;
       inside = omega arith;
       small = omega arith;
+      mirrored = is-mirror 0 𝟙 𝟙 first-alone (λ k b. constant-above 1ℤ k b);
     }
+  where
+    first-alone : (k : ℕ) → k ≤ 0 → 𝟙 k ≡ 𝟙 (0 - k)
+    first-alone zero b = refl
+    first-alone (suc k) b = absurd (omega arith)
 
 module _ {ns : List ℕ} {b scratch : List ℤ} {so : SoFar} {i : ℕ} (U : Underway ns b scratch so i) where
   ends : (k : ℕ) → suc (totalDegree (take i ns)) ≤ k → product (take i ns) k ≡ 0ℤ
@@ -98,8 +107,14 @@ module _ {ns : List ℕ} {b scratch : List ℤ} {so : SoFar} {i : ℕ} (U : Unde
         height = λ k. rw (entries-are, U .height) (bounded k);
         inside = U .inside;
         gain = U .small;
+        mirrored = ap₂ (λ k f. mirror (k - 1) f) (U .have) entries-are
+            ∙ ap (λ k. mirror k (product (take i ns))) (one-less (totalDegree (take i ns)))
+            ∙ U .mirrored ∙ ap (signed (so .turned)) (sym entries-are);
       }
     where
+      one-less : (k : ℕ) → suc k - 1 ≡ k
+      one-less k = omega arith
+
       bounded : (k : ℕ) → natAbs (product (take i ns) k)
           ≤ heightOf (firsts (suc (totalDegree (take i ns))) (product (take i ns)))
       bounded k =
@@ -183,6 +198,12 @@ module _ {ns : List ℕ} {b scratch : List ℤ} {so : SoFar} {i : ℕ} (U : Unde
             at (range-in largest (pos (so .gain) ⊗ Rattle.definitions.specs.Answer.gain 1 (getD ns i 0))
             (sym (Bool·not-not _) ∙ ap not (in-range .1)))
 
+        turned-next : mirror (totalDegree (take (suc i) ns)) (product (take (suc i) ns))
+            ≡ signed (r .turned) (product (take (suc i) ns))
+        turned-next =
+            let last : so .have + phi (getD ns i 0) - 1 ≡ totalDegree (take (suc i) ns) = omega (arith, count) in
+            ap₂ mirror (sym last) (sym series) ∙ T .mirrored o ∙ ap (signed (r .turned)) series
+
         pub underway-more : (s : List ℤ) → length s ≡ length scratch → Underway ns m s r (i + 1)
         underway-more s e =
             rw (add-one i)
@@ -198,6 +219,7 @@ module _ {ns : List ℕ} {b scratch : List ℤ} {so : SoFar} {i : ℕ} (U : Unde
               gain = T .gain o ∙ gains;
               inside = height-inside;
               small = gain-inside;
+              mirrored = turned-next;
             })
 
   pub done : length ns ≤ i → ProductIs ns b so

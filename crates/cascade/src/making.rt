@@ -22,6 +22,7 @@ fn make(indices: &[u64], b: &mut [i64], scratch: &mut [i64]) -> SoFar
     b[0] = 1;
     let mut so = SoFar {
         over: false,
+        turned: false,
         have: 1,
         height: 1,
         peak: 0,

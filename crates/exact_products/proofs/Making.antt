@@ -40,7 +40,7 @@ module _ {f old l : List ℤ} {i : ℕ} (m : Made f old l i) (one : 1 ≤ i) whe
   unfolding entries
   old-at k h = m .stands .below k (omega arith) (omega (arith, m .most))
 
-  pub made-ready : (have : ℕ) → 1 ≤ have → 1 ≤ length f → length f ≤ 65536 → have + length f ≡ length old + 1
+  pub made-ready : (have : ℕ) → 1 ≤ have → 1 ≤ length f → length f ≤ 65536 → length old + 1 ≤ have + length f
       → ZeroFrom have (entries old) → Ready l f have (i - 1)
   made-ready have some factor few room zeros =
       record {

@@ -14,7 +14,7 @@ pub record Ready (b f : List ℤ) (have i : ℕ) : Type 0 where
   pub some : 1 ≤ have
   pub factor : 1 ≤ length f
   pub few : length f ≤ 65536
-  pub room : have + length f ≡ length b + 1
+  pub room : length b + 1 ≤ have + length f
   pub inside : i < length b
   pub zeros : (k : ℕ) → have ≤ k → k ≤ i → entries b k ≡ 0ℤ
 

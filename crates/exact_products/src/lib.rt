@@ -62,12 +62,12 @@ fn coefficient(b: &[i64], f: &[i64], have: usize, i: usize, light: bool) -> i64
     heavy_sum(f, b, i, from, to)
 }
 
-// b, which has `have` entries and zeros after them, times f, in place: from the top down, an entry needs the old ones
-// up to its own place alone. Tells whether all are in range, and stops at the first that is not. A factor that is not
+// b, which has `have` entries and zeros after them, times f, in place, as far as b goes: from the top down, an entry
+// needs the old ones up to its own place alone. Tells whether all are in range, and stops at the first that is not. A factor that is not
 // light, of a weight of 2^30 or more, takes the slow way.
 pub fn multiply(b: &mut [i64], f: &[i64], have: usize) -> bool
     requires { ⌜ (1 ≤ have) × (1 ≤ length (now f)) × (length (now f) ≤ 65536)
-        × (have + length (now f) ≡ length (now b) + 1) × ZeroFrom have (entries (now b)) ⌝ }
+        × (length (now b) + 1 ≤ have + length (now f)) × ZeroFrom have (entries (now b)) ⌝ }
     ensures { λ r.
         ⌜ r ≡ not (someOutside largest 0 (length (now (b .entry)))
         (entries (now (f .entry)) · entries (now (b .entry)))) ⌝ }

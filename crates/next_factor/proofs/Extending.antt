@@ -2,11 +2,11 @@
 -- have (`factor-asked`), and what is then told: that the gain leaves the range, that a coefficient does, or the product.
 use Prim.Native.Nat.{ℕ, zero, suc, _+_, _*_, _-_, _<_, _≤_}
 use mathlib.Core.Path.{_≡_, refl, sym, _∙_, ap, ap₂, fun-ext}
-use mathlib.Core.Bool.{Bool, true, false, true≢false, not, _||_, or-true, Bool·not-not}
+use mathlib.Core.Bool.{Bool, true, false, true≢false, cond, not, _||_, or-true, Bool·not-not}
 use mathlib.Core.List.{List, _++_}
 use native.Mathlib.Omega.{arith}
 use native.Mathlib.Numerals.{add-one}
-use lib.Dec.{leb}
+use lib.Dec.{eqb, leb}
 use lib.IntN.{ℤ, pos, natAbs}
 use lib.ListN.{length, take, drop, length-append, length-drop, List·getD-append}
 use lib.Seq.{take-at, length-take-le, getD-take, getD-drop, getD-append-add}
@@ -19,16 +19,18 @@ use Rattle.definitions.specs.Answer.{heightOf, peakOf, gain}
 use Rattle.step_laws.specs.Tests.{by-order}
 use Rattle.step_laws.specs.Firsts.{length-firsts, getD-firsts, is-firsts, entries-past}
 use Rattle.series.specs.Degree.{ZeroFrom, degrees-add}
+use Rattle.series.specs.Mirror.{mirror}
 use Rattle.cyclotomic.specs.Degrees.{monic-F}
 use Rattle.index.proofs.Laws.{index-good}
 use Rattle.heights.specs.declared.Top.{Top}
 use Rattle.next_factor.specs.declared.SoFar.{SoFar}
 use Rattle.next_factor.specs.declared.Made.{Made}
 use Rattle.next_factor.specs.Taking.{MadeIs, Known, Room, Taken}
-use Rattle.next_factor.specs.Times.{Factor, Multiplied}
+use Rattle.next_factor.specs.Times.{Factor, Turns, Multiplied, signed}
+use Rattle.next_factor.proofs.Mirroring.{turned-product}
 
 abbrev pub nothing : SoFar
-nothing = record { over = true; have = 0; height = 0; peak = 0; gain = 0 }
+nothing = record { over = true; turned = false; have = 0; height = 0; peak = 0; gain = 0 }
 
 module _ {n : ℕ} {l scratch sc : List ℤ} {s : SoFar} {made : Made} (K : Known l s) (R : Room n l scratch s)
     (M : MadeIs n scratch sc made) where
@@ -63,10 +65,31 @@ module _ {n : ℕ} {l scratch sc : List ℤ} {s : SoFar} {made : Made} (K : Know
         good = R .good;
         some = K .some;
         ends = λ i b. same i ∙ K .ends i b;
-        room = front ∙ have-is;
+        room = omega (arith, front, have-is);
         bounded = λ i. rw (same i) (K .height i);
         inside = K .inside;
         factor = ap (λ k. take k sc) (ap (λ d. d + 1) (M .degree) ∙ add-one (phi n)) ∙ M .factor;
+      }
+
+  -- the sign of the upper half
+  abbrev sign : Bool
+  sign = cond (eqb n 1) (not (s .turned)) (s .turned)
+
+  product-turned : mirror (s .have + phi n - 1) (F n · entries l) ≡ signed sign (F n · entries l)
+  product-turned =
+      let last : suc (s .have - 1) ≡ s .have = omega (arith, K .some) in
+      let count : phi n + (s .have - 1) ≡ s .have + phi n - 1 = omega (arith, K .some) in
+      rw count
+      at (turned-product n (index-good n (R .good) .0) (s .have - 1) (s .turned) (entries l) (rw last (K .ends))
+      (K .mirrored))
+
+  pub turns-asked : {negate : Bool} → negate ≡ cond (eqb n 1) (not (s .turned)) (s .turned)
+      → Turns n (take (s .have + made .degree) l) (s .have) negate
+  turns-asked e =
+      record {
+        whole = front ∙ have-is;
+        mirrored = ap₂ (λ k f. mirror (k - 1) (F n · f)) (front ∙ have-is) same-series ∙ product-turned
+            ∙ ap₂ (λ b f. signed b (F n · f)) (sym e) (sym same-series);
       }
 
   -- the product has no more entries than that
@@ -95,6 +118,7 @@ module _ {n : ℕ} {l scratch sc : List ℤ} {s : SoFar} {made : Made} (K : Know
         have = λ e. absurd (true≢false e);
         height = λ e. absurd (true≢false e);
         peak = λ e. absurd (true≢false e);
+        mirrored = λ e. absurd (true≢false e);
         gain = λ e. absurd (true≢false e);
       }
 
@@ -128,6 +152,7 @@ module _ {n : ℕ} {l scratch sc : List ℤ} {s : SoFar} {made : Made} (K : Know
           have = λ e. absurd (true≢false e);
           height = λ e. absurd (true≢false e);
           peak = λ e. absurd (true≢false e);
+          mirrored = λ e. absurd (true≢false e);
           gain = λ e. absurd (true≢false e);
         }
 
@@ -151,7 +176,8 @@ module _ {n : ℕ} {l scratch sc : List ℤ} {s : SoFar} {made : Made} (K : Know
       taken-front = take-at m (drop have l) have m-length ∙ m-is
 
       pub extended :
-          {b : Bool} → b ≡ leb (s .gain * made .gain) largest → b ≡ true → {top : Top}
+          {b : Bool} → b ≡ leb (s .gain * made .gain) largest → b ≡ true → {negate : Bool}
+          → negate ≡ cond (eqb n 1) (not (s .turned)) (s .turned) → {top : Top}
           → top
           ≡ record {
             height = heightOf (take (s .have + made .degree) (m ++ drop (s .have + made .degree) l));
@@ -160,13 +186,14 @@ module _ {n : ℕ} {l scratch sc : List ℤ} {s : SoFar} {made : Made} (K : Know
           → Taken n l s (m ++ drop (s .have + made .degree) l)
           (record {
             over = false;
+            turned = negate;
             have = s .have + made .degree;
             height = top .height;
             peak = top .place;
             gain = s .gain * made .gain;
           })
       unfolding entries
-      extended {b} e small {top} is =
+      extended {b} e small {negate} signs {top} is =
           record {
             over = sym (ap₂ (λ x y. x || not y) (stays fit) (sym (gain-test b e) ∙ small));
             leaves = λ _. is-firsts (length l) (F n · entries l) whole whole-length entry;
@@ -174,5 +201,6 @@ module _ {n : ℕ} {l scratch sc : List ℤ} {s : SoFar} {made : Made} (K : Know
             have = λ _. have-is;
             height = λ _. ap (λ x. x .height) is ∙ ap heightOf taken-front;
             peak = λ _. ap (λ x. x .place) is ∙ ap peakOf taken-front;
+            mirrored = λ _. product-turned ∙ ap (λ b. signed b (F n · entries l)) (sym signs);
             gain = λ _. gain-product;
           }

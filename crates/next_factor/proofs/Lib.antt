@@ -1,4 +1,5 @@
 -- One factor more: what the routine goes by.
 pub mod Multiplying
+pub mod Mirroring
 pub mod Delivered
 pub mod Extending

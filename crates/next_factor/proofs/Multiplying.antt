@@ -58,7 +58,7 @@ module _ {n : ℕ} {l f : List ℤ} {have height : ℕ} (K : Factor n l f have h
   phi-small : phi n ≤ 65535
   phi-small = omega (arith, index-good n (K .good) .1, phi-le n)
 
-  pub multiply-asks : (1 ≤ have) × (1 ≤ length f) × (length f ≤ 65536) × (have + length f ≡ length l + 1)
+  pub multiply-asks : (1 ≤ have) × (1 ≤ length f) × (length f ≤ 65536) × (length l + 1 ≤ have + length f)
       × ZeroFrom have (entries l)
   multiply-asks =
       (K .some, omega (arith, f-length), omega (arith, f-length, phi-small), omega (arith, f-length, K .room), K .ends)

@@ -1,3 +1,3 @@
 -- What is known of a product, and what one factor more makes of it.
-pub mod Taking
 pub mod Times
+pub mod Taking

@@ -1,5 +1,5 @@
 -- What is known of a product, and what one factor more makes of it.
-use Prim.Native.Nat.{ℕ, suc, _+_, _<_, _≤_}
+use Prim.Native.Nat.{ℕ, suc, _+_, _-_, _<_, _≤_}
 use mathlib.Core.Path.{_≡_}
 use mathlib.Core.Bool.{true, false, not, _||_}
 use mathlib.Core.List.{List}
@@ -13,7 +13,9 @@ use Rattle.definitions.specs.Steps.{entries, inRange, someOutside, largest}
 use Rattle.definitions.specs.Requests.{goodIndex}
 use Rattle.definitions.specs.Answer.{heightOf, peakOf, gain}
 use Rattle.series.specs.Degree.{ZeroFrom}
+use Rattle.series.specs.Mirror.{mirror}
 use Rattle.step_laws.specs.Bound.{Bounded}
+use Rattle.next_factor.specs.Times.{signed}
 use Rattle.next_factor.specs.declared.SoFar.{SoFar}
 use Rattle.next_factor.specs.declared.Made.{Made}
 
@@ -24,14 +26,15 @@ pub record MadeIs (n : ℕ) (l m : List ℤ) (r : Made) : Type 0 where
   pub factor : take (suc (phi n)) m ≡ firsts (suc (phi n)) (F n)
   pub len : length m ≡ length l
 
--- the entries of l are the coefficients of a product: so many, none larger than the height; height and gain are in
--- range
+-- the entries of l are the coefficients of a product: so many, none larger than the height, the upper half mirroring
+-- the lower; height and gain are in range
 pub record Known (l : List ℤ) (s : SoFar) : Type 0 where
   pub some : 1 ≤ s .have
   pub ends : ZeroFrom (s .have) (entries l)
   pub height : Bounded (s .height) (entries l)
   pub inside : s .height ≤ largest
   pub gain : s .gain ≤ largest
+  pub mirrored : mirror (s .have - 1) (entries l) ≡ signed (s .turned) (entries l)
 
 -- there is room for F(n), and for the product with it
 pub record Room (n : ℕ) (l scratch : List ℤ) (s : SoFar) : Type 0 where
@@ -48,4 +51,6 @@ pub record Taken (n : ℕ) (l : List ℤ) (s : SoFar) (m : List ℤ) (r : SoFar)
   pub have : r .over ≡ false → r .have ≡ s .have + phi n
   pub height : r .over ≡ false → r .height ≡ heightOf (firsts (s .have + phi n) (F n · entries l))
   pub peak : r .over ≡ false → r .peak ≡ peakOf (firsts (s .have + phi n) (F n · entries l))
+  pub mirrored : r .over ≡ false
+      → mirror (s .have + phi n - 1) (F n · entries l) ≡ signed (r .turned) (F n · entries l)
   pub gain : r .over ≡ false → pos (r .gain) ≡ pos (s .gain) ⊗ Rattle.definitions.specs.Answer.gain 1 n

@@ -1,27 +1,37 @@
 -- A product's entries, and what its product with F(n) comes to.
-use Prim.Native.Nat.{ℕ, suc, _+_, _≤_}
+use Prim.Native.Nat.{ℕ, suc, _+_, _-_, _≤_}
 use mathlib.Core.Path.{_≡_}
-use mathlib.Core.Bool.{Bool, true, not}
+use mathlib.Core.Bool.{Bool, true, cond, not}
 use mathlib.Core.List.{List}
 use lib.ListN.{length}
 use lib.IntN.{ℤ}
-use Rattle.definitions.specs.Series.{_·_, firsts}
+use Rattle.definitions.specs.Series.{Series, -ˢ, _·_, firsts}
 use Rattle.definitions.specs.Numbers.{phi}
 use Rattle.definitions.specs.Polynomials.{F}
 use Rattle.definitions.specs.Steps.{entries, someOutside, largest}
 use Rattle.definitions.specs.Requests.{goodIndex}
 use Rattle.series.specs.Degree.{ZeroFrom}
+use Rattle.series.specs.Mirror.{mirror}
 use Rattle.step_laws.specs.Bound.{Bounded}
 
--- l has `have` entries of a product, none larger than the height, and then as many zeros as F(n), which is in f, needs
+-- l has `have` entries of a product, none larger than the height, and then zeros, no more than F(n), which is in f, needs
 pub record Factor (n : ℕ) (l f : List ℤ) (have height : ℕ) : Type 0 where
   pub good : goodIndex n ≡ true
   pub some : 1 ≤ have
   pub ends : ZeroFrom have (entries l)
-  pub room : length l ≡ have + phi n
+  pub room : length l ≤ have + phi n
   pub bounded : Bounded height (entries l)
   pub inside : height ≤ largest
   pub factor : f ≡ firsts (suc (phi n)) (F n)
+
+-- a series, or its negative
+unfoldable pub signed : Bool → Series → Series
+signed negate f = cond negate (-ˢ f) f
+
+-- l has room for the product with F(n), whose upper half is the lower one turned round, or the negative of that
+pub record Turns (n : ℕ) (l : List ℤ) (have : ℕ) (negate : Bool) : Type 0 where
+  pub whole : length l ≡ have + phi n
+  pub mirrored : mirror (length l - 1) (F n · entries l) ≡ signed negate (F n · entries l)
 
 -- the product with F(n) stands in m, or a coefficient of it is out of range
 pub record Multiplied (n : ℕ) (l m : List ℤ) (fits : Bool) : Type 0 where

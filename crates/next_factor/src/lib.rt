@@ -5,18 +5,20 @@ mod times;
 use heights::magnitude;
 use times::times;
 ghost use mathlib.Core.Path.{_≡_};
-ghost use mathlib.Core.Bool.{true};
+ghost use mathlib.Core.Bool.{true, false, cond, not};
 ghost use Prim.Native.Nat.{_*_, _<_};
-ghost use lib.Dec.{leb};
+ghost use lib.Dec.{eqb, leb};
 ghost use lib.ListN.{length};
 ghost use Rattle.definitions.specs.Numbers.{phi};
 ghost use Rattle.definitions.specs.Steps.{largest};
 ghost use Rattle.definitions.specs.Requests.{goodIndex};
 ghost use Rattle.next_factor.specs.Taking.{MadeIs, Known, Room, Taken};
 
-// A product so far: whether it is out of range; how many entries it has, its height, peak and gain.
+// A product so far: whether it is out of range; whether its upper half is the negative of the lower, turned round; how
+// many entries it has, its height, peak and gain.
 pub struct SoFar {
     pub over: bool,
+    pub turned: bool,
     pub have: usize,
     pub height: u64,
     pub peak: u64,
@@ -34,10 +36,11 @@ pub(crate) const MOST: u64 = 9223372036854775807;
 
 impl SoFar {
     fn out_of_range() -> SoFar
-        ensures { λ r. ⌜ r ≡ record { over = true; have = 0; height = 0; peak = 0; gain = 0 } ⌝ }
+        ensures { λ r. ⌜ r ≡ record { over = true; turned = false; have = 0; height = 0; peak = 0; gain = 0 } ⌝ }
     {
         SoFar {
             over: true,
+            turned: false,
             have: 0,
             height: 0,
             peak: 0,
@@ -54,6 +57,13 @@ pub(crate) fn product_fits(a: u64, b: u64) -> bool
         return true;
     }
     b <= MOST / a
+}
+
+// F(1) changes the sign of the upper half.
+fn turned_by(n: u64, turned: bool) -> bool
+    ensures { λ r. ⌜ r ≡ cond (eqb n 1) (not turned) turned ⌝ }
+{
+    if n == 1 { !turned } else { turned }
 }
 
 // F(n) in the first entries of the scratch; its degree and gain are told. No request for it is refused.
@@ -82,12 +92,21 @@ pub fn take_factor(b: &mut [i64], scratch: &mut [i64], n: u64, so: SoFar) -> SoF
     }
     let size = made.degree + 1;
     let have = before + made.degree;
-    if !times(&mut b[..have], n, &scratch[..size], before, so.height) {
+    let turned = turned_by(n, so.turned);
+    if !times(
+        &mut b[..have],
+        n,
+        &scratch[..size],
+        before,
+        so.height,
+        turned,
+    ) {
         return SoFar::out_of_range();
     }
     let top = heights::peak(&b[..have]);
     SoFar {
         over: false,
+        turned,
         have,
         height: top.height,
         peak: top.place,

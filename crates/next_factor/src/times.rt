@@ -9,7 +9,7 @@ ghost use Rattle.definitions.specs.Polynomials.{F};
 ghost use Rattle.definitions.specs.Steps.{largest};
 ghost use Rattle.definitions.specs.Requests.{goodIndex};
 ghost use Rattle.factor_steps.specs.Multiplied as Modulo;
-ghost use Rattle.next_factor.specs.Times.{Factor, Multiplied};
+ghost use Rattle.next_factor.specs.Times.{Factor, Turns, Multiplied};
 
 // Steps serve where a coefficient, at most the height of the product so far times the sum of the factor's magnitudes,
 // stays in range. F(1) has a sign that no step has, and with one entry there is nothing to spare.
@@ -34,8 +34,8 @@ fn take_steps(b: &mut [i64], n: u64)
     factor_steps::times_factor(b, n, parts);
 }
 
-// The product, or whether a coefficient is out of range.
-pub(crate) fn times(b: &mut [i64], n: u64, f: &[i64], have: usize, height: u64) -> bool
+// The product as far as b goes; or whether a coefficient of that is out of range.
+fn times_lower(b: &mut [i64], n: u64, f: &[i64], have: usize, height: u64) -> bool
     requires { ⌜ Factor n (now b) (now f) have height ⌝ }
     ensures { λ r. ⌜ Multiplied n (now (b .entry)) (now (b .exit)) r ⌝ }
 {
@@ -45,4 +45,24 @@ pub(crate) fn times(b: &mut [i64], n: u64, f: &[i64], have: usize, height: u64) 
         return true;
     }
     exact_products::multiply(b, f, have)
+}
+
+// The product, or whether a coefficient is out of range: its upper half mirrors the lower.
+pub(crate) fn times(
+    b: &mut [i64],
+    n: u64,
+    f: &[i64],
+    have: usize,
+    height: u64,
+    negate: bool,
+) -> bool
+    requires { ⌜ Factor n (now b) (now f) have height × Turns n (now b) have negate ⌝ }
+    ensures { λ r. ⌜ Multiplied n (now (b .entry)) (now (b .exit)) r ⌝ }
+{
+    let half = (b.len() + 1) / 2;
+    if !times_lower(&mut b[..half], n, f, have, height) {
+        return false;
+    }
+    shapes::mirror(b, negate);
+    true
 }

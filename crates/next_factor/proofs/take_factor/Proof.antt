@@ -7,7 +7,7 @@ use mathlib.Core.List.{_++_}
 use lib.ListN.{length, drop}
 use lib.Seq.{length-take-le}
 use Rattle.definitions.specs.Steps.{largest}
-use Rattle.next_factor.proofs.Extending.{inside, scratch-inside, factor-asked, gain-over, coefficient-over, whole-length, extended}
+use Rattle.next_factor.proofs.Extending.{inside, scratch-inside, factor-asked, turns-asked, gain-over, coefficient-over, whole-length, extended}
 use borrow.Author.Needs.{needs}
 use Rattle.next_factor.proofs.take_factor.Statement.{statement}
 use Rattle.next_factor.proofs.take_factor.Tie as tie
@@ -26,7 +26,7 @@ module _ (g : tie.After-make-factor) where
 -- what the multiplication left has room for it too
 module _ (t : tie.After-times) where
   abbrev made : tie.After-make-factor
-  made = t .before .before .before .before .before .before .before .before
+  made = t .before .before .before .before .before .before .before .before .before
 
   kept : start made .args .so .have + made .make-factor .result .degree
       ≤ length (t .times .last .0 ++ drop (start made .args .so .have + made .make-factor .result .degree) (start made .args .b .now))
@@ -61,23 +61,28 @@ add-size c = record { fits = omega (arith, factor-room (c .before .before .befor
 add-have : tie.Need-add-have
 add-have c = record { fits = omega (arith, room (c .before .before .before .before .before)) }
 
+turned-by-requires : tie.Need-turned-by-requires
+turned-by-requires c κs = search needs
+
 slice-relend-prefix-times : tie.Need-slice-relend-prefix-times
-slice-relend-prefix-times c = room (c .before .before .before .before .before)
+slice-relend-prefix-times c = room (c .before .before .before .before .before .before)
 
 slice-aggregate-times : tie.Need-slice-aggregate-times
-slice-aggregate-times c = sym (length-take-le _ _ (room (c .before .before .before .before .before .before)))
+slice-aggregate-times c = sym (length-take-le _ _ (room (c .before .before .before .before .before .before .before)))
 
 slice-reshare-prefix-times : tie.Need-slice-reshare-prefix-times
-slice-reshare-prefix-times c = factor-room (c .before .before .before .before .before .before)
+slice-reshare-prefix-times c = factor-room (c .before .before .before .before .before .before .before)
 
 slice-aggregate-times-2 : tie.Need-slice-aggregate-times-2
-slice-aggregate-times-2 c = sym (length-take-le _ _ (factor-room (c .before .before .before .before .before .before .before)))
+slice-aggregate-times-2 c = sym (length-take-le _ _ (factor-room (c .before .before .before .before .before .before .before .before)))
 
 times-requires : tie.Need-times-requires
 times-requires c κs =
-    let g = c .before .before .before .before .before .before .before in
-    let p = start g in
-    factor-asked (p .pre .0) (p .pre .1) (g .make-factor .ensures)
+    let g = c .before .before .before .before .before .before .before .before in
+    let p = start g in (
+      factor-asked (p .pre .0) (p .pre .1) (g .make-factor .ensures),
+      turns-asked (p .pre .0) (p .pre .1) (g .make-factor .ensures) (c .before .before .turned-by .ensures),
+    )
 
 out-of-range-requires-2 : tie.Need-out-of-range-requires-2
 out-of-range-requires-2 c κs = search needs
@@ -90,7 +95,7 @@ same-length-3 c = search needs
 
 returns-2 : tie.Need-returns-2
 returns-2 c =
-    let g = c .before .before .before .before .before .before .before .before .before .before .before in
+    let g = c .before .before .before .before .before .before .before .before .before .before .before .before in
     let p = start g in (
       rw (sym (c .out-of-range2 .ensures))
           at (coefficient-over (p .pre .0) (p .pre .1) (g .make-factor .ensures) (c .before .before .before .times .ensures)
@@ -107,9 +112,9 @@ slice-aggregate-peak c = sym (length-take-le _ _ (kept (c .before .before .befor
 peak-requires : tie.Need-peak-requires
 peak-requires c κs = search needs
 
-mul-t21 : tie.Need-mul-t21
-mul-t21 c =
-    let e = c .before .before .before .before .before .before .before .before .before .before in
+mul-t22 : tie.Need-mul-t22
+mul-t22 c =
+    let e = c .before .before .before .before .before .before .before .before .before .before .before in
     let g = e .before .before .before in
     let small : start g .args .so .gain * g .make-factor .result .gain ≤ largest
     = leb-true _ _ (sym (e .before .product-fits .ensures) ∙ not-false _ (e .if1 .left)) in
@@ -126,9 +131,9 @@ returns-3 c =
     let t = c .before .before .before .before .before in
     let g = made t in
     let p = start g in
-    let e = c .before .before .before .before .before .before .before .before .before .before in (
+    let e = c .before .before .before .before .before .before .before .before .before .before .before in (
       extended (p .pre .0) (p .pre .1) (g .make-factor .ensures) (t .times .ensures) (not-false _ (c .before .before .before .if2 .left))
-          (e .before .product-fits .ensures) (not-false _ (e .if1 .left)) (c .before .peak .ensures),
+          (e .before .product-fits .ensures) (not-false _ (e .if1 .left)) (t .before .before .before .turned-by .ensures) (c .before .peak .ensures),
       g .make-factor .ensures .len,
     )
 
@@ -143,6 +148,7 @@ take-factor-spec =
     returns
     add-size
     add-have
+    turned-by-requires
     slice-relend-prefix-times
     slice-aggregate-times
     slice-reshare-prefix-times
@@ -155,7 +161,7 @@ take-factor-spec =
     slice-reshare-prefix-peak
     slice-aggregate-peak
     peak-requires
-    mul-t21
+    mul-t22
     same-length-4
     same-length-5
     returns-3)

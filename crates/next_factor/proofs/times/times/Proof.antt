@@ -1,50 +1,56 @@
--- `times` meets its contract, either way (Multiplying).
+-- `times` meets its contract: the lower half, and its mirror (Mirroring).
+use mathlib.Core.Path.{sym}
+use borrow.Author.Tests.{not-true, not-false}
 use borrow.Author.Needs.{needs}
-use Rattle.next_factor.proofs.Multiplying.{multiply-asks, by-steps, multiplied-out}
+use lib.Seq.{length-take-le}
+use Rattle.next_factor.proofs.Mirroring.{half-room, lower-asked, lower-over, mirror-asks, mirror-makes}
 use Rattle.next_factor.proofs.times.times.Statement.{statement}
 use Rattle.next_factor.proofs.times.times.Tie as tie
 
-weight-of-requires : tie.Need-weight-of-requires
-weight-of-requires c κs = search needs
+add-half : tie.Need-add-half
+add-half c = search needs
 
-by-steps-requires : tie.Need-by-steps-requires
-by-steps-requires c κs = search needs
+slice-relend-prefix-times-lower : tie.Need-slice-relend-prefix-times-lower
+slice-relend-prefix-times-lower c = half-room (c .pre .0) (c .pre .1)
 
-take-steps-requires : tie.Need-take-steps-requires
-take-steps-requires c κs =
-    let p = c .before .before .before .before in
-    (p .pre .good, c .before .before .by-steps .ensures (c .before .if1 .taken) .0)
+slice-aggregate-times-lower : tie.Need-slice-aggregate-times-lower
+slice-aggregate-times-lower c = sym (length-take-le _ _ (half-room (c .before .pre .0) (c .before .pre .1)))
+
+times-lower-requires : tie.Need-times-lower-requires
+times-lower-requires c κs = lower-asked (c .before .pre .0) (c .before .pre .1)
 
 same-length : tie.Need-same-length
 same-length c = search needs
 
 returns : tie.Need-returns
 returns c =
-    let s = c .before .before .before .before in
-    let p = s .before .before in
-    by-steps (p .pre) (s .before .weight-of .result) (s .before .weight-of .ensures)
-    (s .by-steps .ensures (c .before .before .before .if1 .taken) .1) _ (c .before .take-steps .ensures)
+    let p = c .before .before .before .before in
+    lower-over (p .pre .0) (p .pre .1) (c .before .before .times-lower .ensures) (not-true _ (c .if1 .taken))
 
-multiply-requires : tie.Need-multiply-requires
-multiply-requires c κs = multiply-asks (c .before .before .before .before .pre)
+mirror-requires : tie.Need-mirror-requires
+mirror-requires c κs =
+    let p = c .before .before .before .before .before in
+    mirror-asks (p .pre .0) (p .pre .1) (c .before .before .before .times-lower .ensures) (not-false _ (c .before .if1 .left))
 
 same-length-2 : tie.Need-same-length-2
 same-length-2 c = search needs
 
 returns-2 : tie.Need-returns-2
 returns-2 c =
-    multiplied-out (c .before .before .before .before .before .before .pre) _ _ (c .before .multiply .ensures .0)
-    (c .before .multiply .ensures .1)
+    let p = c .before .before .before .before .before .before .before in
+    mirror-makes (p .pre .0) (p .pre .1) (c .before .before .before .before .before .times-lower .ensures) (not-false _ (c .before .before .before .if1 .left))
+    (c .before .mirror .ensures)
 
 pub times-spec : {M : Type 1} → statement M
 times-spec =
     tie.close
     (tie.spec
-    weight-of-requires
-    by-steps-requires
-    take-steps-requires
+    add-half
+    slice-relend-prefix-times-lower
+    slice-aggregate-times-lower
+    times-lower-requires
     same-length
     returns
-    multiply-requires
+    mirror-requires
     same-length-2
     returns-2)
