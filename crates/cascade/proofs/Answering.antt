@@ -4,8 +4,9 @@ use mathlib.Core.Path.{_≡_, refl, sym, _∙_, ap, ap₂}
 use mathlib.Core.Bool.{Bool, true, false, cond, not, _||_, or-true}
 use mathlib.Core.List.{List, _++_}
 use native.Mathlib.Omega.{arith}
+use native.Mathlib.Nat as NatL
 use native.Mathlib.Numerals.{add-one}
-use borrow.Author.Tests.{le-ltb, lt-ltb, le-leb, lt-leb}
+use borrow.Author.Tests.{le-ltb, lt-ltb, le-leb, lt-leb, eqb-false}
 use lib.Dec.{eqb, ltb, leb}
 use lib.IntN.{ℤ, pos}
 use lib.ListN.{length, drop, length-replicate}
@@ -16,6 +17,7 @@ use Rattle.definitions.specs.Requests.{written, zeros}
 use Rattle.definitions.specs.Answer.{heightOf, peakOf, gainOf}
 use Rattle.definitions.specs.Cascades.{product, totalDegree, productCoefficients, longest, allGood, cascadeOver}
 use Rattle.definitions.specs.Cascades.{firstsOver}
+use Rattle.step_laws.specs.Tests.{neither}
 use Rattle.step_laws.specs.Firsts.{length-firsts}
 use Rattle.answers.specs.Cascade.{code, answered, answer, left, leaves, scratched, scratches}
 use Rattle.answers.specs.declared.Answer.{Answer}
@@ -128,6 +130,10 @@ module _ (ns : List ℕ) (h : ℤ) (room scratch : ℕ) where
         → code ns h room scratch ≡ LIMIT
     unfolding code
     ask-limit e f g = rw (few, e, f, g)
+
+pub some-index : {ns : List ℕ} {h : ℕ} → Ready ns h → 0 < length ns
+some-index {ns} R =
+    NatL.pos-of-ne-zero (eqb-false (length ns) 0 (neither (eqb (length ns) 0) (ltb 8 (length ns)) (R .few) .0))
 
 module _ {ns : List ℕ} {h : ℕ} (R : Ready ns h) (room scratch : ℕ) where
   limit : belowOne (pos h) ≡ false

@@ -41,40 +41,12 @@ use Rattle.index.proofs.Laws.{index-good}
 use Rattle.next_factor.proofs.Delivered.{never, height-fits, gain-whole}
 use Rattle.cascade.specs.Reordered.{Reordered, same, swap, behind, after}
 use Rattle.cascade.proofs.Lists.{gain-of-product, over-by-firsts}
+use Rattle.cascade.proofs.OneFactor.{one-degree, one-product, one-coefficients, one-fine}
 
--- ---- one index: the product is F(n) itself
-module _ (n : ℕ) where
-  one-degree : totalDegree (n ∷ []) ≡ degree 1 n
-  unfolding totalDegree sumOf degree
-  one-degree = omega arith
-
-  one-product : product (n ∷ []) ≡ F n
-  unfolding product productOf
-  one-product = ·-one (F n)
-
-  one-coefficients : productCoefficients (n ∷ []) ≡ coefficients 1 n
-  unfolding productCoefficients coefficients polynomial
-  one-coefficients = ap₂ (λ d f. firsts (suc d) f) one-degree one-product
-
--- the gain is small
-module _ (n : ℕ) (good : goodIndex n ≡ true) where
-  small-gain : inRange largest (gain 1 n) ≡ true
-  small-gain =
-      let (k, e, l) = gain-whole n good in in-range largest (gain 1 n) (rw e (omega arith))
-
-  -- so F(n) alone is never out of range
-  one-inside : (i : ℕ) → 0 ≤ i → i < suc (totalDegree (n ∷ [])) → inRange largest (product (n ∷ []) i) ≡ true
-  unfolding inRange polynomial
-  one-inside i a b =
-      rw (one-product n)
-      (le-leb (natAbs (F n i)) largest
-      (NatL.le-trans (at-most-height 1 n (index-good n good .0) i) (height-fits n good)))
-
-  one-not-over : cascadeOver (n ∷ []) ≡ false
-  unfolding firstsOver productOver allGood gain
-  one-not-over =
-      let inside = inside-all largest 0 (product (n ∷ [])) (suc (totalDegree (n ∷ []))) one-inside in
-      over-by-firsts (n ∷ []) (rw good) ∙ rw (inside, one-coefficients n, small-gain)
+-- ---- one index
+one-not-over : (n : ℕ) → goodIndex n ≡ true → cascadeOver (n ∷ []) ≡ false
+unfolding firstsOver allGood
+one-not-over n good = over-by-firsts (n ∷ []) (rw good) ∙ rw (one-fine n good)
 
 no-limit : belowOne (pos largest) ≡ false
 unfolding belowOne

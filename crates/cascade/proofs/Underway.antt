@@ -2,36 +2,38 @@
 use Prim.Native.Nat.{ℕ, zero, suc, _+_, _-_, _<_, _≤_}
 use mathlib.Core.Path.{_≡_, refl, sym, _∙_, ap, ap₂, fun-ext}
 use mathlib.Core.Bool.{Bool, true, false, true≢false, not, _||_, Bool·not-not}
-use mathlib.Core.List.{List, []}
+use mathlib.Core.List.{List, [], _∷_}
 use native.Mathlib.Omega.{arith}
 use native.Mathlib.Nat as NatL
 use native.Mathlib.Numerals.{add-one}
-use lib.ListN.{length, take, getD, set, length-set, length-replicate, getD-replicate}
-use lib.Seq.{take-all, take-length, getD-set-same, getD-set-other}
+use lib.ListN.{length, take, getD, length-replicate}
+use lib.Seq.{take-all, take-suc}
 use lib.IntN.{ℤ, pos, natAbs}
-use Rattle.definitions.specs.Integers.{_⊕_, _⊗_, 0ℤ, 1ℤ}
-use Rattle.definitions.specs.Series.{Series, _·_, constant, 𝟙, firsts}
+use Rattle.definitions.specs.Integers.{_⊗_, 0ℤ}
+use Rattle.definitions.specs.Series.{_·_, firsts}
 use Rattle.definitions.specs.Numbers.{phi}
-use Rattle.definitions.specs.Polynomials.{F}
+use Rattle.definitions.specs.Polynomials.{F, degree}
 use Rattle.definitions.specs.Steps.{entries, inRange, someOutside, largest}
-use Rattle.definitions.specs.Requests.{zeros}
-use Rattle.definitions.specs.KeptHalf.{productOf, sumOf}
-use Rattle.definitions.specs.Answer.{heightOf, placeOf, peakOf, gainOf}
+use Rattle.definitions.specs.Requests.{goodIndex, zeros}
+use Rattle.definitions.specs.Answer.{coefficients, heightOf, height, peakOf, peak, gainOf, gain}
 use Rattle.definitions.specs.Cascades.{product, totalDegree, productCoefficients, longest, allGood, productOver}
 use Rattle.definitions.specs.Cascades.{firstsOver}
-use Rattle.series.specs.Laws.{constant-above}
-use Rattle.series.specs.Mirror.{mirror, is-mirror}
+use Rattle.series.specs.Mirror.{mirror}
 use Rattle.step_laws.specs.Tests.{by-order, neither}
-use Rattle.step_laws.specs.Firsts.{length-firsts, is-firsts, firsts-here, firsts-past}
+use Rattle.step_laws.specs.Firsts.{length-firsts, firsts-here, firsts-past}
 use Rattle.step_laws.specs.Outside.{inside-each}
 use Rattle.step_laws.specs.Signed.{range-in}
 use Rattle.cyclotomic.specs.Heights.{entry-height, height-least}
 use Rattle.next_factor.specs.Times.{signed}
-use Rattle.next_factor.specs.Taking.{Known, Room, Taken}
+use Rattle.next_factor.specs.Taking.{First, Known, Room, Taken}
 use Rattle.next_factor.specs.declared.SoFar.{SoFar}
+use Rattle.next_factor.proofs.Delivered.{height-fits, gain-whole}
+use Rattle.next_factor.proofs.Mirroring.{turned-factor}
+use Rattle.index.proofs.Laws.{index-good}
 use Rattle.cascade.specs.Making.{Roomy, ProductIs}
 use Rattle.cascade.proofs.Lists.{good-part, good-at, longest-at, degree-part, degree-more, product-more}
 use Rattle.cascade.proofs.Lists.{monic-product, gain-more, stays-over}
+use Rattle.cascade.proofs.OneFactor.{one-degree, one-product, one-coefficients, one-fine}
 
 pub record Underway (ns : List ℕ) (b scratch : List ℤ) (so : SoFar) (i : ℕ) : Type 0 where
   pub roomy : Roomy ns b scratch
@@ -47,43 +49,69 @@ pub record Underway (ns : List ℕ) (b scratch : List ℤ) (so : SoFar) (i : ℕ
   pub small : so .gain ≤ largest
   pub mirrored : mirror (totalDegree (take i ns)) (product (take i ns)) ≡ signed (so .turned) (product (take i ns))
 
--- ---- the start: 1
-abbrev pub one : SoFar
-one = record { over = false; turned = false; have = 1; height = 1; peak = 0; gain = 1 }
+-- ---- the start: the first factor
+module _ {ns : List ℕ} (some : 0 < length ns) {l scratch : List ℤ} (R : Roomy ns l scratch) where
+  abbrev n : ℕ
+  n = getD ns 0 0
 
-start-list : (n : ℕ) (m : List ℤ) → m ≡ set (zeros (suc n)) 0 1ℤ → m ≡ firsts (suc n) 𝟙
-unfolding entries zeros constant
-start-list n m e =
-    is-firsts (suc n) 𝟙 m (ap length e ∙ length-set (zeros (suc n)) 0 1ℤ ∙ length-replicate (suc n) 0ℤ)
-    (λ k b. ap (λ x. getD x k 0ℤ) e ∙ at k b)
-  where
-    at : (k : ℕ) → k < suc n → getD (set (zeros (suc n)) 0 1ℤ) k 0ℤ ≡ 𝟙 k
-    at zero b = refl
-    at (suc k) b = getD-replicate n k 0ℤ 0ℤ (NatL.le-of-suc-le-suc b)
+  good : goodIndex n ≡ true
+  good = good-at ns 0 some (R .good)
 
-pub underway-start : (ns : List ℕ) (b scratch m : List ℤ) → Roomy ns b scratch → m ≡ set (zeros (length b)) 0 1ℤ
-    → Underway ns m scratch one 0
-unfolding firstsOver productCoefficients product totalDegree productOf sumOf heightOf peakOf placeOf gainOf firsts constant
-    zeros _⊕_ signed
-underway-start ns b scratch m R e =
-    record {
-      roomy = record { good = R .good; room = ap length e ∙ length-set (zeros (length b)) 0 1ℤ ∙ length-replicate (length b) 0ℤ ∙ R .room; factor = R .factor };
-      at = omega arith;
-      told = refl;
-      fine = refl;
-      leaves = start-list (totalDegree ns) m (e ∙ ap (λ k. set (zeros k) 0 1ℤ) (R .room));
-      have = refl;
-      height = refl;
-      peak = refl;
-      gain = refl;
-      inside = omega arith;
-      small = omega arith;
-      mirrored = is-mirror 0 𝟙 𝟙 first-alone (λ k b. constant-above 1ℤ k b);
-    }
-  where
-    first-alone : (k : ℕ) → k ≤ 0 → 𝟙 k ≡ 𝟙 (0 - k)
-    first-alone zero b = refl
-    first-alone (suc k) b = absurd (omega arith)
+  one-first : take 1 ns ≡ n ∷ []
+  one-first = take-suc ns 0 0 some
+
+  pub first-asks : (b : List ℤ) → b ≡ zeros (length l)
+      → (goodIndex (getD ns 0 0) ≡ true) × (phi (getD ns 0 0) < length b) × (b ≡ zeros (length b))
+  unfolding zeros
+  first-asks b e =
+      let len : length b ≡ length l = ap length e ∙ length-replicate (length l) 0ℤ in (
+        good,
+        omega (arith, len, R .room, degree-more ns 0 some, degree-part ns 1),
+        e ∙ ap zeros (sym len),
+      )
+
+  module _ {b : List ℤ} (e : b ≡ zeros (length l)) {m : List ℤ} {r : SoFar} (T : First (getD ns 0 0) b m r) where
+    size : length b ≡ suc (totalDegree ns)
+    unfolding zeros
+    size = ap length e ∙ length-replicate (length l) 0ℤ ∙ R .room
+
+    first-coefficients : productCoefficients (take 1 ns) ≡ coefficients 1 n
+    first-coefficients = ap productCoefficients one-first ∙ one-coefficients n
+
+    product-is : product (take 1 ns) ≡ F n
+    product-is = ap product one-first ∙ one-product n
+
+    degree-is : totalDegree (take 1 ns) ≡ phi n
+    unfolding degree
+    degree-is = ap totalDegree one-first ∙ one-degree n
+
+    small-gain : r .gain ≤ largest
+    small-gain =
+        let (k, whole, few) = gain-whole n good in
+        omega (arith, ap natAbs (T .gain ∙ whole))
+
+    pub underway-first : Underway ns m scratch r 1
+    unfolding firstsOver height peak gain
+    underway-first =
+        record {
+          roomy = record {
+            good = R .good;
+            room = ap length (T .leaves) ∙ length-firsts (length b) (F n) ∙ size;
+            factor = R .factor;
+          };
+          at = some;
+          told = T .over;
+          fine = ap productOver one-first ∙ one-fine n good;
+          leaves = T .leaves ∙ ap₂ firsts size (sym product-is);
+          have = T .have ∙ ap suc (sym degree-is);
+          height = T .height ∙ ap heightOf (sym first-coefficients);
+          peak = T .peak ∙ ap peakOf (sym first-coefficients);
+          gain = T .gain ∙ ap gainOf (sym first-coefficients);
+          inside = rw (T .height) (height-fits n good);
+          small = small-gain;
+          mirrored = ap₂ mirror degree-is product-is ∙ turned-factor n (index-good n good .0)
+              ∙ ap₂ signed (sym (T .turned)) (sym product-is);
+        }
 
 module _ {ns : List ℕ} {b scratch : List ℤ} {so : SoFar} {i : ℕ} (U : Underway ns b scratch so i) where
   ends : (k : ℕ) → suc (totalDegree (take i ns)) ≤ k → product (take i ns) k ≡ 0ℤ

@@ -2,8 +2,10 @@
 use crate::asked::Sizes;
 use answers::Answer;
 use next_factor::SoFar;
+use next_factor::first_factor;
 use next_factor::take_factor;
 ghost use mathlib.Core.Path.{_≡_};
+ghost use Prim.Native.Nat.{_<_};
 ghost use lib.ListN.{length};
 ghost use lib.IntN.{pos};
 ghost use Rattle.definitions.specs.Requests.{zeros};
@@ -12,23 +14,15 @@ ghost use Rattle.answers.specs.Cascade as Cascade;
 ghost use Rattle.cascade.specs.Asked.{SizesAre};
 ghost use Rattle.cascade.specs.Making.{Ready, Roomy, ProductIs, makingCode, laid};
 
-// The product, one factor after the other, from 1 on; it stops where one is out of range.
+// The product, one factor after the other; it stops where one is out of range.
 fn make(indices: &[u64], b: &mut [i64], scratch: &mut [i64]) -> SoFar
-    requires { ⌜ Roomy (now indices) (now b) (now scratch) ⌝ }
+    requires { ⌜ (0 < length (now indices)) × Roomy (now indices) (now b) (now scratch) ⌝ }
     ensures { λ r. ⌜ ProductIs (now (indices .entry)) (now (b .exit)) r ⌝ }
     ensures { λ _. ⌜ length (now (scratch .exit)) ≡ length (now (scratch .entry)) ⌝ }
 {
     shapes::clear(b);
-    b[0] = 1;
-    let mut so = SoFar {
-        over: false,
-        turned: false,
-        have: 1,
-        height: 1,
-        peak: 0,
-        gain: 1,
-    };
-    let mut i = 0;
+    let mut so = first_factor(b, indices[0]);
+    let mut i = 1;
     while i < indices.len() {
         so = take_factor(b, scratch, indices[i], so);
         if so.over {
@@ -41,7 +35,8 @@ fn make(indices: &[u64], b: &mut [i64], scratch: &mut [i64]) -> SoFar
 
 // OVER, TALL or the product, in as many entries as it has. The scratch is cleared whatever comes.
 fn answer_of(indices: &[u64], total: u64, h: u64, b: &mut [i64], scratch: &mut [i64]) -> Answer
-    requires { ⌜ (total ≡ totalDegree (now indices)) × Roomy (now indices) (now b) (now scratch) ⌝ }
+    requires { ⌜ (total ≡ totalDegree (now indices)) × (0 < length (now indices))
+        × Roomy (now indices) (now b) (now scratch) ⌝ }
     ensures { λ r. ⌜ r ≡ Cascade.answered (now (indices .entry)) (makingCode (now (indices .entry)) h) ⌝ }
     ensures { λ _. ⌜ now (b .exit) ≡ laid (now (indices .entry)) (makingCode (now (indices .entry)) h) ⌝ }
     ensures { λ _. ⌜ now (scratch .exit) ≡ zeros (length (now (scratch .entry))) ⌝ }

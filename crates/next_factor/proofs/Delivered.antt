@@ -9,30 +9,33 @@ use mathlib.Core.List.{List, _++_}
 use native.Mathlib.Omega.{arith}
 use native.Mathlib.Nat as NatL
 use native.Mathlib.Decide.{ℕ-discrete}
+use native.Mathlib.Numerals.{add-one}
 use borrow.Author.Tests.{le-ltb, lt-leb}
 use lib.Dec.{eqb}
 use lib.IntN.{ℤ, pos, natAbs}
-use lib.ListN.{length, take, drop, length-append, length-drop}
-use lib.Seq.{take-at}
+use lib.ListN.{length, take, drop, getD, length-append, length-drop, List·getD-append, getD-replicate}
+use lib.Seq.{take-at, getD-append-add, getD-drop}
 use mir.Syntax.{w64}
 use mir.Val.{SFits}
 use mir.Facts.{toZ-ofZ}
 use Rattle.definitions.specs.Codes.{DONE}
-use Rattle.definitions.specs.Integers.{⊖}
+use Rattle.definitions.specs.Integers.{⊖, 0ℤ}
 use Rattle.definitions.specs.Series.{firsts, constant, 𝟙, -ˢ}
 use Rattle.definitions.specs.Numbers.{rOf, mOf, phi, kOf, divides, divisorsBelow}
 use Rattle.definitions.specs.Polynomials.{F, degree, polynomial}
 use Rattle.definitions.specs.Steps.{entries, largest, belowOne}
 use Rattle.definitions.specs.KeptHalf.{halfDegree, keptHalf, start}
-use Rattle.definitions.specs.Requests.{knownKind, goodIndex, divisorsDue, nextDivisor, overAt, overAmong, written}
+use Rattle.definitions.specs.Requests.{knownKind, goodIndex, divisorsDue, nextDivisor, overAt, overAmong, written, zeros}
 use Rattle.definitions.specs.Answer.{coefficients, height, gain}
 use Rattle.numbers.specs.Apart.{r-odd-squarefree, m-divides, m-above}
+use Rattle.numbers.specs.Phi.{phi-le}
 use Rattle.numbers.specs.PhiPrime.{prime-phi}
 use Rattle.numbers.specs.Lists.{entry-has}
 use Rattle.step_laws.specs.Bound.{Bounded, stays-inside, firsts-bounded}
-use Rattle.step_laws.specs.Firsts.{length-firsts, firsts-here}
+use Rattle.step_laws.specs.Firsts.{length-firsts, getD-firsts, is-firsts, firsts-here}
 use Rattle.step_laws.specs.Machine.{seen}
-use Rattle.step_laws.specs.Tests.{neither}
+use Rattle.step_laws.specs.Tests.{by-order, neither}
+use Rattle.cyclotomic.specs.Degrees.{monic-F}
 use Rattle.cyclotomic.specs.Kept.{kept-all, step-kept, kept-start}
 use Rattle.cyclotomic.specs.Heights.{told-half, told-one, height-least}
 use Rattle.cyclotomic.specs.Gain.{gains, gain-prime, gain-composite}
@@ -40,7 +43,7 @@ use Rattle.answers.specs.declared.Answer.{Answer}
 use Rattle.answers.specs.Polynomial.{code, answered, answer, left, leaves}
 use Rattle.index.proofs.Laws.{index-good}
 use Rattle.never_over.specs.NotOver.{not-over, promised-fits}
-use Rattle.next_factor.specs.Taking.{MadeIs}
+use Rattle.next_factor.specs.Taking.{MadeIs, First}
 
 -- the start is 1 or -1, and then zeros
 start-bound : (kind i : ℕ) → natAbs (start kind i) ≤ 1
@@ -125,6 +128,20 @@ module _ (n : ℕ) (good : goodIndex n ≡ true) where
     unfolding coefficients degree
     factor-length = length-firsts (suc (degree 1 n)) (polynomial 1 n)
 
+    pub told-small : {a : Answer} → a ≡ answer 1 n (pos largest) (pos largest) (length l) → a .degree ≤ 65535
+    unfolding answered degree
+    told-small e =
+        rw (ap (λ x. x .degree) (e ∙ its-answer)) (NatL.le-trans (phi-le n) (index-good n good .1))
+
+    -- the gain that was told, as the machine reads it
+    told-gain : {a : Answer} {g : ℕ} → a ≡ answered 1 n DONE → g ≡ natAbs (seen (a .gain)) → pos g ≡ gain 1 n
+    unfolding answered
+    told-gain e read =
+        let (k, whole, small) = gain-whole n good in
+        let fits : SFits w64 (pos k) = record { sfits = omega arith } in
+        ap pos (read ∙ ap (λ x. natAbs (seen x)) (ap (λ x. x .gain) e ∙ whole) ∙ ap natAbs (toZ-ofZ fits))
+        ∙ sym whole
+
     pub made-is :
         {a : Answer} {m : List ℤ} {g : ℕ} → a ≡ answer 1 n (pos largest) (pos largest) (length l)
         → m ≡ leaves 1 n (pos largest) (pos largest) l → g ≡ natAbs (seen (a .gain))
@@ -133,14 +150,60 @@ module _ (n : ℕ) (good : goodIndex n ≡ true) where
     made-is {a} {m} {g} is left read =
         let e = is ∙ its-answer in
         let w = left ∙ its-leaves in
-        let (k, whole, small) = gain-whole n good in
-        let fits : SFits w64 (pos k) = record { sfits = omega arith } in
         record {
           degree = ap (λ x. x .degree) e;
-          gain = ap pos (read ∙ ap (λ x. natAbs (seen x)) (ap (λ x. x .gain) e ∙ whole) ∙ ap natAbs (toZ-ofZ fits))
-              ∙ sym whole;
+          gain = told-gain e read;
           factor = ap (take (suc (phi n))) w
               ∙ take-at (coefficients 1 n) (drop (length (coefficients 1 n)) l) (suc (phi n)) factor-length;
           len = ap length w ∙ length-append (coefficients 1 n) (drop (length (coefficients 1 n)) l)
               ∙ omega (arith, factor-length, length-drop (length (coefficients 1 n)) l);
+        }
+
+    -- F(n) over zeros is F(n) with zeros after it
+    laid : l ≡ zeros (length l) → written (coefficients 1 n) l ≡ firsts (length l) (F n)
+    unfolding written entries zeros coefficients polynomial degree
+    laid none =
+        is-firsts (length l) (F n) (written (coefficients 1 n) l) size
+        (λ k b. by-order k (suc (phi n))
+        (λ c. List·getD-append (coefficients 1 n) rest 0ℤ k (omega (arith, factor-length))
+        ∙ getD-firsts (suc (phi n)) (F n) k c)
+        (λ c. let at : length (coefficients 1 n) + (k - suc (phi n)) ≡ k = omega (arith, factor-length) in
+        ap (λ x. getD (coefficients 1 n ++ rest) x 0ℤ) (sym at)
+        ∙ getD-append-add (coefficients 1 n) rest (k - suc (phi n)) 0ℤ
+        ∙ getD-drop (length (coefficients 1 n)) l (k - suc (phi n)) 0ℤ ∙ ap (λ x. getD l x 0ℤ) at
+        ∙ ap (λ x. getD x k 0ℤ) none ∙ getD-replicate (length l) k 0ℤ 0ℤ b
+        ∙ sym (monic-F n (index-good n good .0) .above k c)))
+      where
+        rest : List ℤ
+        rest = drop (length (coefficients 1 n)) l
+
+        size : length (written (coefficients 1 n) l) ≡ length l
+        size =
+            length-append (coefficients 1 n) rest
+            ∙ omega (arith, factor-length, length-drop (length (coefficients 1 n)) l)
+
+    pub first-is :
+        {a : Answer} {m : List ℤ} {g : ℕ} → l ≡ zeros (length l)
+        → a ≡ answer 1 n (pos largest) (pos largest) (length l)
+        → m ≡ leaves 1 n (pos largest) (pos largest) l → g ≡ natAbs (seen (a .gain))
+        → First n l m
+        (record {
+          over = false;
+          turned = eqb n 1;
+          have = a .degree + 1;
+          height = a .height;
+          peak = a .peak;
+          gain = g;
+        })
+    unfolding answered degree
+    first-is {a} {m} {g} none is left read =
+        let e = is ∙ its-answer in
+        record {
+          over = refl;
+          turned = refl;
+          leaves = left ∙ its-leaves ∙ laid none;
+          have = ap (λ x. x .degree + 1) e ∙ add-one (phi n);
+          height = ap (λ x. x .height) e;
+          peak = ap (λ x. x .peak) e;
+          gain = told-gain e read;
         }

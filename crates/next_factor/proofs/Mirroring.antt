@@ -49,7 +49,7 @@ turned-one = rw F-one (is-mirror 1 (z^-1 1) (-ˢ (z^-1 1)) low high)
     high (suc zero) h = absurd (omega arith)
     high (suc (suc i)) h = rw (ne-eqb (suc (suc i)) 1 (λ e. omega arith)) refl
 
-turned-factor : (n : ℕ) → 0 < n → mirror (phi n) (F n) ≡ signed (eqb n 1) (F n)
+pub turned-factor : (n : ℕ) → 0 < n → mirror (phi n) (F n) ≡ signed (eqb n 1) (F n)
 unfolding signed
 turned-factor n l = go (ℕ-discrete n 1)
   where

@@ -4,6 +4,7 @@ use mathlib.Core.Path.{_≡_}
 use mathlib.Core.Bool.{true, false, not, _||_}
 use mathlib.Core.List.{List}
 use lib.ListN.{length, take}
+use lib.Dec.{eqb}
 use lib.IntN.{ℤ, pos}
 use Rattle.definitions.specs.Integers.{_⊗_}
 use Rattle.definitions.specs.Series.{_·_, firsts}
@@ -25,6 +26,16 @@ pub record MadeIs (n : ℕ) (l m : List ℤ) (r : Made) : Type 0 where
   pub gain : pos (r .gain) ≡ Rattle.definitions.specs.Answer.gain 1 n
   pub factor : take (suc (phi n)) m ≡ firsts (suc (phi n)) (F n)
   pub len : length m ≡ length l
+
+-- F(n) is the product so far, in the slice that was l and is m
+pub record First (n : ℕ) (l m : List ℤ) (r : SoFar) : Type 0 where
+  pub over : r .over ≡ false
+  pub turned : r .turned ≡ eqb n 1
+  pub leaves : m ≡ firsts (length l) (F n)
+  pub have : r .have ≡ suc (phi n)
+  pub height : r .height ≡ Rattle.definitions.specs.Answer.height 1 n
+  pub peak : r .peak ≡ Rattle.definitions.specs.Answer.peak 1 n
+  pub gain : pos (r .gain) ≡ Rattle.definitions.specs.Answer.gain 1 n
 
 -- the entries of l are the coefficients of a product: so many, none larger than the height, the upper half mirroring
 -- the lower; height and gain are in range

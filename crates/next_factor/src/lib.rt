@@ -11,8 +11,8 @@ ghost use lib.Dec.{eqb, leb};
 ghost use lib.ListN.{length};
 ghost use Rattle.definitions.specs.Numbers.{phi};
 ghost use Rattle.definitions.specs.Steps.{largest};
-ghost use Rattle.definitions.specs.Requests.{goodIndex};
-ghost use Rattle.next_factor.specs.Taking.{MadeIs, Known, Room, Taken};
+ghost use Rattle.definitions.specs.Requests.{goodIndex, zeros};
+ghost use Rattle.next_factor.specs.Taking.{MadeIs, First, Known, Room, Taken};
 
 // A product so far: whether it is out of range; whether its upper half is the negative of the lower, turned round; how
 // many entries it has, its height, peak and gain.
@@ -74,6 +74,22 @@ fn make_factor(scratch: &mut [i64], n: u64) -> Made
     let made = polynomial::polynomial(1, n, MOST as i64, MOST as i64, scratch);
     Made {
         degree: made.degree as usize,
+        gain: magnitude(made.gain),
+    }
+}
+
+// The first factor, in a slice of zeros: its F(n), as the request for it tells.
+pub fn first_factor(b: &mut [i64], n: u64) -> SoFar
+    requires { ⌜ (goodIndex n ≡ true) × (phi n < length (now b)) × (now b ≡ zeros (length (now b))) ⌝ }
+    ensures { λ r. ⌜ First n (now (b .entry)) (now (b .exit)) r ⌝ }
+{
+    let made = polynomial::polynomial(1, n, MOST as i64, MOST as i64, b);
+    SoFar {
+        over: false,
+        turned: n == 1,
+        have: made.degree as usize + 1,
+        height: made.height,
+        peak: made.peak,
         gain: magnitude(made.gain),
     }
 }

@@ -12,14 +12,11 @@ ghost use Rattle.factor_steps.specs.Multiplied as Modulo;
 ghost use Rattle.next_factor.specs.Times.{Factor, Turns, Multiplied};
 
 // Steps serve where a coefficient, at most the height of the product so far times the sum of the factor's magnitudes,
-// stays in range. F(1) has a sign that no step has, and with one entry there is nothing to spare.
-fn by_steps(n: u64, have: usize, height: u64, weight: u64) -> bool
+// stays in range. F(1) has a sign that no step has.
+fn by_steps(n: u64, height: u64, weight: u64) -> bool
     ensures { λ r. ⌜ (r ≡ true → (n ≢ 1) × (height * weight ≤ largest)) ⌝ }
 {
     if n == 1 {
-        return false;
-    }
-    if have == 1 {
         return false;
     }
     product_fits(height, weight)
@@ -40,7 +37,7 @@ fn times_lower(b: &mut [i64], n: u64, f: &[i64], have: usize, height: u64) -> bo
     ensures { λ r. ⌜ Multiplied n (now (b .entry)) (now (b .exit)) r ⌝ }
 {
     let weight = exact_products::weight_of(f);
-    if by_steps(n, have, height, weight) {
+    if by_steps(n, height, weight) {
         take_steps(b, n);
         return true;
     }

@@ -7,7 +7,7 @@ use lib.ListN.{length}
 use lib.Seq.{length-take-le}
 use Rattle.definitions.specs.Codes.{SHORT}
 use Rattle.definitions.specs.Cascades.{totalDegree, longest}
-use Rattle.cascade.proofs.Answering.{told-only, at-short, ask-short, ask-scratch, at-last}
+use Rattle.cascade.proofs.Answering.{told-only, some-index, at-short, ask-short, ask-scratch, at-last}
 use borrow.Author.Needs.{needs}
 use Rattle.cascade.proofs.making.answer_in.Statement.{statement}
 use Rattle.cascade.proofs.making.answer_in.Tie as tie
@@ -50,6 +50,7 @@ answer-of-requires : tie.Need-answer-of-requires
 answer-of-requires c κs =
     let p = c .before .before .before .before .before .before in (
       total-is p,
+      some-index (p .pre .1),
       record {
         good = p .pre .1 .good;
         room = length-take-le _ (p .args .buf .now) (omega arith) ∙ ap (λ k. k + 1) (total-is p) ∙ add-one _;

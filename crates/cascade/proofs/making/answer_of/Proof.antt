@@ -32,7 +32,7 @@ returns : tie.Need-returns
 returns c =
     let m = c .before .before .before .before .before .before .before .before .before .before in
     let p = m .before .before .before .before in
-    made-over (p .pre .1 .good) (m .make .ensures .0) (p .args .h) (p .pre .0) _ (m .make .last .1 .1 .0) (p .args .scratch .now) (c .before .before .before .before .before .before .clear .ensures)
+    made-over (p .pre .2 .good) (m .make .ensures .0) (p .args .h) (p .pre .0) _ (m .make .last .1 .1 .0) (p .args .scratch .now) (c .before .before .before .before .before .before .clear .ensures)
     (m .make .ensures .1) (c .before .before .before .before .if1 .taken) (c .refused .ensures) (c .before .before .clear2 .ensures)
 
 clear-requires-3 : tie.Need-clear-requires-3
@@ -51,7 +51,7 @@ returns-2 : tie.Need-returns-2
 returns-2 c =
     let m = c .before .before .before .before .before .before .before .before .before .before .before .before in
     let p = m .before .before .before .before in
-    made-tall (p .pre .1 .good) (m .make .ensures .0) (p .args .h) (p .pre .0) _ (m .make .last .1 .1 .0) (p .args .scratch .now) (c .before .before .before .before .before .before .before .before .clear .ensures)
+    made-tall (p .pre .2 .good) (m .make .ensures .0) (p .args .h) (p .pre .0) _ (m .make .last .1 .1 .0) (p .args .scratch .now) (c .before .before .before .before .before .before .before .before .clear .ensures)
     (m .make .ensures .1) (c .before .before .before .before .before .before .if1 .left) (c .before .before .before .before .if2 .taken) (c .refused2 .ensures) (c .before .before .clear3 .ensures)
 
 cast-t21 : tie.Need-cast-t21
@@ -70,7 +70,7 @@ returns-3 c =
     let m = c .before .before .before .before .before .before .before .before .before in
     let p = m .before .before .before .before in
     let small : m .make .result .gain ≤ largest = m .make .ensures .0 .small (c .before .before .before .if1 .left) in
-    made-done (p .pre .1 .good) (m .make .ensures .0) (p .args .h) (p .pre .0) _ (m .make .last .1 .1 .0) (p .args .scratch .now) (c .before .before .before .before .before .clear .ensures)
+    made-done (p .pre .2 .good) (m .make .ensures .0) (p .args .h) (p .pre .0) _ (m .make .last .1 .1 .0) (p .args .scratch .now) (c .before .before .before .before .before .clear .ensures)
     (m .make .ensures .1) (c .before .before .before .if1 .left) (c .before .if2 .left) (toZ-ofZ {w = w64} (record { sfits = omega arith }))
 
 pub answer-of-spec : {M : Type 1} → statement M

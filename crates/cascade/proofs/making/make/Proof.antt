@@ -2,10 +2,9 @@
 use Prim.Native.Nat.{_-_}
 use mathlib.Core.Path.{_≡_, refl, sym, _∙_, ap}
 use native.Mathlib.Omega.{arith}
-use lib.ListN.{length, set, length-replicate}
-use Rattle.definitions.specs.Integers.{0ℤ, 1ℤ}
+use lib.ListN.{length}
 use borrow.Author.Needs.{needs}
-use Rattle.cascade.proofs.Underway.{Underway, underway-start, known, room, over-here, underway-more, done}
+use Rattle.cascade.proofs.Underway.{Underway, first-asks, underway-first, known, room, over-here, underway-more, done}
 use Rattle.cascade.proofs.making.make.Statement.{statement}
 use Rattle.cascade.proofs.making.make.Tie as tie
 
@@ -19,13 +18,17 @@ abbrev μ-loop : tie.MeasureT-loop
 clear-requires : tie.Need-clear-requires Inv-loop μ-loop
 clear-requires c κs = search needs
 
-slice-set-of-b : tie.Need-slice-set-of-b Inv-loop μ-loop
-slice-set-of-b c = omega (arith, ap length (c .before .clear .ensures), length-replicate (length (c .before .before .before .before .args .b .now)) 0ℤ, c .before .before .before .before .pre .room)
+shared-slice-read-first-factor : tie.Need-shared-slice-read-first-factor Inv-loop μ-loop
+shared-slice-read-first-factor c = c .before .before .before .before .before .before .pre .0
+
+first-factor-requires : tie.Need-first-factor-requires Inv-loop μ-loop
+first-factor-requires c κs =
+    let p = c .before .before .before .before .before .before in first-asks (p .pre .0) (p .pre .1) _ (c .before .before .before .clear .ensures)
 
 loop-holds : tie.Need-loop-holds Inv-loop μ-loop
 loop-holds c =
-    let p = c .before .before .before .before in
-    (underway-start _ (p .args .b .now) _ _ (p .pre) (ap (λ x. set x 0 1ℤ) (c .before .clear .ensures)), refl)
+    let p = c .before .before .before .before .before .before .before .before in
+    (underway-first (p .pre .0) (p .pre .1) (c .before .before .before .before .before .clear .ensures) (c .before .first-factor .ensures), refl)
 
 mul-take-factor : tie.Need-mul-take-factor Inv-loop μ-loop
 mul-take-factor c = omega arith
@@ -39,7 +42,7 @@ take-factor-requires c κs =
 
 same-length : tie.Need-same-length Inv-loop μ-loop
 same-length c =
-    c .before .before .before .take-factor .ensures .0 .len ∙ c .before .before .before .before .before .before .before .before .loop .inv .0 .roomy .room ∙ sym (c .before .before .before .before .before .before .before .before .before .before .before .before .before .pre .room)
+    c .before .before .before .take-factor .ensures .0 .len ∙ c .before .before .before .before .before .before .before .before .loop .inv .0 .roomy .room ∙ sym (c .before .before .before .before .before .before .before .before .before .before .before .before .before .before .before .before .before .pre .1 .room)
 
 same-length-2 : tie.Need-same-length-2 Inv-loop μ-loop
 same-length-2 c = c .before .before .before .take-factor .ensures .1 ∙ c .before .before .before .before .before .before .before .before .loop .inv .1
@@ -67,7 +70,7 @@ loop-again c =
     )
 
 same-length-3 : tie.Need-same-length-3 Inv-loop μ-loop
-same-length-3 c = c .before .loop .inv .0 .roomy .room ∙ sym (c .before .before .before .before .before .before .pre .room)
+same-length-3 c = c .before .loop .inv .0 .roomy .room ∙ sym (c .before .before .before .before .before .before .before .before .before .before .pre .1 .room)
 
 same-length-4 : tie.Need-same-length-4 Inv-loop μ-loop
 same-length-4 c = c .before .loop .inv .1
@@ -82,7 +85,8 @@ make-spec =
     Inv-loop
     μ-loop
     clear-requires
-    slice-set-of-b
+    shared-slice-read-first-factor
+    first-factor-requires
     loop-holds
     mul-take-factor
     shared-slice-read-take-factor

@@ -10,15 +10,12 @@ use Rattle.next_factor.proofs.times.by_steps.Tie as tie
 returns : tie.Need-returns
 returns c e = absurd (true≢false (sym e))
 
-returns-2 : tie.Need-returns-2
-returns-2 c e = absurd (true≢false (sym e))
-
 product-fits-requires : tie.Need-product-fits-requires
 product-fits-requires c κs = search needs
 
-returns-3 : tie.Need-returns-3
-returns-3 c e =
-    ((λ one. omega (arith, c .before .before .if1 .left)), leb-true _ _ (sym (c .product-fits .ensures) ∙ e))
+returns-2 : tie.Need-returns-2
+returns-2 c e =
+    ((λ one. omega (arith, c .before .if1 .left)), leb-true _ _ (sym (c .product-fits .ensures) ∙ e))
 
 pub by-steps-spec : {M : Type 1} → statement M
-by-steps-spec = tie.close (tie.spec returns returns-2 product-fits-requires returns-3)
+by-steps-spec = tie.close (tie.spec returns product-fits-requires returns-2)
