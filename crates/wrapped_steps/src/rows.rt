@@ -55,7 +55,7 @@ fn take_row(s: &mut [i64], a: &mut [i64], k: usize)
 }
 
 // Takes whole rows, of as many entries as there are sums, whatever these are; answers the place up to which it took.
-pub(crate) fn rows(s: &mut [i64], a: &mut [i64]) -> usize
+fn rows(s: &mut [i64], a: &mut [i64]) -> usize
     requires { ⌜ (1 ≤ length (now s)) × (length (now s) ≤ length (now a)) ⌝ }
     ensures { λ r. ⌜ UpTo (length (now (s .entry))) (now (a .entry)) (now (a .exit)) r ⌝ }
 {
@@ -66,4 +66,13 @@ pub(crate) fn rows(s: &mut [i64], a: &mut [i64]) -> usize
         k += s.len();
     }
     k
+}
+
+// The same of size d, at most 16. Where it is called d is a constant, so that the compiler makes a loop of it.
+pub(crate) fn known_rows(a: &mut [i64], d: usize) -> usize
+    requires { ⌜ (1 ≤ d) × (d ≤ 16) × (d ≤ length (now a)) ⌝ }
+    ensures { λ r. ⌜ UpTo d (now (a .entry)) (now (a .exit)) r ⌝ }
+{
+    let mut s = [0; 16];
+    rows(&mut s[..d], a)
 }

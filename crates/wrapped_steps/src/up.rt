@@ -7,7 +7,7 @@ ghost use lib.ListN.{length};
 ghost use lib.IntN.{ℤ};
 ghost use Rattle.definitions.specs.Steps.{accumulate};
 ghost use Rattle.wrapped_steps.specs.Wrapped.{wrappedList, UpTo, Upward};
-use crate::rows::rows;
+use crate::rows::known_rows;
 use crate::value::step_four;
 use crate::value::step_one;
 use entry_steps::Sort;
@@ -44,14 +44,22 @@ fn most_up(a: &mut [i64], d: usize) -> usize
     ensures { λ r. ⌜ UpTo d (now (a .entry)) (now (a .exit)) r ⌝ }
 {
     match d {
-        1 => rows(&mut [0; 1], a),
-        2 => rows(&mut [0; 2], a),
-        3 => rows(&mut [0; 3], a),
-        4 => rows(&mut [0; 4], a),
-        5 => rows(&mut [0; 5], a),
-        6 => rows(&mut [0; 6], a),
-        7 => rows(&mut [0; 7], a),
-        8 => rows(&mut [0; 8], a),
+        16 => known_rows(a, 16),
+        15 => known_rows(a, 15),
+        14 => known_rows(a, 14),
+        13 => known_rows(a, 13),
+        12 => known_rows(a, 12),
+        11 => known_rows(a, 11),
+        10 => known_rows(a, 10),
+        9 => known_rows(a, 9),
+        8 => known_rows(a, 8),
+        7 => known_rows(a, 7),
+        6 => known_rows(a, 6),
+        5 => known_rows(a, 5),
+        4 => known_rows(a, 4),
+        3 => known_rows(a, 3),
+        2 => known_rows(a, 2),
+        1 => known_rows(a, 1),
         _ => fours_up(a, d),
     }
 }
