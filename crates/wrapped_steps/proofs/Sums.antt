@@ -15,11 +15,11 @@ use Rattle.wrapped_steps.specs.Rows.{rowSum, Carried}
 use Rattle.wrapped_steps.proofs.Passes.{next-up}
 
 -- the first row
-pub carried-first : {d : ℕ} {s a : List ℤ} → length s ≡ d → ((j : ℕ) → j < d → getD s j 0ℤ ≡ getD a j 0ℤ)
+pub carried-first : {d : ℕ} {s a : List ℤ} → d ≤ length s → ((j : ℕ) → j < d → getD s j 0ℤ ≡ getD a j 0ℤ)
     → Carried d d 0 s a
-carried-first {d} {s} {a} many begun =
+carried-first {d} {s} {a} room begun =
     record {
-      many = many;
+      room = room;
       here = λ j h. absurd (not-suc-le-zero h);
       before = λ j h b. begun j b ∙ ap (λ x. getD a x 0ℤ) (omega arith);
     }
@@ -29,7 +29,7 @@ module _ {d k q : ℕ} {s a : List ℤ} (p : Carried d k q s a) where
   pub carried-row : d ≤ q → Carried d (k + d) 0 s a
   carried-row e =
       record {
-        many = p .many;
+        room = p .room;
         here = λ j h. absurd (not-suc-le-zero h);
         before = λ j h b. p .here j (omega arith) ∙ ap (λ x. getD a x 0ℤ) (omega arith);
       }
@@ -42,8 +42,8 @@ module _ {d k q : ℕ} {s a : List ℤ} (p : Carried d k q s a) where
     carried-next : Carried d k (q + 1) (set s q v) (set a (k + q) v)
     carried-next =
         record {
-          many = length-set s q v ∙ p .many;
-          here = λ j h. getD-set-by s q v (omega (arith, p .many)) j _ (stored j)
+          room = omega (arith, p .room, length-set s q v);
+          here = λ j h. getD-set-by s q v (omega (arith, p .room)) j _ (stored j)
               (λ ne. p .here j (omega arith) ∙ sym (getD-set-other a (k + q) (k + j) v 0ℤ (λ e. ne (omega arith))));
           before = λ j h c. getD-set-other s q j v 0ℤ (λ e. later j e h)
               ∙ p .before j (omega arith) c
@@ -70,9 +70,3 @@ module _ {d k q : ℕ} {s a : List ℤ} (p : Carried d k q s a) where
     pub entry-taken : {s′ a′ : List ℤ} → s′ ≡ set s q v → a′ ≡ set a (k + q) v
         → Carried d k (q + 1) s′ a′ × ((l : List ℤ) → UpTo d l a (k + q) → UpTo d l a′ (k + (q + 1)))
     entry-taken e f = rw (e, f) (carried-next, λ l u. up-next u)
-
--- the same, their numbers written otherwise
-pub recounted : {n n′ k k′ : ℕ} {l m s : List ℤ} → n ≡ n′ → k ≡ k′ → UpTo n l m k × Carried n k 0 s m
-    → UpTo n′ l m k′ × Carried n′ k′ 0 s m
-recounted {n} {k′ = k′} {l} {m} {s} e f p =
-    subst (λ x. UpTo x l m k′ × Carried x k′ 0 s m) e (subst (λ y. UpTo n l m y × Carried n y 0 s m) f p)

@@ -11,8 +11,8 @@ use Rattle.wrapped_steps.specs.Wrapped.{wrap}
 abbrev pub rowSum : List ℤ → List ℤ → ℕ → ℕ → ℤ
 rowSum s a k q = wrap (getD a (k + q) 0ℤ ⊕ getD s q 0ℤ)
 
--- the sums are the last entries that were taken: q of the row that begins at k, the others of the row before
+-- the first d sums are the last entries that were taken: q of the row that begins at k, the others of the row before
 pub record Carried (d k q : ℕ) (s a : List ℤ) : Type 0 where
-  pub many : length s ≡ d
+  pub room : d ≤ length s
   pub here : (j : ℕ) → j < q → getD s j 0ℤ ≡ getD a (k + j) 0ℤ
   pub before : (j : ℕ) → q ≤ j → j < d → getD s j 0ℤ ≡ getD a (k + j - d) 0ℤ

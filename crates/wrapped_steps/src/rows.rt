@@ -1,10 +1,10 @@
 // The accumulate of a small size d by rows of d neighbours, one of each chain. A chain's running sum is kept beside the
-// slice, so that nothing that was stored is read back. The loops are over the sums, whose number the compiler knows in
-// each caller, so that they are unrolled and the sums stay in registers.
+// slice, in s, so that nothing that was stored is read back. The loops are over the sums, whose number the compiler
+// knows in each caller, so that they are unrolled and the sums stay in registers.
 
 ghost use mathlib.Core.Path.{_≡_};
 ghost use mathlib.Core.List.{List};
-ghost use Prim.Native.Nat.{ℕ, _+_, _≤_, _<_};
+ghost use Prim.Native.Nat.{_+_, _≤_, _<_};
 ghost use lib.ListN.{length, set};
 ghost use lib.IntN.{ℤ};
 ghost use Rattle.wrapped_steps.specs.Wrapped.{UpTo};
@@ -15,12 +15,12 @@ use entry_steps::put;
 use entry_steps::read_entry;
 
 // The sums begin with the first row, which stays.
-fn first_row(s: &mut [i64], a: &[i64])
-    requires { ⌜ length (now s) ≤ length (now a) ⌝ }
-    ensures { λ _. ⌜ Carried (length (now (s .entry))) (length (now (s .entry))) 0 (now (s .exit)) (now (a .entry)) ⌝ }
+fn first_row(s: &mut [i64], a: &[i64], d: usize)
+    requires { ⌜ (d ≤ length (now s)) × (d ≤ length (now a)) ⌝ }
+    ensures { λ _. ⌜ Carried d d 0 (now (s .exit)) (now (a .entry)) ⌝ }
 {
     let mut q = 0;
-    while q < s.len() {
+    while q < d {
         let x = read_entry(a, q);
         put(s, q, x);
         q += 1;
@@ -40,39 +40,37 @@ fn take_entry(s: &mut [i64], a: &mut [i64], k: usize, q: usize)
     put(a, i, v);
 }
 
-fn take_row(s: &mut [i64], a: &mut [i64], k: usize)
-    requires { ⌜ (length (now s) ≤ k) × (k + length (now s) ≤ length (now a)) × Carried (length (now s)) k 0 (now s) (now a) ⌝ }
+fn take_row(s: &mut [i64], a: &mut [i64], k: usize, d: usize)
+    requires { ⌜ (d ≤ k) × (k + d ≤ length (now a)) × Carried d k 0 (now s) (now a) ⌝ }
     ensures { λ _.
-        ⌜ Carried (length (now (s .entry))) (k + length (now (s .entry))) 0 (now (s .exit)) (now (a .exit))
-        × ((l : List ℤ) → UpTo (length (now (s .entry))) l (now (a .entry)) k
-        → UpTo (length (now (s .entry))) l (now (a .exit)) (k + length (now (s .entry)))) ⌝ }
+        ⌜ Carried d (k + d) 0 (now (s .exit)) (now (a .exit))
+        × ((l : List ℤ) → UpTo d l (now (a .entry)) k → UpTo d l (now (a .exit)) (k + d)) ⌝ }
 {
     let mut q = 0;
-    while q < s.len() {
+    while q < d {
         take_entry(s, a, k, q);
         q += 1;
     }
 }
 
-// Takes whole rows, of as many entries as there are sums, whatever these are; answers the place up to which it took.
-fn rows(s: &mut [i64], a: &mut [i64]) -> usize
-    requires { ⌜ (1 ≤ length (now s)) × (length (now s) ≤ length (now a)) ⌝ }
-    ensures { λ r. ⌜ UpTo (length (now (s .entry))) (now (a .entry)) (now (a .exit)) r ⌝ }
+// Takes whole rows, with room for the sums in s, whatever stands there; answers the place up to which it took.
+fn rows(s: &mut [i64], a: &mut [i64], d: usize) -> usize
+    requires { ⌜ (1 ≤ d) × (d ≤ length (now s)) × (d ≤ length (now a)) ⌝ }
+    ensures { λ r. ⌜ UpTo d (now (a .entry)) (now (a .exit)) r ⌝ }
 {
-    first_row(s, a);
-    let mut k = s.len();
-    while s.len() <= a.len() - k {
-        take_row(s, a, k);
-        k += s.len();
+    first_row(s, a, d);
+    let mut k = d;
+    while d <= a.len() - k {
+        take_row(s, a, k, d);
+        k += d;
     }
     k
 }
 
-// The same of size d, at most 16. Where it is called d is a constant, so that the compiler makes a loop of it.
+// The same of a size up to 16, which is a constant where this is called.
 pub(crate) fn known_rows(a: &mut [i64], d: usize) -> usize
     requires { ⌜ (1 ≤ d) × (d ≤ 16) × (d ≤ length (now a)) ⌝ }
     ensures { λ r. ⌜ UpTo d (now (a .entry)) (now (a .exit)) r ⌝ }
 {
-    let mut s = [0; 16];
-    rows(&mut s[..d], a)
+    rows(&mut [0; 16], a, d)
 }

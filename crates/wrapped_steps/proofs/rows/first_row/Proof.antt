@@ -13,11 +13,11 @@ use Rattle.wrapped_steps.proofs.rows.first_row.Statement.{statement}
 use Rattle.wrapped_steps.proofs.rows.first_row.Tie as tie
 
 abbrev Inv-loop : tie.InvT-loop
-Inv-loop s₀ a q₀ s q =
-    (length s ≡ length s₀) × (q ≤ length s₀) × ((j : ℕ) → j < q → getD s j 0ℤ ≡ getD a j 0ℤ)
+Inv-loop s₀ a d q₀ s q =
+    (length s ≡ length s₀) × (q ≤ d) × ((j : ℕ) → j < q → getD s j 0ℤ ≡ getD a j 0ℤ)
 
 abbrev μ-loop : tie.MeasureT-loop
-μ-loop s₀ a q₀ s q = length s₀ - q
+μ-loop s₀ a d q₀ s q = d - q
 
 loop-holds : tie.Need-loop-holds Inv-loop μ-loop
 loop-holds c = (refl, omega arith, λ j h. absurd (not-suc-le-zero h))
@@ -55,7 +55,7 @@ same-length : tie.Need-same-length Inv-loop μ-loop
 same-length c = c .before .loop .inv .0
 
 returns : tie.Need-returns Inv-loop μ-loop
-returns c = carried-first (c .before .loop .inv .0) (λ j h. c .before .loop .inv .2 j (omega arith))
+returns c = carried-first (omega (arith, c .before .loop .inv .0)) (λ j h. c .before .loop .inv .2 j (omega arith))
 
 pub first-row-spec : {M : Type 1} → statement M
 first-row-spec =
