@@ -1,5 +1,5 @@
 -- An accumulate by rows: an entry further, and a row further.
-use mathlib.Core.Path.{_≡_, refl, sym, _∙_, ap, subst}
+use mathlib.Core.Path.{_≡_, sym, _∙_, ap}
 use mathlib.Core.List.{List}
 use Prim.Native.Nat.{ℕ, _+_, _-_, _<_, _≤_}
 use native.Mathlib.Nat.{not-suc-le-zero}
@@ -60,10 +60,11 @@ module _ {d k q : ℕ} {s a : List ℤ} (p : Carried d k q s a) where
         lower j e c = omega arith
 
     -- the accumulate has got to it
+    value : v ≡ wrapEntry accumulate d a (k + q)
+    value = ap (λ y. wrap (getD a (k + q) 0ℤ ⊕ y)) (p .before q (omega arith) b)
+
     up-next : {l : List ℤ} → UpTo d l a (k + q) → UpTo d l (set a (k + q) v) (k + (q + 1))
-    up-next {l} u =
-        let value : v ≡ wrapEntry accumulate d a (k + q) =
-            ap (λ y. wrap (getD a (k + q) 0ℤ ⊕ y)) (p .before q (omega arith) b) in
+    up-next u =
         let far : k + q + 1 ≡ k + (q + 1) = omega arith in
         rw (value, ← far) (next-up u (omega arith) (omega (arith, u .split .len)))
 

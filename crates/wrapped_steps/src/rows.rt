@@ -67,10 +67,10 @@ fn rows(s: &mut [i64], a: &mut [i64], d: usize) -> usize
     k
 }
 
-// The same of a size up to 16, which is a constant where this is called.
+// The same of a size up to 15, which is a constant where this is called.
 pub(crate) fn known_rows(a: &mut [i64], d: usize) -> usize
-    requires { ⌜ (1 ≤ d) × (d ≤ 16) × (d ≤ length (now a)) ⌝ }
+    requires { ⌜ (1 ≤ d) × (d ≤ 15) × (d ≤ length (now a)) ⌝ }
     ensures { λ r. ⌜ UpTo d (now (a .entry)) (now (a .exit)) r ⌝ }
 {
-    rows(&mut [0; 16], a, d)
+    rows(&mut [0; 15], a, d)
 }

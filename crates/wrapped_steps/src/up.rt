@@ -37,14 +37,13 @@ fn ones_up(a: &mut [i64], d: usize, from: usize)
     }
 }
 
-// Takes most places, of a small size by rows; answers the place up to which it took. Each number of sums has its own
+// Takes most places, of a small size by rows; answers the place up to which it took. Each size up to 15 has its own
 // loop, with its sums in registers.
 fn most_up(a: &mut [i64], d: usize) -> usize
     requires { ⌜ (1 ≤ d) × (d ≤ length (now a)) ⌝ }
     ensures { λ r. ⌜ UpTo d (now (a .entry)) (now (a .exit)) r ⌝ }
 {
     match d {
-        16 => known_rows(a, 16),
         15 => known_rows(a, 15),
         14 => known_rows(a, 14),
         13 => known_rows(a, 13),

@@ -52,15 +52,12 @@ known-rows-requires-14 c κs = search needs
 known-rows-requires-15 : tie.Need-known-rows-requires-15
 known-rows-requires-15 c κs = search needs
 
-known-rows-requires-16 : tie.Need-known-rows-requires-16
-known-rows-requires-16 c κs = search needs
-
 -- a size that is none of the first three
 large : {d : ℕ} → 1 ≤ d → (d ≡ 1 → ⊥) → (d ≡ 2 → ⊥) → (d ≡ 3 → ⊥) → 4 ≤ d
 large one a b c = omega arith
 
 fours-up-requires : tie.Need-fours-up-requires
-fours-up-requires c κs = 
+fours-up-requires c κs =
     let r = c .before .match .rest in
     let p = c .before .before .pre in
     (large (p .0) (r .1) (r .0 .1) (r .0 .0 .1), p .1)
@@ -159,13 +156,7 @@ same-length-16 : tie.Need-same-length-16
 same-length-16 c = search needs
 
 returns-16 : tie.Need-returns-16
-returns-16 c = sized (omega arith) (c .before .known-rows16 .ensures)
-
-same-length-17 : tie.Need-same-length-17
-same-length-17 c = search needs
-
-returns-17 : tie.Need-returns-17
-returns-17 c = search needs
+returns-16 c = search needs
 
 pub most-up-spec : {M : Type 1} → statement M
 most-up-spec =
@@ -186,7 +177,6 @@ most-up-spec =
     known-rows-requires-13
     known-rows-requires-14
     known-rows-requires-15
-    known-rows-requires-16
     fours-up-requires
     same-length
     returns
@@ -219,6 +209,4 @@ most-up-spec =
     same-length-15
     returns-15
     same-length-16
-    returns-16
-    same-length-17
-    returns-17)
+    returns-16)
