@@ -1,3 +1,4 @@
 -- Laws that the functions' proofs share.
 mod Bits
 mod Passes
+mod Sums

@@ -1,14 +1,13 @@
 -- A step modulo 2^64 that has got to some place: where it starts, that what is put at the next place is the step's
 -- value, and where it ends.
-use mathlib.Core.Path.{_≡_, refl, sym, _∙_, ap, ap₂}
+use mathlib.Core.Path.{_≡_, refl, sym, _∙_, ap, ap₂, subst}
 use mathlib.Core.List.{List}
 use Prim.Native.Nat.{ℕ, _+_, _-_, _<_, _≤_}
 use native.Mathlib.Nat.{not-le-of-lt}
 use native.Mathlib.Omega.{arith}
-use lib.ListN.{length, getD, set}
-use lib.Seq.{getD-set-same}
+use lib.ListN.{length, set}
 use lib.IntN.{ℤ}
-use Rattle.definitions.specs.Integers.{_⊕_, _⊝_, 0ℤ}
+use Rattle.definitions.specs.Integers.{_⊕_, _⊝_}
 use Rattle.definitions.specs.Steps.{comb, accumulate, entries}
 use Rattle.step_laws.specs.Tests.{by-order}
 use Rattle.step_laws.specs.Firsts.{is-firsts}
@@ -109,12 +108,6 @@ module _ {d : ℕ} {l m : List ℤ} {i : ℕ} (p : UpTo d l m i) (one : 1 ≤ d)
   unfolding wrappedList
   ended-up h = all-firsts (all-below (p .split) h)
 
--- a running sum that is stored at i is the entry before the next place
-pub summed : {l m m′ : List ℤ} {i : ℕ} (v : ℤ) → UpTo 1 l m i → i < length l → m′ ≡ set m i v
-    → v ≡ wrapEntry accumulate 1 m i → UpTo 1 l m′ (i + 1) × (v ≡ getD m′ (i + 1 - 1) 0ℤ)
-summed {l} {m} {m′} {i} v p b e w =
-    let here : i + 1 - 1 ≡ i = omega arith in
-    let in′ : i < length m = omega (arith, p .split .len) in (
-      rw (e, w) (next-up p (omega arith) b),
-      sym (ap (λ k. getD m′ k 0ℤ) here ∙ ap (λ x. getD x i 0ℤ) e ∙ getD-set-same m i v 0ℤ in′),
-    )
+-- the same, the size written otherwise
+pub sized : {d d′ i : ℕ} {l m : List ℤ} → d ≡ d′ → UpTo d l m i → UpTo d′ l m i
+sized {i = i} {l} {m} e p = subst (λ x. UpTo x l m i) e p

@@ -2,6 +2,7 @@
 // number does not hold wraps, and nothing is tested. Where no value leaves the range the numbers are the true ones.
 
 mod down;
+mod rows;
 mod up;
 mod value;
 

@@ -7,12 +7,10 @@ ghost use lib.ListN.{length};
 ghost use lib.IntN.{ℤ};
 ghost use Rattle.definitions.specs.Steps.{accumulate};
 ghost use Rattle.wrapped_steps.specs.Wrapped.{wrappedList, UpTo, Upward};
+use crate::rows::known_rows;
 use crate::value::step_four;
 use crate::value::step_one;
-use crate::value::wrapped_value;
 use entry_steps::Sort;
-use entry_steps::put;
-use entry_steps::read_entry;
 
 // Takes places by fours while there are four, none of which needs another; answers the place up to which it took.
 fn fours_up(a: &mut [i64], d: usize) -> usize
@@ -39,17 +37,29 @@ fn ones_up(a: &mut [i64], d: usize, from: usize)
     }
 }
 
-// The accumulate of size 1 as a running sum, which is kept beside the slice: nothing that was stored is read back.
-fn running_sum(a: &mut [i64])
-    requires { ⌜ 1 ≤ length (now a) ⌝ }
-    ensures { λ _. ⌜ now (a .exit) ≡ wrappedList accumulate 1 (now (a .entry)) ⌝ }
+// Takes most places, of a small size by rows; answers the place up to which it took. Each size up to 15 has its own
+// loop, with its sums in registers.
+fn most_up(a: &mut [i64], d: usize) -> usize
+    requires { ⌜ (1 ≤ d) × (d ≤ length (now a)) ⌝ }
+    ensures { λ r. ⌜ UpTo d (now (a .entry)) (now (a .exit)) r ⌝ }
 {
-    let mut sum = read_entry(a, 0);
-    let mut i = 1;
-    while i < a.len() {
-        sum = wrapped_value(Sort::Accumulate, a[i], sum);
-        put(a, i, sum);
-        i += 1;
+    match d {
+        15 => known_rows(a, 15),
+        14 => known_rows(a, 14),
+        13 => known_rows(a, 13),
+        12 => known_rows(a, 12),
+        11 => known_rows(a, 11),
+        10 => known_rows(a, 10),
+        9 => known_rows(a, 9),
+        8 => known_rows(a, 8),
+        7 => known_rows(a, 7),
+        6 => known_rows(a, 6),
+        5 => known_rows(a, 5),
+        4 => known_rows(a, 4),
+        3 => known_rows(a, 3),
+        2 => known_rows(a, 2),
+        1 => known_rows(a, 1),
+        _ => fours_up(a, d),
     }
 }
 
@@ -57,14 +67,6 @@ pub(crate) fn accumulate(a: &mut [i64], d: usize)
     requires { ⌜ (1 ≤ d) × (d ≤ length (now a)) ⌝ }
     ensures { λ _. ⌜ now (a .exit) ≡ wrappedList accumulate d (now (a .entry)) ⌝ }
 {
-    if d == 1 {
-        running_sum(a);
-        return;
-    }
-    if d < 4 {
-        ones_up(a, d, d);
-        return;
-    }
-    let t = fours_up(a, d);
+    let t = most_up(a, d);
     ones_up(a, d, t);
 }
