@@ -46,7 +46,8 @@ returns : tie.Need-returns
 returns c =
     let v = c .before .before .before .before .before .before in
     let p = v .before .before .before .args in
-    let f : SFits w64 (getD (p .a .now) (p .k + p .q) 0ℤ) = record { sfits = v .before .before .wrapped-value-arg .given } in
+    let r = v .before .before .wrapped-value-arg .given in
+    let f : SFits w64 (getD (p .a .now) (p .k + p .q) 0ℤ) = record { sfits = r } in
     let g : SFits w64 (getD (p .s .now) (p .q) 0ℤ) = record { sfits = v .before .wrapped-value-arg2 .given } in
     let is = handed (wrap-fits _) (v .wrapped-value .ensures ∙ ap wrap (seen-both f g _⊕_)) in (
       c .before .before .before .before .put .ensures ∙ ap (set (p .s .now) (p .q)) is,
