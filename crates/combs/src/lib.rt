@@ -53,7 +53,7 @@ pub fn comb_or_undo(test: u8, w: u64, a: &mut [i64], d: usize) -> bool
     ensures { λ r. ⌜ SteppedOrUndone w comb d (now (a .entry)) (now (a .exit)) r ⌝ }
 {
     if test == KNOWN {
-        wrapped_steps::comb(a, d);
+        wrapped_combs::comb(a, d);
         return true;
     }
     let t = take_tested(test, w, a, d);

@@ -12,8 +12,8 @@ use Rattle.definitions.specs.Steps.{Sort, entries}
 use Rattle.definitions.specs.KeptHalf.{termOf}
 use Rattle.series.specs.Laws.{·-assoc}
 use Rattle.cyclotomic.specs.Kept.{step-term}
-use Rattle.wrapped_steps.specs.Wrapped.{wrap, wrappedList, Like, AllFit}
-use Rattle.wrapped_steps.specs.Laws.{length-wrapped, wrapped-fit, wrapped-like}
+use Rattle.wrapped_combs.specs.Wrapped.{wrap, wrappedList, Like, AllFit}
+use Rattle.wrapped_combs.specs.Laws.{length-wrapped, wrapped-fit, wrapped-like}
 use Rattle.divisors.specs.Masks.{rowTo}
 
 -- m is l times g: as many entries, each a 64-bit number where those of l are, and where l is f modulo 2^64, m is g f

@@ -26,8 +26,8 @@ use Rattle.series.specs.Degree.{ZeroFrom}
 use Rattle.cyclotomic.specs.Degrees.{monic-F}
 use Rattle.numbers.specs.Phi.{phi-le}
 use Rattle.index.proofs.Laws.{index-good}
-use Rattle.wrapped_steps.specs.Wrapped.{AllFit}
-use Rattle.wrapped_steps.specs.Laws.{like-exact}
+use Rattle.wrapped_combs.specs.Wrapped.{AllFit}
+use Rattle.wrapped_combs.specs.Laws.{like-exact}
 use Rattle.factor_steps.specs.Multiplied as Modulo
 use Rattle.light_sums.specs.Weight.{weight, product-bound}
 use Rattle.next_factor.specs.Times.{Factor, Multiplied}

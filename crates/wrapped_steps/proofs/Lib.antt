@@ -1,4 +1,3 @@
 -- Laws that the functions' proofs share.
-mod Bits
 mod Passes
 mod Sums

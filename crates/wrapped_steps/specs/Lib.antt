@@ -1,5 +1,3 @@
--- What the contracts of `wrapped_steps` cite beside `definitions` and `entry_steps`, and laws that its callers use.
-pub mod Wrapped
+-- What the contracts of `wrapped_steps` cite beside `wrapped_combs`.
+pub mod Upward
 pub mod Rows
-pub mod Residues
-pub mod Laws

@@ -7,12 +7,12 @@ ghost use mathlib.Core.List.{List};
 ghost use Prim.Native.Nat.{_+_, _≤_, _<_};
 ghost use lib.ListN.{length, set};
 ghost use lib.IntN.{ℤ};
-ghost use Rattle.wrapped_steps.specs.Wrapped.{UpTo};
+ghost use Rattle.wrapped_steps.specs.Upward.{UpTo};
 ghost use Rattle.wrapped_steps.specs.Rows.{rowSum, Carried};
-use crate::value::wrapped_value;
 use entry_steps::Sort;
 use entry_steps::put;
 use entry_steps::read_entry;
+use wrapped_combs::wrapped_value;
 
 // The sums begin with the first row, which stays.
 fn first_row(s: &mut [i64], a: &[i64], d: usize)

@@ -6,11 +6,12 @@ ghost use Prim.Native.Nat.{_≤_, _<_};
 ghost use lib.ListN.{length};
 ghost use lib.IntN.{ℤ};
 ghost use Rattle.definitions.specs.Steps.{accumulate};
-ghost use Rattle.wrapped_steps.specs.Wrapped.{wrappedList, UpTo, Upward};
+ghost use Rattle.wrapped_combs.specs.Wrapped.{wrappedList};
+ghost use Rattle.wrapped_steps.specs.Upward.{UpTo, Upward};
 use crate::rows::known_rows;
-use crate::value::step_four;
-use crate::value::step_one;
 use entry_steps::Sort;
+use wrapped_combs::step_four;
+use wrapped_combs::step_one;
 
 // Takes places by fours while there are four, none of which needs another; answers the place up to which it took.
 fn fours_up(a: &mut [i64], d: usize) -> usize

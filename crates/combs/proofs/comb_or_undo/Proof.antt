@@ -7,7 +7,7 @@ use native.Mathlib.Omega.{arith}
 use borrow.Author.Needs.{needs}
 use Rattle.definitions.specs.Steps.{comb, stepOver}
 use Rattle.step_laws.specs.WorkingLimit.{over-more}
-use Rattle.wrapped_steps.specs.Laws.{wrapped-known}
+use Rattle.wrapped_combs.specs.Laws.{wrapped-known}
 use Rattle.entry_steps.proofs.Tested.{whole, undone}
 use Rattle.combs.proofs.CombedTo.{ended}
 use Rattle.combs.proofs.comb_or_undo.Statement.{statement}

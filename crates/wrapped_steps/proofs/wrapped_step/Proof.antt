@@ -1,7 +1,7 @@
 -- `wrapped_steps::wrapped_step` meets its contract: each arm takes the step of its own sort.
 use mathlib.Core.Path.{sym}
 use Rattle.entry_steps.specs.Sorts.{sortMeans}
-use Rattle.wrapped_steps.specs.Laws.{wrapped-long}
+use Rattle.wrapped_combs.specs.Laws.{wrapped-long}
 use borrow.Author.Needs.{needs}
 use Rattle.wrapped_steps.proofs.wrapped_step.Statement.{statement}
 use Rattle.wrapped_steps.proofs.wrapped_step.Tie as tie

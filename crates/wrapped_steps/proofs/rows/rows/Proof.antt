@@ -4,7 +4,7 @@ use mathlib.Core.Path.{_≡_, refl}
 use Prim.Native.Nat.{_-_}
 use native.Mathlib.Omega.{arith}
 use lib.ListN.{length}
-use Rattle.wrapped_steps.specs.Wrapped.{UpTo}
+use Rattle.wrapped_steps.specs.Upward.{UpTo}
 use Rattle.wrapped_steps.specs.Rows.{Carried}
 use Rattle.wrapped_steps.proofs.Passes.{start-up}
 use Rattle.wrapped_steps.proofs.rows.rows.Statement.{statement}

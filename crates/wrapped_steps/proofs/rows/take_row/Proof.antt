@@ -6,7 +6,7 @@ use Prim.Native.Nat.{_+_, _-_, _≤_}
 use native.Mathlib.Omega.{arith}
 use lib.ListN.{length}
 use lib.IntN.{ℤ}
-use Rattle.wrapped_steps.specs.Wrapped.{UpTo}
+use Rattle.wrapped_steps.specs.Upward.{UpTo}
 use Rattle.wrapped_steps.specs.Rows.{Carried}
 use Rattle.wrapped_steps.proofs.Sums.{entry-taken, carried-row}
 use Rattle.wrapped_steps.proofs.rows.take_row.Statement.{statement}

@@ -2,7 +2,7 @@
 use Prim.Native.Nat.{_-_}
 use native.Mathlib.Omega.{arith}
 use lib.ListN.{length}
-use Rattle.wrapped_steps.specs.Wrapped.{UpTo}
+use Rattle.wrapped_steps.specs.Upward.{UpTo}
 use Rattle.wrapped_steps.proofs.Passes.{start-up, four-up}
 use Rattle.wrapped_steps.proofs.up.fours_up.Statement.{statement}
 use Rattle.wrapped_steps.proofs.up.fours_up.Tie as tie

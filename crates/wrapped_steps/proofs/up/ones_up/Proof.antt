@@ -6,7 +6,7 @@ use Prim.Native.Nat.{_-_}
 use native.Mathlib.Omega.{arith}
 use lib.ListN.{length}
 use lib.IntN.{ℤ}
-use Rattle.wrapped_steps.specs.Wrapped.{UpTo}
+use Rattle.wrapped_steps.specs.Upward.{UpTo}
 use Rattle.wrapped_steps.proofs.Passes.{next-up, ended-up}
 use Rattle.wrapped_steps.proofs.up.ones_up.Statement.{statement}
 use Rattle.wrapped_steps.proofs.up.ones_up.Tie as tie

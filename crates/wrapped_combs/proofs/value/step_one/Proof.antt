@@ -2,10 +2,10 @@
 use mathlib.Core.Path.{_∙_, ap}
 use lib.ListN.{set}
 use Rattle.step_laws.specs.Machine.{handed}
-use Rattle.wrapped_steps.specs.Residues.{wrap-fits}
+use Rattle.wrapped_combs.specs.Residues.{wrap-fits}
 use borrow.Author.Needs.{needs}
-use Rattle.wrapped_steps.proofs.value.step_one.Statement.{statement}
-use Rattle.wrapped_steps.proofs.value.step_one.Tie as tie
+use Rattle.wrapped_combs.proofs.value.step_one.Statement.{statement}
+use Rattle.wrapped_combs.proofs.value.step_one.Tie as tie
 
 wrapped-entry-requires : tie.Need-wrapped-entry-requires
 wrapped-entry-requires c κs = search needs

@@ -40,22 +40,13 @@ Like n f g = (i : ℕ) → i < n → wrap (f i) ≡ wrap (g i)
 abbrev pub AllFit : List ℤ → Type 0
 AllFit l = (i : ℕ) → SFits w64 (entries l i)
 
--- a comb of size d on l that has got down to the place i, and left m; an accumulate that has got up to it
+-- a comb of size d on l that has got down to the place i, and left m
 pub record DownTo (d : ℕ) (l m : List ℤ) (i : ℕ) : Type 0 where
   pub from : d ≤ i
   pub most : i ≤ length l
   pub split : Split m (length l) i (entries l) (wrappedStep comb d (entries l))
 
-pub record UpTo (d : ℕ) (l m : List ℤ) (i : ℕ) : Type 0 where
-  pub from : d ≤ i
-  pub most : i ≤ length l
-  pub split : Split m (length l) i (wrappedStep accumulate d (entries l)) (entries l)
-
--- m is what such a step left of some list
+-- m is what such a comb left of some list
 pub record Downward (d : ℕ) (m : List ℤ) (i : ℕ) : Type 0 where
   pub before : List ℤ
   pub done : DownTo d before m i
-
-pub record Upward (d : ℕ) (m : List ℤ) (i : ℕ) : Type 0 where
-  pub before : List ℤ
-  pub done : UpTo d before m i

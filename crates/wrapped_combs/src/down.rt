@@ -6,7 +6,7 @@ ghost use Prim.Native.Nat.{_≤_};
 ghost use lib.ListN.{length};
 ghost use lib.IntN.{ℤ};
 ghost use Rattle.definitions.specs.Steps.{comb};
-ghost use Rattle.wrapped_steps.specs.Wrapped.{wrappedList, DownTo, Downward};
+ghost use Rattle.wrapped_combs.specs.Wrapped.{wrappedList, DownTo, Downward};
 use crate::value::step_four;
 use crate::value::step_one;
 use entry_steps::Sort;

@@ -1,9 +1,9 @@
 -- `wrapped_steps::down::fours_down` meets its contract, which is the loop's invariant: the comb got down to t.
 use native.Mathlib.Omega.{arith}
-use Rattle.wrapped_steps.specs.Wrapped.{DownTo}
-use Rattle.wrapped_steps.proofs.Passes.{start-down, four-down}
-use Rattle.wrapped_steps.proofs.down.fours_down.Statement.{statement}
-use Rattle.wrapped_steps.proofs.down.fours_down.Tie as tie
+use Rattle.wrapped_combs.specs.Wrapped.{DownTo}
+use Rattle.wrapped_combs.proofs.Passes.{start-down, four-down}
+use Rattle.wrapped_combs.proofs.down.fours_down.Statement.{statement}
+use Rattle.wrapped_combs.proofs.down.fours_down.Tie as tie
 
 abbrev Inv-loop : tie.InvT-loop
 Inv-loop a₀ d t₀ a t = DownTo d a₀ a t

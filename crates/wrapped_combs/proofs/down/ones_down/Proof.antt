@@ -4,10 +4,10 @@ use mathlib.Core.Path.{sym, _∙_}
 use mathlib.Core.List.{List}
 use native.Mathlib.Omega.{arith}
 use lib.IntN.{ℤ}
-use Rattle.wrapped_steps.specs.Wrapped.{DownTo}
-use Rattle.wrapped_steps.proofs.Passes.{next-down, ended-down}
-use Rattle.wrapped_steps.proofs.down.ones_down.Statement.{statement}
-use Rattle.wrapped_steps.proofs.down.ones_down.Tie as tie
+use Rattle.wrapped_combs.specs.Wrapped.{DownTo}
+use Rattle.wrapped_combs.proofs.Passes.{next-down, ended-down}
+use Rattle.wrapped_combs.proofs.down.ones_down.Statement.{statement}
+use Rattle.wrapped_combs.proofs.down.ones_down.Tie as tie
 
 abbrev Inv-loop : tie.InvT-loop
 Inv-loop a₀ d from t₀ a t = (l : List ℤ) → DownTo d l a₀ from → DownTo d l a t

@@ -2,11 +2,11 @@
 use Rattle.step_laws.specs.Machine.{handed}
 use Rattle.entry_steps.specs.Sorts.{sortMeans}
 use Rattle.entry_steps.proofs.FourEntries.{four-is}
-use Rattle.wrapped_steps.specs.Wrapped.{wrapEntry}
-use Rattle.wrapped_steps.specs.Residues.{wrap-fits}
+use Rattle.wrapped_combs.specs.Wrapped.{wrapEntry}
+use Rattle.wrapped_combs.specs.Residues.{wrap-fits}
 use borrow.Author.Needs.{needs}
-use Rattle.wrapped_steps.proofs.value.step_four.Statement.{statement}
-use Rattle.wrapped_steps.proofs.value.step_four.Tie as tie
+use Rattle.wrapped_combs.proofs.value.step_four.Statement.{statement}
+use Rattle.wrapped_combs.proofs.value.step_four.Tie as tie
 
 add-k1 : tie.Need-add-k1
 add-k1 c = search needs

@@ -1,7 +1,7 @@
 -- `wrapped_steps::down::comb` meets its contract: by fours, and then one by one, it is the whole comb.
 use borrow.Author.Needs.{needs}
-use Rattle.wrapped_steps.proofs.down.comb.Statement.{statement}
-use Rattle.wrapped_steps.proofs.down.comb.Tie as tie
+use Rattle.wrapped_combs.proofs.down.comb.Statement.{statement}
+use Rattle.wrapped_combs.proofs.down.comb.Tie as tie
 
 fours-down-requires : tie.Need-fours-down-requires
 fours-down-requires c κs = search needs

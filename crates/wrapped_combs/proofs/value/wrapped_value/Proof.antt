@@ -6,11 +6,11 @@ use mir.Syntax.{w64}
 use mir.Val.{SFits, ofZ}
 use mir.Facts.{toZ-ofZ}
 use Rattle.step_laws.specs.Machine.{seen, handed}
-use Rattle.wrapped_steps.specs.Residues.{wrap-fits}
-use Rattle.wrapped_steps.proofs.Bits.{sum-wraps, difference-wraps}
+use Rattle.wrapped_combs.specs.Residues.{wrap-fits}
+use Rattle.wrapped_combs.proofs.Bits.{sum-wraps, difference-wraps}
 use borrow.Author.Needs.{needs}
-use Rattle.wrapped_steps.proofs.value.wrapped_value.Statement.{statement}
-use Rattle.wrapped_steps.proofs.value.wrapped_value.Tie as tie
+use Rattle.wrapped_combs.proofs.value.wrapped_value.Statement.{statement}
+use Rattle.wrapped_combs.proofs.value.wrapped_value.Tie as tie
 
 -- the bits of a number that was read
 as-read : {x : ℤ} → SFits w64 x → ofZ w64 (seen x) ≡ ofZ w64 x

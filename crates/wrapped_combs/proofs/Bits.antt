@@ -13,8 +13,8 @@ use mir.Val.{SFits, Fits, toZ, ofZ}
 use mir.Facts.{toZ-ofZ, toZ-pos}
 use Rattle.definitions.specs.Integers.{_⊕_, _⊝_, ⊖}
 use Rattle.step_laws.specs.Machine.{seen}
-use Rattle.wrapped_steps.specs.Wrapped.{residue, wrap}
-use Rattle.wrapped_steps.specs.Residues.{residue-⊕, residue-⊖, residue-small, bits-residue}
+use Rattle.wrapped_combs.specs.Wrapped.{residue, wrap}
+use Rattle.wrapped_combs.specs.Residues.{residue-⊕, residue-⊖, residue-small, bits-residue}
 
 -- a negative number's complement
 negative-is : (x : ℤ) → SFits w64 x → ltZ x (pos 0) ≡ true → toZ w64 (18446744073709551615 - ofZ w64 x)

@@ -8,11 +8,11 @@ use Rattle.definitions.specs.Integers.{0ℤ}
 use Rattle.step_laws.specs.Machine.{seen-both, handed}
 use Rattle.entry_steps.specs.Sorts.{sortMeans}
 use Rattle.entry_steps.specs.Passes.{newValue}
-use Rattle.wrapped_steps.specs.Wrapped.{wrap}
-use Rattle.wrapped_steps.specs.Residues.{wrap-fits}
+use Rattle.wrapped_combs.specs.Wrapped.{wrap}
+use Rattle.wrapped_combs.specs.Residues.{wrap-fits}
 use borrow.Author.Needs.{needs}
-use Rattle.wrapped_steps.proofs.value.wrapped_entry.Statement.{statement}
-use Rattle.wrapped_steps.proofs.value.wrapped_entry.Tie as tie
+use Rattle.wrapped_combs.proofs.value.wrapped_entry.Statement.{statement}
+use Rattle.wrapped_combs.proofs.value.wrapped_entry.Tie as tie
 
 mul-wrapped-value : tie.Need-mul-wrapped-value
 mul-wrapped-value c = search needs

@@ -16,8 +16,8 @@ use Rattle.step_laws.specs.Firsts.{length-firsts, firsts-here, firsts-past, fir
 use Rattle.step_laws.specs.Accumulated.{accumulated-from, accumulated-below, by-chain}
 use Rattle.step_laws.specs.Machine.{range-fits}
 use Rattle.step_laws.specs.Step.{combed-from, stepped-below, not-over-each}
-use Rattle.wrapped_steps.specs.Wrapped.{wrap, wrappedStep, wrappedList, Like, AllFit}
-use Rattle.wrapped_steps.specs.Residues.{wrap-fits, wrap-fit, wrap-wrap, like-⊕, like-⊝, like-equal}
+use Rattle.wrapped_combs.specs.Wrapped.{wrap, wrappedStep, wrappedList, Like, AllFit}
+use Rattle.wrapped_combs.specs.Residues.{wrap-fits, wrap-fit, wrap-wrap, like-⊕, like-⊝, like-equal}
 
 module _ (s : Sort) (d : ℕ) (f : Series) where
   pub wrapped-below : (i : ℕ) → i < d → wrappedStep s d f i ≡ f i

@@ -8,7 +8,7 @@ ghost use mir.Syntax.{w64};
 ghost use mir.Val.{toZ, ofZ};
 ghost use Rattle.entry_steps.specs.Sorts.{sortMeans};
 ghost use Rattle.entry_steps.specs.Passes.{newValue, setFour};
-ghost use Rattle.wrapped_steps.specs.Wrapped.{wrap, wrapEntry};
+ghost use Rattle.wrapped_combs.specs.Wrapped.{wrap, wrapEntry};
 use entry_steps::Sort;
 use entry_steps::put;
 use entry_steps::put_four;
@@ -35,7 +35,7 @@ fn of_bits(b: u64) -> i64
 }
 
 // What a step makes of an entry x and the one y that stands d before it.
-pub(crate) fn wrapped_value(sort: Sort, x: i64, y: i64) -> i64
+pub fn wrapped_value(sort: Sort, x: i64, y: i64) -> i64
     ensures { λ r. ⌜ r ≡ wrap (newValue (sortMeans sort) x y) ⌝ }
 {
     let p = bits_of(x);
@@ -54,7 +54,7 @@ fn wrapped_entry(sort: Sort, a: &[i64], i: usize, d: usize) -> i64
 }
 
 // The step at one place.
-pub(crate) fn step_one(sort: Sort, a: &mut [i64], i: usize, d: usize)
+pub fn step_one(sort: Sort, a: &mut [i64], i: usize, d: usize)
     requires { ⌜ (d ≤ i) × (i < length (now a)) ⌝ }
     ensures { λ _. ⌜ now (a .exit) ≡ set (now (a .entry)) i (wrapEntry (sortMeans sort) d (now (a .entry)) i) ⌝ }
 {
@@ -64,7 +64,7 @@ pub(crate) fn step_one(sort: Sort, a: &mut [i64], i: usize, d: usize)
 
 // The step at the four places from k on: all four entries are read before one is written, so that the compiler can
 // take them as vectors.
-pub(crate) fn step_four(sort: Sort, a: &mut [i64], k: usize, d: usize)
+pub fn step_four(sort: Sort, a: &mut [i64], k: usize, d: usize)
     requires { ⌜ (d ≤ k) × (k + 4 ≤ length (now a)) ⌝ }
     ensures { λ _. ⌜ now (a .exit) ≡ setFour (now (a .entry)) k (wrapEntry (sortMeans sort) d (now (a .entry))) ⌝ }
 {

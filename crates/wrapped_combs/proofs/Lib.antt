@@ -1,0 +1,3 @@
+-- Laws that the functions' proofs share.
+mod Bits
+mod Passes
