@@ -234,7 +234,7 @@ int main(void) {
         printf("%-46s %6zu %6s", l->name, (size_t)told.degree, bv_name(told.code));
         for (size_t w = 0; w < count; w++) {
             qsort(ways[w].times, ways[w].rounds, sizeof(double), ascending);
-            printf(" %14.3f", ways[w].times[ways[w].rounds / 2]);
+            printf(" %14.4f", ways[w].times[ways[w].rounds / 2]);
         }
         for (size_t w = 1; w < count; w++)
             printf(" %8.3f", ways[0].times[ways[0].rounds / 2] / ways[w].times[ways[w].rounds / 2]);

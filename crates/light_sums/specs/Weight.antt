@@ -1,9 +1,10 @@
 -- The weight of a list, its magnitudes added up: a coefficient of its product with a series is no larger than the
--- weight times a bound of the other's coefficients (`product-bound`).
+-- weight times a bound of the other's coefficients (`product-bound`); and the weight is no larger than the list's length
+-- times a bound of its own (`weight-most`).
 use mathlib.Core.Path.{_≡_, refl, ap}
 use mathlib.Core.List.{List, [], _∷_}
 use Prim.Native.Nat.{ℕ, zero, suc, _+_, _*_, _-_, _≤_}
-use native.Mathlib.Nat.{le-trans, mul-le-mul-left, mul-le-mul-right, add-mul}
+use native.Mathlib.Nat.{le-trans, mul-le-mul-left, mul-le-mul-right, add-mul, suc-mul}
 use native.Mathlib.Omega.{arith}
 use native.Mathlib.Numerals.{add-one}
 use lib.ListN.{length}
@@ -19,6 +20,12 @@ use Rattle.light_sums.specs.Dots.{dot, dot-product}
 unfoldable pub weight : List ℤ → ℕ
 weight [] = 0
 weight (c ∷ cs) = natAbs c + weight cs
+
+pub weight-most : (l : List ℤ) (h : ℕ) → Bounded h (entries l) → weight l ≤ length l * h
+unfolding weight entries
+weight-most [] h b = omega arith
+weight-most (c ∷ cs) h b =
+    omega (arith, b 0, weight-most cs h (λ i. b (suc i)), suc-mul (length cs) h)
 
 abs-neg : (n : ℕ) → natAbs (negℤ (pos n)) ≡ n
 abs-neg zero = refl

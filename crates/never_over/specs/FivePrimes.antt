@@ -18,7 +18,7 @@ use Rattle.numbers.specs.Tests.{test-and, test-true}
 use Rattle.numbers.specs.Apart.{OddSquarefree}
 use Rattle.numbers.specs.PrimeLists.{productOfList, phiOfList, Rising, rising-phi}
 use Rattle.numbers.specs.Fives.{fives, of-five}
-use Rattle.never_over.specs.Promised.{promisedOf, promised}
+use Rattle.never_over.specs.Promised.{promisedOf, promisedAt, promised}
 use Rattle.never_over.specs.Scales.{under-one}
 use Rattle.never_over.specs.Stops.{Held}
 use Rattle.never_over.specs.Weights.{weight}
@@ -37,7 +37,7 @@ allPass [] = true
 allPass (ps ∷ rest) = passes true ps && (passes false ps && allPass rest)
 
 all-tested : allPass fives ≡ true
-unfolding allPass passes promised promisedOf fives phiOfList productOfList divides stepOf ascending inserted listed
+unfolding allPass passes promised promisedAt promisedOf fives phiOfList productOfList divides stepOf ascending inserted listed
     runs next settled meet behind enough weight
 all-tested = refl
 
@@ -56,7 +56,7 @@ member-passes {ps} (qs ∷ rest) m h first =
     both f i false = i
 
 at-least-one : (first : Bool) → 1 ≤ promised first 5
-unfolding promised promisedOf
+unfolding promised promisedAt promisedOf
 at-least-one true = omega arith
 at-least-one false = omega arith
 

@@ -1,6 +1,6 @@
 -- No request for F(n) is refused, once the index is good and there is room, where both limits are the largest: OVER is
 -- never met (crate `never_over`), so the kept half stays in range at every stop (`kept-inside`), and with it the
--- height (`height-fits`).
+-- height (`height-fits`); and in a smaller range too, by r and the number of its primes (`height-promised`).
 use Prim.Native.Nat.{ℕ, zero, suc, _+_, _-_, _<_, _≤_}
 use mathlib.Core.Path.{_≡_, refl, sym, _∙_, ap, ap₂}
 use mathlib.Core.Bool.{Bool, true, false, cond, _||_}
@@ -42,8 +42,10 @@ use Rattle.cyclotomic.specs.Gain.{gains, gain-prime, gain-composite}
 use Rattle.answers.specs.declared.Answer.{Answer}
 use Rattle.answers.specs.Polynomial.{code, answered, answer, left, leaves}
 use Rattle.index.proofs.Laws.{index-good}
-use Rattle.never_over.specs.NotOver.{not-over, promised-fits}
-use Rattle.next_factor.specs.Taking.{MadeIs, First}
+use Rattle.never_over.specs.Promised.{promisedAt}
+use Rattle.never_over.specs.NotOver.{not-over, not-over-at, promised-fits}
+use Rattle.next_factor.specs.Taking.{First}
+use Rattle.next_factor.specs.Times.{factor}
 
 -- the start is 1 or -1, and then zeros
 start-bound : (kind i : ℕ) → natAbs (start kind i) ≤ 1
@@ -98,18 +100,35 @@ module _ (n : ℕ) (good : goodIndex n ≡ true) where
       not-over 1 n (index-good n good .0) (index-good n good .1) largest (promised-fits true (kOf n))
       (divisorsDue (rOf n)) (omega arith)
 
-  pub height-fits : height 1 n ≤ largest
+  -- no coefficient is larger than what no step passes
+  height-within : (w : ℕ) → 1 ≤ w → overAmong w 1 (rOf n) (divisorsDue (rOf n)) ≡ false → height 1 n ≤ w
   unfolding divisorsDue
-  height-fits = go (ℕ-discrete (rOf n) 1)
+  height-within w one inside = go (ℕ-discrete (rOf n) 1)
     where
-      go : Dec (rOf n ≡ 1) → height 1 n ≤ largest
-      go (yes e) = rw (told-one 1 n (index-good n good .0) e .0) (omega arith)
+      go : Dec (rOf n ≡ 1) → height 1 n ≤ w
+      go (yes e) = rw (told-one 1 n (index-good n good .0) e .0) one
       go (no u) =
           rw (told-half 1 n (index-good n good .0) u .0)
-          (height-least (halfDegree 1 (rOf n) + 1) (polynomial 1 (rOf n)) largest
+          (height-least (halfDegree 1 (rOf n) + 1) (polynomial 1 (rOf n)) w
           (λ i b. rw (firsts-here (halfDegree 1 (rOf n) + 1) (polynomial 1 (rOf n)) i b)
           at (rw (kept-all 1 (rOf n) (r-odd-squarefree n) u)
-          at (kept-inside 1 (rOf n) largest (omega arith) (divisorsDue (rOf n)) (omega arith) never i))))
+          at (kept-inside 1 (rOf n) w one (divisorsDue (rOf n)) (omega arith) inside i))))
+
+  pub height-fits : height 1 n ≤ largest
+  height-fits = height-within largest (omega arith) never
+
+  pub height-promised : 1 ≤ promisedAt true (kOf n) (rOf n) → height 1 n ≤ promisedAt true (kOf n) (rOf n)
+  height-promised some =
+      height-within (promisedAt true (kOf n) (rOf n)) some
+      (not-over-at 1 n (index-good n good .0) (index-good n good .1) (promisedAt true (kOf n) (rOf n)) (omega arith)
+      (divisorsDue (rOf n)) (omega arith))
+
+  -- the gain's magnitude, as the machine reads it
+  pub seen-gain : {v : ℤ} {g : ℕ} → v ≡ gain 1 n → g ≡ natAbs (seen v) → pos g ≡ gain 1 n
+  seen-gain e read =
+      let (k, whole, small) = gain-whole n good in
+      let fits : SFits w64 (pos k) = record { sfits = omega arith } in
+      ap pos (read ∙ ap (λ x. natAbs (seen x)) (e ∙ whole) ∙ ap natAbs (toZ-ofZ fits)) ∙ sym whole
 
   module _ (l : List ℤ) (room : phi n < length l) where
     delivered : code 1 n (pos largest) (pos largest) (length l) ≡ DONE
@@ -133,31 +152,20 @@ module _ (n : ℕ) (good : goodIndex n ≡ true) where
     told-small e =
         rw (ap (λ x. x .degree) (e ∙ its-answer)) (NatL.le-trans (phi-le n) (index-good n good .1))
 
-    -- the gain that was told, as the machine reads it
     told-gain : {a : Answer} {g : ℕ} → a ≡ answered 1 n DONE → g ≡ natAbs (seen (a .gain)) → pos g ≡ gain 1 n
     unfolding answered
-    told-gain e read =
-        let (k, whole, small) = gain-whole n good in
-        let fits : SFits w64 (pos k) = record { sfits = omega arith } in
-        ap pos (read ∙ ap (λ x. natAbs (seen x)) (ap (λ x. x .gain) e ∙ whole) ∙ ap natAbs (toZ-ofZ fits))
-        ∙ sym whole
+    told-gain e = seen-gain (ap (λ x. x .gain) e)
 
     pub made-is :
-        {a : Answer} {m : List ℤ} {g : ℕ} → a ≡ answer 1 n (pos largest) (pos largest) (length l)
-        → m ≡ leaves 1 n (pos largest) (pos largest) l → g ≡ natAbs (seen (a .gain))
-        → MadeIs n l m (record { degree = a .degree; gain = g })
+        {a : Answer} {m : List ℤ} → a ≡ answer 1 n (pos largest) (pos largest) (length l)
+        → m ≡ leaves 1 n (pos largest) (pos largest) l
+        → (a .degree + 1 ≡ suc (phi n)) × (take (suc (phi n)) m ≡ factor n)
     unfolding answered written degree coefficients polynomial
-    made-is {a} {m} {g} is left read =
-        let e = is ∙ its-answer in
-        let w = left ∙ its-leaves in
-        record {
-          degree = ap (λ x. x .degree) e;
-          gain = told-gain e read;
-          factor = ap (take (suc (phi n))) w
-              ∙ take-at (coefficients 1 n) (drop (length (coefficients 1 n)) l) (suc (phi n)) factor-length;
-          len = ap length w ∙ length-append (coefficients 1 n) (drop (length (coefficients 1 n)) l)
-              ∙ omega (arith, factor-length, length-drop (length (coefficients 1 n)) l);
-        }
+    made-is is left = (
+      ap (λ x. x .degree + 1) (is ∙ its-answer) ∙ add-one (phi n),
+      ap (take (suc (phi n))) (left ∙ its-leaves)
+          ∙ take-at (coefficients 1 n) (drop (length (coefficients 1 n)) l) (suc (phi n)) factor-length,
+    )
 
     -- F(n) over zeros is F(n) with zeros after it
     laid : l ≡ zeros (length l) → written (coefficients 1 n) l ≡ firsts (length l) (F n)

@@ -5,7 +5,6 @@ use mathlib.Core.Path.{_≡_, refl, sym, _∙_, ap, ap₂, fun-ext}
 use mathlib.Core.Bool.{Bool, true, false, true≢false, cond, not, _||_, or-true, Bool·not-not}
 use mathlib.Core.List.{List, _++_}
 use native.Mathlib.Omega.{arith}
-use native.Mathlib.Numerals.{add-one}
 use lib.Dec.{eqb, leb}
 use lib.IntN.{ℤ, pos, natAbs}
 use lib.ListN.{length, take, drop, length-append, length-drop, List·getD-append}
@@ -22,32 +21,31 @@ use Rattle.series.specs.Degree.{ZeroFrom, degrees-add}
 use Rattle.series.specs.Mirror.{mirror}
 use Rattle.cyclotomic.specs.Degrees.{monic-F}
 use Rattle.index.proofs.Laws.{index-good}
+use Rattle.index.specs.Parts.{partsOf}
+use Rattle.index.specs.declared.Parts.{Parts}
 use Rattle.heights.specs.declared.Top.{Top}
 use Rattle.next_factor.specs.declared.SoFar.{SoFar}
-use Rattle.next_factor.specs.declared.Made.{Made}
-use Rattle.next_factor.specs.Taking.{MadeIs, Known, Room, Taken}
-use Rattle.next_factor.specs.Times.{Factor, Turns, Multiplied, signed}
+use Rattle.next_factor.specs.declared.Size.{Size}
+use Rattle.next_factor.specs.Taking.{SizeIs, Known, Room, Taken}
+use Rattle.next_factor.specs.Times.{Asked, Turns, Multiplied, signed}
 use Rattle.next_factor.proofs.Mirroring.{turned-product}
 
 abbrev pub nothing : SoFar
 nothing = record { over = true; turned = false; have = 0; height = 0; peak = 0; gain = 0 }
 
-module _ {n : ℕ} {l scratch sc : List ℤ} {s : SoFar} {made : Made} (K : Known l s) (R : Room n l scratch s)
-    (M : MadeIs n scratch sc made) where
+module _ {n : ℕ} {l scratch : List ℤ} {s : SoFar} {size : Size} (K : Known l s) (R : Room n l scratch s)
+    (M : SizeIs n size) where
   abbrev have : ℕ
-  have = s .have + made .degree
+  have = s .have + size .degree
 
   have-is : have ≡ s .have + phi n
   have-is = ap (λ d. s .have + d) (M .degree)
 
-  pub inside : s .have + made .degree ≤ length l
+  pub inside : s .have + size .degree ≤ length l
   inside = rw (M .degree) (R .room)
 
-  pub scratch-inside : made .degree + 1 ≤ length sc
-  scratch-inside = omega (arith, M .degree, M .len, R .factor)
-
   front : length (take have l) ≡ have
-  front = length-take-le (s .have + made .degree) l inside
+  front = length-take-le (s .have + size .degree) l inside
 
   -- nothing stands past the entries that the product will have
   same : (i : ℕ) → entries (take have l) i ≡ entries l i
@@ -59,16 +57,17 @@ module _ {n : ℕ} {l scratch sc : List ℤ} {s : SoFar} {made : Made} (K : Know
   same-series : entries (take have l) ≡ entries l
   same-series = fun-ext same
 
-  pub factor-asked : Factor n (take (s .have + made .degree) l) (take (made .degree + 1) sc) (s .have) (s .height)
-  factor-asked =
+  pub factor-asked : {parts : Parts} → parts ≡ partsOf n
+      → Asked n parts (take (s .have + size .degree) l) (s .have) (s .height)
+  factor-asked apart =
       record {
         good = R .good;
+        apart = apart;
         some = K .some;
         ends = λ i b. same i ∙ K .ends i b;
         room = omega (arith, front, have-is);
         bounded = λ i. rw (same i) (K .height i);
         inside = K .inside;
-        factor = ap (λ k. take k sc) (ap (λ d. d + 1) (M .degree) ∙ add-one (phi n)) ∙ M .factor;
       }
 
   -- the sign of the upper half
@@ -84,7 +83,7 @@ module _ {n : ℕ} {l scratch sc : List ℤ} {s : SoFar} {made : Made} (K : Know
       (K .mirrored))
 
   pub turns-asked : {negate : Bool} → negate ≡ cond (eqb n 1) (not (s .turned)) (s .turned)
-      → Turns n (take (s .have + made .degree) l) (s .have) negate
+      → Turns n (take (s .have + size .degree) l) (s .have) negate
   turns-asked e =
       record {
         whole = front ∙ have-is;
@@ -100,15 +99,15 @@ module _ {n : ℕ} {l scratch sc : List ℤ} {s : SoFar} {made : Made} (K : Know
       (rw last (K .ends)) i (omega arith)
 
   -- ---- the gain leaves the range
-  gain-product : pos (s .gain * made .gain) ≡ pos (s .gain) ⊗ gain 1 n
+  gain-product : pos (s .gain * size .gain) ≡ pos (s .gain) ⊗ gain 1 n
   unfolding _⊗_
   gain-product = ap (λ x. pos (s .gain) ⊗ x) (M .gain)
 
-  gain-test : (b : Bool) → b ≡ leb (s .gain * made .gain) largest → b ≡ inRange largest (pos (s .gain) ⊗ gain 1 n)
+  gain-test : (b : Bool) → b ≡ leb (s .gain * size .gain) largest → b ≡ inRange largest (pos (s .gain) ⊗ gain 1 n)
   unfolding inRange
   gain-test b e = e ∙ ap (λ v. leb (natAbs v) largest) gain-product
 
-  pub gain-over : {b : Bool} → b ≡ leb (s .gain * made .gain) largest → b ≡ false → Taken n l s l nothing
+  pub gain-over : {b : Bool} → b ≡ leb (s .gain * size .gain) largest → b ≡ false → Taken n l s l nothing
   gain-over {b} e lost =
       record {
         over = sym (ap (λ x. someOutside largest 0 (s .have + phi n) (F n · entries l) || not x) (sym (gain-test b e) ∙ lost)
@@ -123,14 +122,14 @@ module _ {n : ℕ} {l scratch sc : List ℤ} {s : SoFar} {made : Made} (K : Know
       }
 
   -- ---- the product
-  module _ {m : List ℤ} {fits : Bool} (T : Multiplied n (take (s .have + made .degree) l) m fits) where
+  module _ {m : List ℤ} {fits : Bool} (T : Multiplied n (take (s .have + size .degree) l) m fits) where
     m-length : length m ≡ have
     m-length = T .len ∙ front
 
     abbrev whole : List ℤ
-    whole = m ++ drop (s .have + made .degree) l
+    whole = m ++ drop (s .have + size .degree) l
 
-    pub whole-length : length (m ++ drop (s .have + made .degree) l) ≡ length l
+    pub whole-length : length (m ++ drop (s .have + size .degree) l) ≡ length l
     whole-length = length-append m (drop have l) ∙ omega (arith, m-length, length-drop have l, inside)
 
     tested : fits ≡ not (someOutside largest 0 (s .have + phi n) (F n · entries l))
@@ -143,7 +142,7 @@ module _ {n : ℕ} {l scratch sc : List ℤ} {s : SoFar} {made : Made} (K : Know
     stays : fits ≡ true → someOutside largest 0 (s .have + phi n) (F n · entries l) ≡ false
     stays e = sym (Bool·not-not _) ∙ ap not (sym tested ∙ e)
 
-    pub coefficient-over : fits ≡ false → Taken n l s (m ++ drop (s .have + made .degree) l) nothing
+    pub coefficient-over : fits ≡ false → Taken n l s (m ++ drop (s .have + size .degree) l) nothing
     coefficient-over lost =
         record {
           over = sym (ap (λ x. x || not (inRange largest (pos (s .gain) ⊗ gain 1 n))) (passes lost));
@@ -176,21 +175,21 @@ module _ {n : ℕ} {l scratch sc : List ℤ} {s : SoFar} {made : Made} (K : Know
       taken-front = take-at m (drop have l) have m-length ∙ m-is
 
       pub extended :
-          {b : Bool} → b ≡ leb (s .gain * made .gain) largest → b ≡ true → {negate : Bool}
+          {b : Bool} → b ≡ leb (s .gain * size .gain) largest → b ≡ true → {negate : Bool}
           → negate ≡ cond (eqb n 1) (not (s .turned)) (s .turned) → {top : Top}
           → top
           ≡ record {
-            height = heightOf (take (s .have + made .degree) (m ++ drop (s .have + made .degree) l));
-            place = peakOf (take (s .have + made .degree) (m ++ drop (s .have + made .degree) l));
+            height = heightOf (take (s .have + size .degree) (m ++ drop (s .have + size .degree) l));
+            place = peakOf (take (s .have + size .degree) (m ++ drop (s .have + size .degree) l));
           }
-          → Taken n l s (m ++ drop (s .have + made .degree) l)
+          → Taken n l s (m ++ drop (s .have + size .degree) l)
           (record {
             over = false;
             turned = negate;
-            have = s .have + made .degree;
+            have = s .have + size .degree;
             height = top .height;
             peak = top .place;
-            gain = s .gain * made .gain;
+            gain = s .gain * size .gain;
           })
       unfolding entries
       extended {b} e small {negate} signs {top} is =

@@ -29,9 +29,10 @@ use Rattle.step_laws.specs.Signed.{range-in, abs-⊖}
 use Rattle.cyclotomic.specs.Family.{F-one}
 use Rattle.cyclotomic.specs.Degrees.{monic-F}
 use Rattle.cyclotomic.specs.Mirrors.{mirror-F}
+use Rattle.index.specs.declared.Parts.{Parts}
 use Rattle.shapes.specs.Shapes.{InRange, mirroredUp}
 use Rattle.shapes.proofs.Shaping.{mirrored-low, mirrored-high}
-use Rattle.next_factor.specs.Times.{Factor, Turns, Multiplied, signed}
+use Rattle.next_factor.specs.Times.{Asked, Turns, Multiplied, signed}
 
 -- ---- the sign
 -- F(1) is z - 1
@@ -73,7 +74,7 @@ turned-product n l k turned g ends e =
     ∙ ap₂ _·_ (turned-factor n l) e ∙ signed-mul (eqb n 1) turned (F n) g
 
 -- ---- the lower half
-module _ {n : ℕ} {l f : List ℤ} {have height : ℕ} {negate : Bool} (K : Factor n l f have height)
+module _ {n : ℕ} {parts : Parts} {l : List ℤ} {have height : ℕ} {negate : Bool} (K : Asked n parts l have height)
     (T : Turns n l have negate) where
   abbrev half : ℕ
   half = (length l + 1) / 2
@@ -93,10 +94,11 @@ module _ {n : ℕ} {l f : List ℤ} {have height : ℕ} {negate : Bool} (K : Fac
       by-order i half (λ b. rw (lower-entry i b) (K .bounded i))
       (λ b. rw (entries-past (take half l) i (omega (arith, front))) (omega arith))
 
-  pub lower-asked : Factor n (take ((length l + 1) / 2) l) f have height
+  pub lower-asked : Asked n parts (take ((length l + 1) / 2) l) have height
   lower-asked =
       record {
         good = K .good;
+        apart = K .apart;
         some = K .some;
         ends = λ i b.
             by-order i half (λ c. lower-entry i c ∙ K .ends i b)
@@ -104,7 +106,6 @@ module _ {n : ℕ} {l f : List ℤ} {have height : ℕ} {negate : Bool} (K : Fac
         room = omega (arith, front, half-room, K .room);
         bounded = lower-most;
         inside = K .inside;
-        factor = K .factor;
       }
 
   abbrev whole : Series

@@ -26,11 +26,12 @@ use Rattle.series.specs.Degree.{ZeroFrom}
 use Rattle.cyclotomic.specs.Degrees.{monic-F}
 use Rattle.numbers.specs.Phi.{phi-le}
 use Rattle.index.proofs.Laws.{index-good}
+use Rattle.index.specs.declared.Parts.{Parts}
 use Rattle.wrapped_combs.specs.Wrapped.{AllFit}
 use Rattle.wrapped_combs.specs.Laws.{like-exact}
 use Rattle.factor_steps.specs.Multiplied as Modulo
 use Rattle.light_sums.specs.Weight.{weight, product-bound}
-use Rattle.next_factor.specs.Times.{Factor, Multiplied}
+use Rattle.next_factor.specs.Times.{Asked, Multiplied, factor, Weighs}
 
 -- a product that is in range though one of its numbers was cut at 2^63
 uncut : (h w : ℕ) → h * min w 9223372036854775808 ≤ largest → h * w ≤ largest
@@ -43,35 +44,34 @@ uncut h w small =
     none zero s = omega (arith, NatL.zero-mul w)
     none (suc h) s = omega (arith, NatL.suc-mul h 9223372036854775808)
 
-module _ {n : ℕ} {l f : List ℤ} {have height : ℕ} (K : Factor n l f have height) where
+pub weighed-made : (n : ℕ) {f : List ℤ} → f ≡ factor n → {w : ℕ} → w ≡ min (weight f) 9223372036854775808 → Weighs n w
+weighed-made n made is = NatL.le-of-eq (ap (λ x. min (weight x) 9223372036854775808) (sym made) ∙ sym is)
+
+module _ {n : ℕ} {parts : Parts} {l : List ℤ} {have height : ℕ} (K : Asked n parts l have height) where
   pos-n : 0 < n
   pos-n = index-good n (K .good) .0
 
-  f-length : length f ≡ suc (phi n)
-  f-length = ap length (K .factor) ∙ length-firsts (suc (phi n)) (F n)
-
   -- the factor's entries are F(n)
-  factor-is : entries f ≡ F n
-  factor-is = ap entries (K .factor) ∙ fun-ext (λ i. by-order i (suc (phi n)) (λ b. firsts-here (suc (phi n)) (F n) i b)
+  factor-is : entries (factor n) ≡ F n
+  factor-is = fun-ext (λ i. by-order i (suc (phi n)) (λ b. firsts-here (suc (phi n)) (F n) i b)
       (λ b. firsts-past (suc (phi n)) (F n) i b ∙ sym (monic-F n pos-n .above i b)))
 
   phi-small : phi n ≤ 65535
   phi-small = omega (arith, index-good n (K .good) .1, phi-le n)
 
-  pub multiply-asks : (1 ≤ have) × (1 ≤ length f) × (length f ≤ 65536) × (length l + 1 ≤ have + length f)
-      × ZeroFrom have (entries l)
-  multiply-asks =
-      (K .some, omega (arith, f-length), omega (arith, f-length, phi-small), omega (arith, f-length, K .room), K .ends)
-
   pub entries-fit : AllFit l
   entries-fit i = range-fits (entries l i) (in-range largest (entries l i) (NatL.le-trans (K .bounded i) (K .inside)))
 
   -- no coefficient can leave the range
-  module _ (w : ℕ) (is : w ≡ min (weight f) 9223372036854775808) (small : height * w ≤ largest) where
+  module _ (w : ℕ) (weighs : Weighs n w) (small : height * w ≤ largest) where
     inside : (i : ℕ) → natAbs ((F n · entries l) i) ≤ largest
     inside i =
-        NatL.le-trans (rw factor-is at (product-bound f (entries l) height (K .bounded) i))
-        (omega (arith, uncut height (weight f) (rw is at small), NatL.mul-comm (weight f) height))
+        NatL.le-trans (rw factor-is at (product-bound (factor n) (entries l) height (K .bounded) i))
+        (omega (
+          arith,
+          uncut height (weight (factor n)) (NatL.le-trans (NatL.mul-le-mul-left height weighs) small),
+          NatL.mul-comm (weight (factor n)) height,
+        ))
 
     pub by-steps : (m : List ℤ) → Modulo.Multiplied (F n) l m → Multiplied n l m true
     by-steps m M =
@@ -84,11 +84,22 @@ module _ {n : ℕ} {l f : List ℤ} {have height : ℕ} (K : Factor n l f have h
           len = M .len;
         }
 
-  pub multiplied-out : (m : List ℤ) (r : Bool) → r ≡ not (someOutside largest 0 (length l) (entries f · entries l))
-      → (r ≡ true → m ≡ firsts (length l) (entries f · entries l)) × (length m ≡ length l) → Multiplied n l m r
-  multiplied-out m r a b =
-      record {
-        inside = a ∙ ap (λ g. not (someOutside largest 0 (length l) (g · entries l))) factor-is;
-        leaves = λ e. b .0 e ∙ ap (λ g. firsts (length l) (g · entries l)) factor-is;
-        len = b .1;
-      }
+  -- F(n) made
+  module _ {f : List ℤ} (made : f ≡ factor n) where
+    f-length : length f ≡ suc (phi n)
+    f-length = ap length made ∙ length-firsts (suc (phi n)) (F n)
+
+    pub multiply-asks : (1 ≤ have) × (1 ≤ length f) × (length f ≤ 65536) × (length l + 1 ≤ have + length f)
+        × ZeroFrom have (entries l)
+    multiply-asks =
+        (K .some, omega (arith, f-length), omega (arith, f-length, phi-small), omega (arith, f-length, K .room), K .ends)
+
+    pub multiplied-out : (m : List ℤ) (r : Bool) → r ≡ not (someOutside largest 0 (length l) (entries f · entries l))
+        → (r ≡ true → m ≡ firsts (length l) (entries f · entries l)) × (length m ≡ length l) → Multiplied n l m r
+    multiplied-out m r a b =
+        let is : entries f ≡ F n = ap entries made ∙ factor-is in
+        record {
+          inside = a ∙ ap (λ g. not (someOutside largest 0 (length l) (g · entries l))) is;
+          leaves = λ e. b .0 e ∙ ap (λ g. firsts (length l) (g · entries l)) is;
+          len = b .1;
+        }

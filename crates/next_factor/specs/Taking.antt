@@ -3,7 +3,7 @@ use Prim.Native.Nat.{ℕ, suc, _+_, _-_, _<_, _≤_}
 use mathlib.Core.Path.{_≡_}
 use mathlib.Core.Bool.{true, false, not, _||_}
 use mathlib.Core.List.{List}
-use lib.ListN.{length, take}
+use lib.ListN.{length}
 use lib.Dec.{eqb}
 use lib.IntN.{ℤ, pos}
 use Rattle.definitions.specs.Integers.{_⊗_}
@@ -18,14 +18,12 @@ use Rattle.series.specs.Mirror.{mirror}
 use Rattle.step_laws.specs.Bound.{Bounded}
 use Rattle.next_factor.specs.Times.{signed}
 use Rattle.next_factor.specs.declared.SoFar.{SoFar}
-use Rattle.next_factor.specs.declared.Made.{Made}
+use Rattle.next_factor.specs.declared.Size.{Size}
 
--- F(n) stands at the start of the scratch, which was l and is m
-pub record MadeIs (n : ℕ) (l m : List ℤ) (r : Made) : Type 0 where
+-- F(n)'s degree and gain
+pub record SizeIs (n : ℕ) (r : Size) : Type 0 where
   pub degree : r .degree ≡ phi n
   pub gain : pos (r .gain) ≡ Rattle.definitions.specs.Answer.gain 1 n
-  pub factor : take (suc (phi n)) m ≡ firsts (suc (phi n)) (F n)
-  pub len : length m ≡ length l
 
 -- F(n) is the product so far, in the slice that was l and is m
 pub record First (n : ℕ) (l m : List ℤ) (r : SoFar) : Type 0 where

@@ -1,5 +1,5 @@
 -- A product's entries, and what its product with F(n) comes to.
-use Prim.Native.Nat.{ℕ, suc, _+_, _-_, _≤_}
+use Prim.Native.Nat.{ℕ, suc, _+_, _-_, _≤_, min}
 use mathlib.Core.Path.{_≡_}
 use mathlib.Core.Bool.{Bool, true, cond, not}
 use mathlib.Core.List.{List}
@@ -13,16 +13,28 @@ use Rattle.definitions.specs.Requests.{goodIndex}
 use Rattle.series.specs.Degree.{ZeroFrom}
 use Rattle.series.specs.Mirror.{mirror}
 use Rattle.step_laws.specs.Bound.{Bounded}
+use Rattle.index.specs.Parts.{partsOf}
+use Rattle.index.specs.declared.Parts.{Parts}
+use Rattle.light_sums.specs.Weight.{weight}
 
--- l has `have` entries of a product, none larger than the height, and then zeros, no more than F(n), which is in f, needs
-pub record Factor (n : ℕ) (l f : List ℤ) (have height : ℕ) : Type 0 where
+-- l has `have` entries of a product, none larger than the height, and then zeros, no more than F(n) needs; n is taken
+-- apart
+pub record Asked (n : ℕ) (parts : Parts) (l : List ℤ) (have height : ℕ) : Type 0 where
   pub good : goodIndex n ≡ true
+  pub apart : parts ≡ partsOf n
   pub some : 1 ≤ have
   pub ends : ZeroFrom have (entries l)
   pub room : length l ≤ have + phi n
   pub bounded : Bounded height (entries l)
   pub inside : height ≤ largest
-  pub factor : f ≡ firsts (suc (phi n)) (F n)
+
+-- the entries of F(n)
+abbrev pub factor : ℕ → List ℤ
+factor n = firsts (suc (phi n)) (F n)
+
+-- what is known of the sum of F(n)'s magnitudes: it is no larger than w, or nothing, where w is 2^63 or more
+abbrev pub Weighs : ℕ → ℕ → Type 0
+Weighs n w = min (weight (factor n)) 9223372036854775808 ≤ w
 
 -- a series, or its negative
 unfoldable pub signed : Bool → Series → Series

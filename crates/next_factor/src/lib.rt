@@ -1,8 +1,11 @@
-// Inner: each `requires` is shown by the caller `cascade`. A product of some F, and one factor more: its F(n) is made
-// in the scratch, and the product is multiplied by it in place.
+// Inner: each `requires` is shown by the caller `cascade`. A product of some F, and one factor more: the product is
+// multiplied by it in place, and its F(n) is made in the scratch only where that is needed.
 mod times;
+mod weighing;
 
+use gain::gain_of;
 use heights::magnitude;
+use index::Parts;
 use times::times;
 ghost use mathlib.Core.Path.{_≡_};
 ghost use mathlib.Core.Bool.{true, false, cond, not};
@@ -12,7 +15,8 @@ ghost use lib.ListN.{length};
 ghost use Rattle.definitions.specs.Numbers.{phi};
 ghost use Rattle.definitions.specs.Steps.{largest};
 ghost use Rattle.definitions.specs.Requests.{goodIndex, zeros};
-ghost use Rattle.next_factor.specs.Taking.{MadeIs, First, Known, Room, Taken};
+ghost use Rattle.index.specs.Parts.{partsOf};
+ghost use Rattle.next_factor.specs.Taking.{SizeIs, First, Known, Room, Taken};
 
 // A product so far: whether it is out of range; whether its upper half is the negative of the lower, turned round; how
 // many entries it has, its height, peak and gain.
@@ -25,8 +29,8 @@ pub struct SoFar {
     pub gain: u64,
 }
 
-// F(n), made: its degree and its gain.
-pub(crate) struct Made {
+// F(n), before it is made: its degree and its gain.
+pub(crate) struct Size {
     pub degree: usize,
     pub gain: u64,
 }
@@ -66,15 +70,13 @@ fn turned_by(n: u64, turned: bool) -> bool
     if n == 1 { !turned } else { turned }
 }
 
-// F(n) in the first entries of the scratch; its degree and gain are told. No request for it is refused.
-fn make_factor(scratch: &mut [i64], n: u64) -> Made
-    requires { ⌜ (goodIndex n ≡ true) × (phi n < length (now scratch)) ⌝ }
-    ensures { λ r. ⌜ MadeIs n (now (scratch .entry)) (now (scratch .exit)) r ⌝ }
+fn size_of(n: u64, parts: Parts) -> Size
+    requires { ⌜ (goodIndex n ≡ true) × (parts ≡ partsOf n) ⌝ }
+    ensures { λ r. ⌜ SizeIs n r ⌝ }
 {
-    let made = polynomial::polynomial(1, n, MOST as i64, MOST as i64, scratch);
-    Made {
-        degree: made.degree as usize,
-        gain: magnitude(made.gain),
+    Size {
+        degree: parts.phi as usize,
+        gain: magnitude(gain_of(1, n, parts)),
     }
 }
 
@@ -100,23 +102,16 @@ pub fn take_factor(b: &mut [i64], scratch: &mut [i64], n: u64, so: SoFar) -> SoF
     ensures { λ r. ⌜ Taken n (now (b .entry)) so (now (b .exit)) r ⌝ }
     ensures { λ _. ⌜ length (now (scratch .exit)) ≡ length (now (scratch .entry)) ⌝ }
 {
-    let made = make_factor(scratch, n);
+    let parts = index::take_apart(n);
+    let size = size_of(n, parts);
     let before = so.have;
-    let gain = made.gain;
+    let gain = size.gain;
     if !product_fits(so.gain, gain) {
         return SoFar::out_of_range();
     }
-    let size = made.degree + 1;
-    let have = before + made.degree;
+    let have = before + size.degree;
     let turned = turned_by(n, so.turned);
-    if !times(
-        &mut b[..have],
-        n,
-        &scratch[..size],
-        before,
-        so.height,
-        turned,
-    ) {
+    if !times(&mut b[..have], scratch, n, parts, before, so.height, turned) {
         return SoFar::out_of_range();
     }
     let top = heights::peak(&b[..have]);
