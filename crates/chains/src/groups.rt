@@ -4,8 +4,8 @@
 ghost use Prim.Native.Nat.{_+_};
 ghost use lib.ListN.{length};
 ghost use Rattle.chains.specs.Tested.{GroupAsked, GroupTaken};
-use crate::rows::first_row;
 use crate::rows::take_row;
+use entry_steps::first_row;
 
 // As many chains as there are sums in s, whatever these are, up to the first place whose sum would pass w, which is
 // answered; or all, and the number of entries is.
@@ -13,7 +13,7 @@ pub fn take_group(test: u8, w: u64, s: &mut [i64], a: &mut [i64], c: usize, d: u
     requires { ⌜ GroupAsked test w d c (c + length (now s)) (now a) ⌝ }
     ensures { λ r. ⌜ GroupTaken w d c (c + length (now (s .entry))) (now (a .entry)) (now (a .exit)) r ⌝ }
 {
-    first_row(s, a, c);
+    first_row(s, a, c, s.len());
     let mut k = c + d;
     while k + s.len() <= a.len() {
         let q = take_row(test, w, s, a, k, s.len());

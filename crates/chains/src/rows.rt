@@ -18,20 +18,6 @@ use entry_steps::passes_test;
 use entry_steps::put;
 use entry_steps::read_entry;
 
-// The sums begin with the chains' first entries, which stay.
-pub(crate) fn first_row(s: &mut [i64], a: &[i64], c: usize)
-    requires { ⌜ c + length (now s) ≤ length (now a) ⌝ }
-    ensures { λ _.
-        ⌜ ((j : ℕ) → j < length (now (s .entry)) → getD (now (s .exit)) j 0ℤ ≡ getD (now (a .entry)) (c + j) 0ℤ) ⌝ }
-{
-    let mut q = 0;
-    while q < s.len() {
-        let x = read_entry(a, c + q);
-        put(s, q, x);
-        q += 1;
-    }
-}
-
 // The entry at q of the row that begins at k, with its chain's sum added, is the entry from now on, and its chain's
 // sum, where it is within w; tells whether it is. That an entry fits its type is known where it is read, and an undoing
 // needs it.

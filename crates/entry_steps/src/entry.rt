@@ -2,10 +2,11 @@
 
 ghost use mathlib.Core.Path.{_≡_};
 ghost use mathlib.Core.Bool.{cond};
-ghost use Prim.Native.Nat.{_+_, _≤_, _<_};
-ghost use lib.ListN.{length, set};
+ghost use Prim.Native.Nat.{ℕ, _+_, _≤_, _<_};
+ghost use lib.ListN.{length, getD, set};
 ghost use mir.Syntax.{w64};
 ghost use mir.Val.{SFits};
+ghost use Rattle.definitions.specs.Integers.{0ℤ};
 ghost use Rattle.definitions.specs.Steps.{entries, inRange, largest};
 ghost use Rattle.step_laws.specs.WorkingLimit.{Workable};
 ghost use Rattle.entry_steps.specs.Sorts.{sortMeans};
@@ -129,4 +130,17 @@ pub fn step_entry_within(sort: Sort, test: u8, w: u64, a: &mut [i64], i: usize, 
     let v = new_value(sort, x, y);
     put(a, i, v);
     true
+}
+
+// The sums of d neighbouring chains begin with the chains' first entries, those from c on.
+pub fn first_row(s: &mut [i64], a: &[i64], c: usize, d: usize)
+    requires { ⌜ (d ≤ length (now s)) × (c + d ≤ length (now a)) ⌝ }
+    ensures { λ _. ⌜ ((j : ℕ) → j < d → getD (now (s .exit)) j 0ℤ ≡ getD (now (a .entry)) (c + j) 0ℤ) ⌝ }
+{
+    let mut q = 0;
+    while q < d {
+        let x = read_entry(a, c + q);
+        put(s, q, x);
+        q += 1;
+    }
 }

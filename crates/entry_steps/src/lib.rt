@@ -4,6 +4,7 @@
 mod entry;
 mod range;
 
+pub use entry::first_row;
 pub use entry::new_entry;
 pub use entry::new_value;
 pub use entry::passes_test;

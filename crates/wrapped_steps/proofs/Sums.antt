@@ -16,7 +16,7 @@ use Rattle.wrapped_steps.specs.Rows.{rowSum, Carried}
 use Rattle.wrapped_steps.proofs.Passes.{next-up}
 
 -- the first row
-pub carried-first : {d : ℕ} {s a : List ℤ} → d ≤ length s → ((j : ℕ) → j < d → getD s j 0ℤ ≡ getD a j 0ℤ)
+pub carried-first : {d : ℕ} {s a : List ℤ} → d ≤ length s → ((j : ℕ) → j < d → getD s j 0ℤ ≡ getD a (0 + j) 0ℤ)
     → Carried d d 0 s a
 carried-first {d} {s} {a} room begun =
     record {

@@ -10,22 +10,9 @@ ghost use lib.IntN.{ℤ};
 ghost use Rattle.wrapped_steps.specs.Upward.{UpTo};
 ghost use Rattle.wrapped_steps.specs.Rows.{rowSum, Carried};
 use entry_steps::Sort;
+use entry_steps::first_row;
 use entry_steps::put;
-use entry_steps::read_entry;
 use wrapped_combs::wrapped_value;
-
-// The sums begin with the first row, which stays.
-fn first_row(s: &mut [i64], a: &[i64], d: usize)
-    requires { ⌜ (d ≤ length (now s)) × (d ≤ length (now a)) ⌝ }
-    ensures { λ _. ⌜ Carried d d 0 (now (s .exit)) (now (a .entry)) ⌝ }
-{
-    let mut q = 0;
-    while q < d {
-        let x = read_entry(a, q);
-        put(s, q, x);
-        q += 1;
-    }
-}
 
 // The entry at q of the row that begins at k, with its chain's sum added, is both from now on.
 fn take_entry(s: &mut [i64], a: &mut [i64], k: usize, q: usize)
@@ -58,7 +45,7 @@ fn rows(s: &mut [i64], a: &mut [i64], d: usize) -> usize
     requires { ⌜ (1 ≤ d) × (d ≤ length (now s)) × (d ≤ length (now a)) ⌝ }
     ensures { λ r. ⌜ UpTo d (now (a .entry)) (now (a .exit)) r ⌝ }
 {
-    first_row(s, a, d);
+    first_row(s, a, 0, d);
     let mut k = d;
     while d <= a.len() - k {
         take_row(s, a, k, d);

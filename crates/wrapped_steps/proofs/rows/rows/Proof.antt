@@ -7,6 +7,7 @@ use lib.ListN.{length}
 use Rattle.wrapped_steps.specs.Upward.{UpTo}
 use Rattle.wrapped_steps.specs.Rows.{Carried}
 use Rattle.wrapped_steps.proofs.Passes.{start-up}
+use Rattle.wrapped_steps.proofs.Sums.{carried-first}
 use Rattle.wrapped_steps.proofs.rows.rows.Statement.{statement}
 use Rattle.wrapped_steps.proofs.rows.rows.Tie as tie
 
@@ -22,7 +23,7 @@ first-row-requires c κs = (omega arith, omega arith)
 loop-holds : tie.Need-loop-holds Inv-loop μ-loop
 loop-holds c =
     let p = c .before .before .before .before in
-    (refl, start-up (p .args .d) (p .args .a .now) (p .pre .2), c .before .first-row .ensures)
+    (refl, start-up (p .args .d) (p .args .a .now) (p .pre .2), carried-first (omega arith) (c .before .first-row .ensures))
 
 sub-loop : tie.Need-sub-loop Inv-loop μ-loop
 sub-loop c = omega (arith, c .loop .inv .1 .split .len)

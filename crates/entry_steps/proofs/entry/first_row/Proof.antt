@@ -1,4 +1,4 @@
--- `chains::rows::first_row` meets its contract: the loop's invariant is that the sums before q are begun.
+-- `entry_steps::entry::first_row` meets its contract: the loop's invariant is that the sums before q are begun.
 use mathlib.Core.Path.{_≡_, refl, sym, _∙_, ap}
 use Prim.Native.Nat.{ℕ, _+_, _-_, _<_, _≤_}
 use native.Mathlib.Nat.{not-suc-le-zero}
@@ -7,16 +7,16 @@ use lib.ListN.{length, getD, length-set}
 use Rattle.definitions.specs.Integers.{0ℤ}
 use Rattle.definitions.specs.Steps.{entries}
 use Rattle.step_laws.specs.Machine.{handed}
 use Rattle.entry_steps.proofs.Split.{getD-set-by}
-use Rattle.chains.proofs.rows.first_row.Statement.{statement}
-use Rattle.chains.proofs.rows.first_row.Tie as tie
+use Rattle.entry_steps.proofs.entry.first_row.Statement.{statement}
+use Rattle.entry_steps.proofs.entry.first_row.Tie as tie
 
 abbrev Inv-loop : tie.InvT-loop
-Inv-loop s₀ a c q₀ s q =
-    (length s ≡ length s₀) × (q ≤ length s₀) × ((j : ℕ) → j < q → getD s j 0ℤ ≡ getD a (c + j) 0ℤ)
+Inv-loop s₀ a c d q₀ s q =
+    (length s ≡ length s₀) × (q ≤ d) × ((j : ℕ) → j < q → getD s j 0ℤ ≡ getD a (c + j) 0ℤ)
 
 abbrev μ-loop : tie.MeasureT-loop
-μ-loop s₀ a c q₀ s q = length s₀ - q
+μ-loop s₀ a c d q₀ s q = d - q
 
 loop-holds : tie.Need-loop-holds Inv-loop μ-loop
 loop-holds c = (refl, omega arith, λ j h. absurd (not-suc-le-zero h))
