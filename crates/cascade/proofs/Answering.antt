@@ -1,9 +1,8 @@
 -- The cascade request's outcomes: which code each test leads to, and what is then told and left.
 use Prim.Native.Nat.{ℕ, suc, _+_, _<_, _≤_}
 use mathlib.Core.Path.{_≡_, refl, sym, _∙_, ap, ap₂}
-use mathlib.Core.Bool.{Bool, true, false, cond, not, _||_, or-true}
+use mathlib.Core.Bool.{Bool, true, false, cond, _||_, or-true}
 use mathlib.Core.List.{List, _++_}
-use native.Mathlib.Omega.{arith}
 use native.Mathlib.Nat as NatL
 use native.Mathlib.Numerals.{add-one}
 use borrow.Author.Tests.{le-ltb, lt-ltb, le-leb, lt-leb, eqb-false}
@@ -14,9 +13,8 @@ use Rattle.definitions.specs.Integers.{0ℤ}
 use Rattle.definitions.specs.Codes.{DONE, INDEX, LIMIT, SHORT, OVER, TALL, LIST}
 use Rattle.definitions.specs.Steps.{belowOne}
 use Rattle.definitions.specs.Requests.{written, zeros}
-use Rattle.definitions.specs.Answer.{heightOf, peakOf, gainOf}
+use Rattle.definitions.specs.Answer.{heightOf}
 use Rattle.definitions.specs.Cascades.{product, totalDegree, productCoefficients, longest, allGood, cascadeOver}
-use Rattle.definitions.specs.Cascades.{firstsOver}
 use Rattle.step_laws.specs.Tests.{neither}
 use Rattle.step_laws.specs.Firsts.{length-firsts}
 use Rattle.answers.specs.Cascade.{code, answered, answer, left, leaves, scratched, scratches}

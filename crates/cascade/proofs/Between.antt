@@ -9,39 +9,35 @@ use mathlib.Core.Bool.{Bool, true, false, cond, not, _&&_, _||_, or-false, and-a
 use mathlib.Core.Logic.{_≢_}
 use mathlib.Core.List.{List, [], _∷_}
 use native.Mathlib.Omega.{arith}
-use native.Mathlib.Nat as NatL
-use borrow.Author.Tests.{le-ltb, le-leb, lt-leb}
+use borrow.Author.Tests.{le-ltb, lt-leb}
 use lib.ListN.{length}
 use lib.Dec.{eqb, ltb, leb}
-use lib.IntN.{ℤ, pos, natAbs}
+use lib.IntN.{ℤ, pos}
 use Rattle.definitions.specs.Codes.{DONE, INDEX, LIMIT, SHORT, OVER, LIST}
 use Rattle.definitions.specs.Integers.{_⊗_, 1ℤ}
 use Rattle.definitions.specs.Series.{_·_, firsts}
 use Rattle.definitions.specs.Numbers.{phi}
 use Rattle.definitions.specs.Polynomials.{F, polynomial, degree}
-use Rattle.definitions.specs.Steps.{inRange, largest, belowOne}
+use Rattle.definitions.specs.Steps.{largest, belowOne}
 use Rattle.definitions.specs.KeptHalf.{productOf, sumOf}
 use Rattle.definitions.specs.Requests.{knownKind, goodIndex}
-use Rattle.definitions.specs.Answer.{coefficients, height, peak, gainOf, gain}
-use Rattle.definitions.specs.Cascades.{product, totalDegree, productCoefficients, longest, allGood, productOver}
+use Rattle.definitions.specs.Answer.{height, peak, gainOf, gain}
+use Rattle.definitions.specs.Cascades.{product, totalDegree, productCoefficients, longest, allGood}
 use Rattle.definitions.specs.Cascades.{firstsOver, cascadeOver}
-use Rattle.series.specs.Laws.{·-one, ·-left-comm}
+use Rattle.series.specs.Laws.{·-left-comm}
 use Rattle.series.specs.AtOne.{AtOne, at-one-constant, at-one-mul, only}
 use Rattle.numbers.specs.Tests.{test-true, test-and}
 use Rattle.numbers.specs.Phi.{phi-le}
 use Rattle.step_laws.specs.Tests.{by-test}
-use Rattle.step_laws.specs.Outside.{inside-all}
-use Rattle.step_laws.specs.Signed.{in-range}
-use Rattle.cyclotomic.specs.Heights.{at-most-height}
 use Rattle.cyclotomic.specs.Gain.{gain-at-one}
 use Rattle.answers.specs.declared.Answer.{Answer}
 use Rattle.answers.specs.Cascade as Cascade
 use Rattle.answers.specs.Polynomial as Polynomial
 use Rattle.index.proofs.Laws.{index-good}
-use Rattle.next_factor.proofs.Delivered.{never, height-fits, gain-whole}
+use Rattle.next_factor.proofs.Delivered.{never}
 use Rattle.cascade.specs.Reordered.{Reordered, same, swap, behind, after}
 use Rattle.cascade.proofs.Lists.{gain-of-product, over-by-firsts}
-use Rattle.cascade.proofs.OneFactor.{one-degree, one-product, one-coefficients, one-fine}
+use Rattle.cascade.proofs.OneFactor.{one-degree, one-coefficients, one-fine}
 
 -- ---- one index
 one-not-over : (n : ℕ) → goodIndex n ≡ true → cascadeOver (n ∷ []) ≡ false

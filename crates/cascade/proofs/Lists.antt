@@ -2,24 +2,22 @@
 -- good list is good and no longer; that the product is monic of the total degree; and that a product that is out of
 -- range stays told.
 use Prim.Native.Nat.{ℕ, zero, suc, _+_, _<_, _≤_, max}
-use mathlib.Core.Path.{_≡_, refl, sym, _∙_, ap, ap₂}
-use mathlib.Core.Bool.{Bool, true, false, true≢false, _&&_, _||_}
+use mathlib.Core.Path.{_≡_, refl, sym, _∙_, ap}
+use mathlib.Core.Bool.{true, false, true≢false}
 use mathlib.Core.Logic.{⊎-elim}
 use mathlib.Core.List.{List, [], _∷_, _++_, map, map-append}
 use native.Mathlib.Omega.{arith}
 use native.Mathlib.Nat as NatL
 use lib.ListN.{length, take, getD}
-use lib.Seq.{take-suc, take-length}
-use lib.IntN.{ℤ}
+use lib.Seq.{take-suc}
 use Rattle.definitions.specs.Integers.{_⊗_, 1ℤ}
-use Rattle.definitions.specs.Series.{Series, _·_, constant, 𝟙, firsts}
+use Rattle.definitions.specs.Series.{_·_, constant, 𝟙}
 use Rattle.definitions.specs.Numbers.{phi}
 use Rattle.definitions.specs.Polynomials.{F, polynomial}
-use Rattle.definitions.specs.Steps.{largest}
 use Rattle.definitions.specs.KeptHalf.{productOf, sumOf}
 use Rattle.definitions.specs.Requests.{goodIndex}
 use Rattle.definitions.specs.Answer.{gainOf, gain}
-use Rattle.definitions.specs.Cascades.{product, totalDegree, productCoefficients, longest, allGood, productOver}
+use Rattle.definitions.specs.Cascades.{product, totalDegree, productCoefficients, longest, allGood}
 use Rattle.definitions.specs.Cascades.{firstsOver, factorOver, cascadeOver}
 use Rattle.integers.specs.Whole.{⊗-comm}
 use Rattle.numbers.specs.Tests.{test-true, test-and}

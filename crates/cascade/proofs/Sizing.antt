@@ -1,5 +1,5 @@
 -- The look over the list: what is known of its first i indices, one more, and at the end.
-use Prim.Native.Nat.{ℕ, zero, suc, _+_, _*_, _<_, _≤_, max}
+use Prim.Native.Nat.{ℕ, _+_, _*_, _<_, _≤_, max}
 use mathlib.Core.Path.{_≡_, refl, sym, _∙_, ap, ap₂}
 use mathlib.Core.Bool.{Bool, true, false, true≢false, cond}
 use mathlib.Core.List.{List}
@@ -18,7 +18,6 @@ use Rattle.definitions.specs.Cascades.{totalDegree, longest, allGood}
 use Rattle.numbers.specs.Phi.{phi-le}
 use Rattle.index.proofs.Laws.{index-good}
 use Rattle.cascade.specs.Asked.{SizesAre}
-use Rattle.cascade.specs.declared.asked.Sizes.{Sizes}
 use Rattle.cascade.proofs.Lists.{good-more, bad-at, longest-more, degree-more}
 
 pub record Sized (ns : List ℕ) (total long i : ℕ) : Type 0 where

@@ -1,10 +1,9 @@
 -- The product of the first i factors: the start, what is asked of one factor more, what it comes to, and the end.
-use Prim.Native.Nat.{ℕ, zero, suc, _+_, _-_, _<_, _≤_}
-use mathlib.Core.Path.{_≡_, refl, sym, _∙_, ap, ap₂, fun-ext}
-use mathlib.Core.Bool.{Bool, true, false, true≢false, not, _||_, Bool·not-not}
+use Prim.Native.Nat.{ℕ, suc, _+_, _-_, _<_, _≤_}
+use mathlib.Core.Path.{_≡_, sym, _∙_, ap, ap₂, fun-ext}
+use mathlib.Core.Bool.{true, false, true≢false, not, _||_, Bool·not-not}
 use mathlib.Core.List.{List, [], _∷_}
 use native.Mathlib.Omega.{arith}
-use native.Mathlib.Nat as NatL
 use native.Mathlib.Numerals.{add-one}
 use lib.ListN.{length, take, getD, length-replicate}
 use lib.Seq.{take-all, take-suc}
@@ -16,7 +15,7 @@ use Rattle.definitions.specs.Polynomials.{F, degree}
 use Rattle.definitions.specs.Steps.{entries, inRange, someOutside, largest}
 use Rattle.definitions.specs.Requests.{goodIndex, zeros}
 use Rattle.definitions.specs.Answer.{coefficients, heightOf, height, peakOf, peak, gainOf, gain}
-use Rattle.definitions.specs.Cascades.{product, totalDegree, productCoefficients, longest, allGood, productOver}
+use Rattle.definitions.specs.Cascades.{product, totalDegree, productCoefficients, productOver}
 use Rattle.definitions.specs.Cascades.{firstsOver}
 use Rattle.series.specs.Mirror.{mirror}
 use Rattle.step_laws.specs.Tests.{by-order, neither}

@@ -1,6 +1,6 @@
 -- One factor more, as the routine comes to it: what is asked of the multiplication on the entries that the product will
 -- have (`factor-asked`), and what is then told: that the gain leaves the range, that a coefficient does, or the product.
-use Prim.Native.Nat.{ℕ, zero, suc, _+_, _*_, _-_, _<_, _≤_}
+use Prim.Native.Nat.{ℕ, suc, _+_, _*_, _-_, _<_, _≤_}
 use mathlib.Core.Path.{_≡_, refl, sym, _∙_, ap, ap₂, fun-ext}
 use mathlib.Core.Bool.{Bool, true, false, true≢false, cond, not, _||_, or-true, Bool·not-not}
 use mathlib.Core.List.{List, _++_}
@@ -10,13 +10,13 @@ use lib.IntN.{ℤ, pos, natAbs}
 use lib.ListN.{length, take, drop, length-append, length-drop, List·getD-append}
 use lib.Seq.{take-at, length-take-le, getD-take, getD-drop, getD-append-add}
 use Rattle.definitions.specs.Integers.{_⊗_, 0ℤ}
-use Rattle.definitions.specs.Series.{Series, _·_, firsts}
+use Rattle.definitions.specs.Series.{_·_, firsts}
 use Rattle.definitions.specs.Numbers.{phi}
 use Rattle.definitions.specs.Polynomials.{F}
 use Rattle.definitions.specs.Steps.{entries, inRange, someOutside, largest}
 use Rattle.definitions.specs.Answer.{heightOf, peakOf, gain}
 use Rattle.step_laws.specs.Tests.{by-order}
-use Rattle.step_laws.specs.Firsts.{length-firsts, getD-firsts, is-firsts, entries-past}
+use Rattle.step_laws.specs.Firsts.{getD-firsts, is-firsts, entries-past}
 use Rattle.series.specs.Degree.{ZeroFrom, degrees-add}
 use Rattle.series.specs.Mirror.{mirror}
 use Rattle.cyclotomic.specs.Degrees.{monic-F}

@@ -6,7 +6,6 @@ use mathlib.Core.Path.{_≡_, refl, sym, _∙_, ap, ap₂}
 use mathlib.Core.Bool.{Bool, true, false, true≢false, cond, not, Bool·not-not}
 use mathlib.Core.List.{List, [], _∷_, _++_}
 use native.Mathlib.Omega.{arith}
-use native.Mathlib.Nat as NatL
 use native.Mathlib.Decide.{ℕ-discrete}
 use borrow.Author.Tests.{ne-eqb}
 use lib.Dec.{eqb, leb}
@@ -18,7 +17,7 @@ use Rattle.definitions.specs.Series.{Series, constant, _+ˢ_, -ˢ, _·_, z^, fi
 use Rattle.definitions.specs.Numbers.{phi, countTo, someTo, divides, shareFactor}
 use Rattle.definitions.specs.Polynomials.{F, z^-1}
 use Rattle.definitions.specs.Steps.{entries, inRange, someOutside, largest}
-use Rattle.integers.specs.Solver.{_:+_, _:*_, :-, x, y}
+use Rattle.integers.specs.Solver.{_:*_, :-, x, y}
 use Rattle.series.specs.Laws.{agree-mul, ringˢ, at--ˢ}
 use Rattle.series.specs.Degree.{ZeroFrom}
 use Rattle.series.specs.Mirror.{mirror, mirror-in, mirror-mul, is-mirror}

@@ -2,22 +2,18 @@
 -- is at most the height times the factor's weight; and F(n), whose coefficients the factor's entries are, is what is
 -- multiplied out.
 use Prim.Native.Nat.{ℕ, zero, suc, _+_, _*_, _<_, _≤_, min}
-use mathlib.Core.Path.{_≡_, refl, sym, _∙_, ap, ap₂, fun-ext}
-use mathlib.Core.Bool.{Bool, true, false, not}
+use mathlib.Core.Path.{_≡_, refl, sym, _∙_, ap, fun-ext}
+use mathlib.Core.Bool.{Bool, true, not}
 use mathlib.Core.List.{List}
 use native.Mathlib.Omega.{arith}
 use native.Mathlib.Nat as NatL
 use lib.ListN.{length}
 use lib.IntN.{ℤ, natAbs}
-use mir.Syntax.{w64}
-use mir.Val.{SFits}
-use Rattle.definitions.specs.Series.{Series, _·_, firsts}
+use Rattle.definitions.specs.Series.{_·_, firsts}
 use Rattle.definitions.specs.Numbers.{phi}
 use Rattle.definitions.specs.Polynomials.{F}
 use Rattle.definitions.specs.Steps.{entries, someOutside, largest}
-use Rattle.definitions.specs.Requests.{goodIndex}
 use Rattle.step_laws.specs.Tests.{by-order}
-use Rattle.step_laws.specs.Bound.{Bounded}
 use Rattle.step_laws.specs.Firsts.{length-firsts, firsts-here, firsts-past}
 use Rattle.step_laws.specs.Machine.{range-fits}
 use Rattle.step_laws.specs.Outside.{inside-all}

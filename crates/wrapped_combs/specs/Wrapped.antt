@@ -10,7 +10,7 @@ use lib.IntN.{ℤ, pos, negsuc}
 use mir.Syntax.{w64}
 use mir.Val.{SFits, toZ}
 use Rattle.definitions.specs.Series.{Series, firsts}
-use Rattle.definitions.specs.Steps.{Sort, comb, accumulate, stepped, entries}
+use Rattle.definitions.specs.Steps.{Sort, comb, stepped, entries}
 use Rattle.entry_steps.specs.Passes.{newEntry, Split}
 
 -- v modulo 2^64, and the 64-bit number that is so much modulo 2^64

@@ -1,17 +1,14 @@
 -- `cascade` meets its contract: each test's code (Answering), and then `answer_in`'s. What the tests showed is named
 -- once.
-use Prim.Native.Nat.{_<_, _≤_}
-use mathlib.Core.Path.{_≡_, refl, sym, _∙_, ap, ap₂}
+use mathlib.Core.Path.{_≡_, sym, _∙_, ap, ap₂}
 use mathlib.Core.Bool.{true, false, _||_, or-true}
 use native.Mathlib.Omega.{arith}
 use borrow.Author.Tests.{not-true, not-false, eq-eqb, ne-eqb, le-ltb, lt-ltb}
 use lib.Dec.{eqb, ltb}
 use lib.ListN.{length}
-use Rattle.definitions.specs.Steps.{belowOne}
 use Rattle.definitions.specs.Cascades.{totalDegree, allGood}
 use Rattle.step_laws.specs.Machine.{below-one}
 use Rattle.step_laws.specs.WorkingLimit.{read-limit}
-use Rattle.cascade.specs.Making.{Ready}
 use Rattle.cascade.proofs.Answering.{at-list, at-index, at-limit, ask-list, ask-index, ask-long, ask-limit}
 use borrow.Author.Needs.{needs}
 use Rattle.cascade.proofs.cascade.Statement.{statement}

@@ -1,9 +1,8 @@
 -- `answer_in` meets its contract: SHORT, or what the making comes to (Answering).
-use Prim.Native.Nat.{_+_, _<_, _≤_}
-use mathlib.Core.Path.{_≡_, refl, sym, _∙_, ap}
+use Prim.Native.Nat.{_+_}
+use mathlib.Core.Path.{_≡_, sym, _∙_, ap}
 use native.Mathlib.Omega.{arith}
 use native.Mathlib.Numerals.{add-one}
-use lib.ListN.{length}
 use lib.Seq.{length-take-le}
 use Rattle.definitions.specs.Codes.{SHORT}
 use Rattle.definitions.specs.Cascades.{totalDegree, longest}

@@ -1,6 +1,5 @@
 -- `answer_of` meets its contract: OVER, TALL or the product (Answering).
 use Prim.Native.Nat.{_≤_}
-use mathlib.Core.Path.{_≡_, refl, sym, _∙_, ap}
 use native.Mathlib.Omega.{arith}
 use mir.Syntax.{w64}
 use mir.Facts.{toZ-ofZ}
