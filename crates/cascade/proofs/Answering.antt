@@ -33,49 +33,50 @@ abbrev pub Made : List ℕ → ℕ → Answer → List ℤ → List ℤ → List
 Made ns h a b s s₀ = (a ≡ answered ns (makingCode ns h)) × ((b ≡ laid ns (makingCode ns h)) × (s ≡ zeros (length s₀)))
 
 module _ {ns : List ℕ} {m : List ℤ} {r : SoFar} (good : allGood ns ≡ true) (P : ProductIs ns m r) (h : ℕ) {total : ℕ}
-    (is : total ≡ totalDegree ns) (s s₁ s₀ : List ℤ) (cleared : s ≡ zeros (length s₁)) (len : length s₁ ≡ length s₀) where
-  over-is : cascadeOver ns ≡ r .over
-  over-is = over-by-firsts ns good ∙ sym (P .over)
+    (is : total ≡ totalDegree ns) (s s₁ s₀ : List ℤ) (cleared : s ≡ zeros (length s₁)) (len : length s₁ ≡ length s₀)
+  where
+    over-is : cascadeOver ns ≡ r .over
+    over-is = over-by-firsts ns good ∙ sym (P .over)
 
-  by-code : (c : ℕ) {a : Answer} {b : List ℤ} → makingCode ns h ≡ c → a ≡ answered ns c → b ≡ laid ns c
-      → Made ns h a b s s₀
-  by-code c e p q = (p ∙ ap (answered ns) (sym e), (q ∙ ap (laid ns) (sym e), cleared ∙ ap zeros len))
-
-  refuses : (c : ℕ) {a : Answer} {b : List ℤ} → makingCode ns h ≡ c → answered ns c ≡ told-only c (totalDegree ns)
-      → laid ns c ≡ zeros (suc (totalDegree ns)) → a ≡ told-only c total → b ≡ zeros (length m) → Made ns h a b s s₀
-  refuses c e p q a b =
-      by-code c e (a ∙ ap (told-only c) is ∙ sym p) (b ∙ ap zeros (P .len) ∙ sym q)
-
-  pub made-over : {a : Answer} {b : List ℤ} → r .over ≡ true → a ≡ told-only OVER total → b ≡ zeros (length m)
-      → Made ns h a b s s₀
-  unfolding makingCode answered laid
-  made-over o =
-      refuses OVER (ap (λ x. cond x OVER (cond (ltb h (heightOf (productCoefficients ns))) TALL DONE)) (over-is ∙ o)) refl
-      refl
-
-  module _ (o : r .over ≡ false) where
-    by-height : (b : Bool) → ltb h (r .height) ≡ b → makingCode ns h ≡ cond b TALL DONE
-    unfolding makingCode
-    by-height b e =
-        ap₂ (λ x y. cond x OVER (cond y TALL DONE)) (over-is ∙ o) (ap (ltb h) (sym (P .height o)) ∙ e)
-
-    pub made-tall : {a : Answer} {b : List ℤ} → h < r .height → a ≡ told-only TALL total → b ≡ zeros (length m)
+    by-code : (c : ℕ) {a : Answer} {b : List ℤ} → makingCode ns h ≡ c → a ≡ answered ns c → b ≡ laid ns c
         → Made ns h a b s s₀
-    unfolding answered laid
-    made-tall l = refuses TALL (by-height true (lt-ltb h (r .height) l)) refl refl
+    by-code c e p q = (p ∙ ap (answered ns) (sym e), (q ∙ ap (laid ns) (sym e), cleared ∙ ap zeros len))
 
-    pub made-done : r .height ≤ h → {g : ℤ} → g ≡ pos (r .gain)
-        → Made ns h
-        (record { code = DONE; degree = total; additions = 0; height = r .height; peak = r .peak; gain = g }) m s s₀
-    unfolding answered laid
-    made-done l read =
-        by-code DONE (by-height false (le-ltb h (r .height) l))
-        (same is (P .height o) (P .peak o) (read ∙ P .gain o)) (P .leaves o)
-      where
-        same : {x z v x′ z′ v′ : ℕ} {u u′ : ℤ} → x ≡ x′ → z ≡ z′ → v ≡ v′ → u ≡ u′
-            → _≡_ {A = Answer} (record { code = DONE; degree = x; additions = 0; height = z; peak = v; gain = u })
-            (record { code = DONE; degree = x′; additions = 0; height = z′; peak = v′; gain = u′ })
-        same p r t s i = record { code = DONE; degree = p i; additions = 0; height = r i; peak = t i; gain = s i }
+    refuses : (c : ℕ) {a : Answer} {b : List ℤ} → makingCode ns h ≡ c → answered ns c ≡ told-only c (totalDegree ns)
+        → laid ns c ≡ zeros (suc (totalDegree ns)) → a ≡ told-only c total → b ≡ zeros (length m) → Made ns h a b s s₀
+    refuses c e p q a b =
+        by-code c e (a ∙ ap (told-only c) is ∙ sym p) (b ∙ ap zeros (P .len) ∙ sym q)
+
+    pub made-over : {a : Answer} {b : List ℤ} → r .over ≡ true → a ≡ told-only OVER total → b ≡ zeros (length m)
+        → Made ns h a b s s₀
+    unfolding makingCode answered laid
+    made-over o =
+        refuses OVER (ap (λ x. cond x OVER (cond (ltb h (heightOf (productCoefficients ns))) TALL DONE)) (over-is ∙ o))
+        refl refl
+
+    module _ (o : r .over ≡ false) where
+      by-height : (b : Bool) → ltb h (r .height) ≡ b → makingCode ns h ≡ cond b TALL DONE
+      unfolding makingCode
+      by-height b e =
+          ap₂ (λ x y. cond x OVER (cond y TALL DONE)) (over-is ∙ o) (ap (ltb h) (sym (P .height o)) ∙ e)
+
+      pub made-tall : {a : Answer} {b : List ℤ} → h < r .height → a ≡ told-only TALL total → b ≡ zeros (length m)
+          → Made ns h a b s s₀
+      unfolding answered laid
+      made-tall l = refuses TALL (by-height true (lt-ltb h (r .height) l)) refl refl
+
+      pub made-done : r .height ≤ h → {g : ℤ} → g ≡ pos (r .gain)
+          → Made ns h
+          (record { code = DONE; degree = total; additions = 0; height = r .height; peak = r .peak; gain = g }) m s s₀
+      unfolding answered laid
+      made-done l read =
+          by-code DONE (by-height false (le-ltb h (r .height) l))
+          (same is (P .height o) (P .peak o) (read ∙ P .gain o)) (P .leaves o)
+        where
+          same : {x z v x′ z′ v′ : ℕ} {u u′ : ℤ} → x ≡ x′ → z ≡ z′ → v ≡ v′ → u ≡ u′
+              → _≡_ {A = Answer} (record { code = DONE; degree = x; additions = 0; height = z; peak = v; gain = u })
+              (record { code = DONE; degree = x′; additions = 0; height = z′; peak = v′; gain = u′ })
+          same p r t s i = record { code = DONE; degree = p i; additions = 0; height = r i; peak = t i; gain = s i }
 
 -- ---- the whole request
 abbrev pub Answers : List ℕ → ℤ → Answer → List ℤ → List ℤ → List ℤ → List ℤ → Type 0
@@ -161,10 +162,14 @@ module _ (ns : List ℕ) (l s₀ : List ℤ) where
   Lasts : ℕ → Type 0
   Lasts c = (left ns c l ≡ laid ns c ++ drop (suc (totalDegree ns)) l) × (scratched c s₀ ≡ zeros (length s₀))
 
+  zeros-kept : written (zeros (suc (totalDegree ns))) l ≡ zeros (suc (totalDegree ns)) ++ drop (suc (totalDegree ns)) l
+  unfolding written zeros
+  zeros-kept = ap (λ k. zeros (suc (totalDegree ns)) ++ drop k l) (length-replicate (suc (totalDegree ns)) 0ℤ)
+
   lasts : (over tall : Bool) → Lasts (cond over OVER (cond tall TALL DONE))
   unfolding Lasts left laid scratched written zeros
-  lasts true tall = (ap (λ k. zeros (suc (totalDegree ns)) ++ drop k l) (length-replicate (suc (totalDegree ns)) 0ℤ), refl)
-  lasts false true = (ap (λ k. zeros (suc (totalDegree ns)) ++ drop k l) (length-replicate (suc (totalDegree ns)) 0ℤ), refl)
+  lasts true tall = (zeros-kept, refl)
+  lasts false true = (zeros-kept, refl)
   lasts false false = (ap (λ k. productCoefficients ns ++ drop k l) (coefficients-length ns), refl)
 
 module _ {ns : List ℕ} {h : ℕ} (R : Ready ns h) (l s₀ : List ℤ) where

@@ -126,9 +126,12 @@ pub gain-more : (ns : List ℕ) (i : ℕ) → i < length ns → allGood ns ≡ t
 unfolding polynomial
 gain-more ns i l g =
     only (product (take (suc i) ns)) (gainOf (productCoefficients (take (suc i) ns)))
-    (gainOf (productCoefficients (take i ns)) ⊗ gain 1 (getD ns i 0)) (gain-of-product (take (suc i) ns) (good-part ns (suc i) g))
+    (gainOf (productCoefficients (take i ns)) ⊗ gain 1 (getD ns i 0))
+    (gain-of-product (take (suc i) ns) (good-part ns (suc i) g))
     (rw (product-more ns i l, ⊗-comm (gainOf (productCoefficients (take i ns))) (gain 1 (getD ns i 0)))
-    (at-one-mul (F (getD ns i 0)) (product (take i ns)) (gain 1 (getD ns i 0)) (gainOf (productCoefficients (take i ns))) (gain-at-one 1 (getD ns i 0) (index-good _ (good-at ns i l g) .0)) (gain-of-product (take i ns) (good-part ns i g))))
+    (at-one-mul (F (getD ns i 0)) (product (take i ns)) (gain 1 (getD ns i 0))
+    (gainOf (productCoefficients (take i ns))) (gain-at-one 1 (getD ns i 0) (index-good _ (good-at ns i l g) .0))
+    (gain-of-product (take i ns) (good-part ns i g))))
 
 -- ---- out of range
 pub stays-over : (ns : List ℕ) (i j : ℕ) → i ≤ j → firstsOver i ns ≡ true → firstsOver j ns ≡ true

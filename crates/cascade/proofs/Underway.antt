@@ -216,8 +216,8 @@ module _ {ns : List ℕ} {b scratch : List ℤ} {so : SoFar} {i : ℕ} (U : Unde
             rw (T .height o)
             (height-least (so .have + phi (getD ns i 0)) (F (getD ns i 0) · entries b) largest
             (λ k c. range-in largest _
-            (inside-each largest 0 (F (getD ns i 0) · entries b) (so .have + phi (getD ns i 0)) (in-range .0) k (omega arith)
-            c)))
+            (inside-each largest 0 (F (getD ns i 0) · entries b) (so .have + phi (getD ns i 0)) (in-range .0) k
+            (omega arith) c)))
 
         gain-inside : r .gain ≤ largest
         gain-inside =

@@ -1,6 +1,6 @@
-// Inner: the `requires` is shown by the caller `bounded_steps`. The comb in place, from the top down, so that the entry
-// d before is still the old one: as on numbers modulo 2^64, where it is known that no value leaves the range; or tested,
-// a pass that stops where a value would pass the working limit w, and one that undoes it.
+// Inner: the `requires` is shown by the caller `bounded_steps`. The comb in place, from the top down, so that the
+// entry d before is still the old one: as on numbers modulo 2^64, where it is known that no value leaves the range; or
+// tested, a pass that stops where a value would pass the working limit w, and one that undoes it.
 
 ghost use mathlib.Core.Path.{_≡_};
 ghost use mathlib.Core.Bool.{false};

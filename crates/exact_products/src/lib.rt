@@ -63,8 +63,8 @@ fn coefficient(b: &[i64], f: &[i64], have: usize, i: usize, light: bool) -> i64
 }
 
 // b, which has `have` entries and zeros after them, times f, in place, as far as b goes: from the top down, an entry
-// needs the old ones up to its own place alone. Tells whether all are in range, and stops at the first that is not. A factor that is not
-// light, of a weight of 2^30 or more, takes the slow way.
+// needs the old ones up to its own place alone. Tells whether all are in range, and stops at the first that is not. A
+// factor that is not light, of a weight of 2^30 or more, takes the slow way.
 pub fn multiply(b: &mut [i64], f: &[i64], have: usize) -> bool
     requires { ⌜ (1 ≤ have) × (1 ≤ length (now f)) × (length (now f) ≤ 65536)
         × (length (now b) + 1 ≤ have + length (now f)) × ZeroFrom have (entries (now b)) ⌝ }

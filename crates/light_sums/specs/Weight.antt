@@ -1,6 +1,6 @@
 -- The weight of a list, its magnitudes added up: a coefficient of its product with a series is no larger than the
--- weight times a bound of the other's coefficients (`product-bound`); and the weight is no larger than the list's length
--- times a bound of its own (`weight-most`).
+-- weight times a bound of the other's coefficients (`product-bound`); and the weight is no larger than the list's
+-- length times a bound of its own (`weight-most`).
 use mathlib.Core.Path.{_≡_, refl, ap}
 use mathlib.Core.List.{List, [], _∷_}
 use Prim.Native.Nat.{ℕ, zero, suc, _+_, _*_, _-_, _≤_}

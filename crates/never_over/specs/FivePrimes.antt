@@ -37,8 +37,8 @@ allPass [] = true
 allPass (ps ∷ rest) = passes true ps && (passes false ps && allPass rest)
 
 all-tested : allPass fives ≡ true
-unfolding allPass passes promised promisedAt promisedOf fives phiOfList productOfList divides stepOf ascending inserted listed
-    runs next settled meet behind enough weight
+unfolding allPass passes promised promisedAt promisedOf fives phiOfList productOfList divides stepOf ascending inserted
+    listed runs next settled meet behind enough weight
 all-tested = refl
 
 member-passes : {ps : List ℕ} (all : List (List ℕ)) → List·Memᴰ ps all → allPass all ≡ true → (first : Bool)

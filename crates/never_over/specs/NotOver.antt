@@ -6,7 +6,8 @@ use mathlib.Core.Path.{_≡_, refl, sym, _∙_, ap}
 use mathlib.Core.Bool.{Bool, true, false}
 use mathlib.Core.Logic.{⊎-elim}
 use mathlib.Core.List.{List, _∷_}
-use native.Mathlib.Nat.{le-trans, mul-le-mul-left, mul-le-mul-right, pow-le-pow-left, le-of-dvd, eq-or-lt-of-le, dvd-mul-left}
+use native.Mathlib.Nat.{le-trans, mul-le-mul-left, mul-le-mul-right, pow-le-pow-left, le-of-dvd, eq-or-lt-of-le}
+use native.Mathlib.Nat.{dvd-mul-left}
 use native.Mathlib.Omega.{arith}
 use lib.Dec.{eqb}
 use lib.ListN.{length}
@@ -99,7 +100,8 @@ module _ (kind r : ℕ) (O : OddSquarefree r) (small : r ≤ 65535)
 
     -- ---- five
     pub five-not-over : kOf r ≡ 5 → (j : ℕ) → j ≤ divisorsDue r → overAmong w kind r j ≡ false
-    five-not-over five = from-held (le-trans (of-five (eqb kind 1) r) (rw five at enough)) (held-five r O five small kind)
+    five-not-over five =
+        from-held (le-trans (of-five (eqb kind 1) r) (rw five at enough)) (held-five r O five small kind)
 
 -- ---- every index
 one-not-over : (kind w j : ℕ) → j ≤ divisorsDue 1 → overAmong w kind 1 j ≡ false

@@ -24,7 +24,8 @@ use Rattle.definitions.specs.Numbers.{rOf, mOf, phi, kOf, divides, divisorsBelo
 use Rattle.definitions.specs.Polynomials.{F, degree, polynomial}
 use Rattle.definitions.specs.Steps.{entries, largest, belowOne}
 use Rattle.definitions.specs.KeptHalf.{halfDegree, keptHalf, start}
-use Rattle.definitions.specs.Requests.{knownKind, goodIndex, divisorsDue, nextDivisor, overAt, overAmong, written, zeros}
+use Rattle.definitions.specs.Requests.{knownKind, goodIndex, divisorsDue, nextDivisor, overAt, overAmong}
+use Rattle.definitions.specs.Requests.{written, zeros}
 use Rattle.definitions.specs.Answer.{coefficients, height, gain}
 use Rattle.numbers.specs.Apart.{r-odd-squarefree, m-divides, m-above}
 use Rattle.numbers.specs.Phi.{phi-le}

@@ -1,5 +1,6 @@
--- One factor more, as the routine comes to it: what is asked of the multiplication on the entries that the product will
--- have (`factor-asked`), and what is then told: that the gain leaves the range, that a coefficient does, or the product.
+-- One factor more, as the routine comes to it: what is asked of the multiplication on the entries that the product
+-- will have (`factor-asked`), and what is then told: that the gain leaves the range, that a coefficient does, or the
+-- product.
 use Prim.Native.Nat.{ℕ, suc, _+_, _*_, _-_, _<_, _≤_}
 use mathlib.Core.Path.{_≡_, refl, sym, _∙_, ap, ap₂, fun-ext}
 use mathlib.Core.Bool.{Bool, true, false, true≢false, cond, not, _||_, or-true, Bool·not-not}
@@ -110,7 +111,8 @@ module _ {n : ℕ} {l scratch : List ℤ} {s : SoFar} {size : Size} (K : Known l
   pub gain-over : {b : Bool} → b ≡ leb (s .gain * size .gain) largest → b ≡ false → Taken n l s l nothing
   gain-over {b} e lost =
       record {
-        over = sym (ap (λ x. someOutside largest 0 (s .have + phi n) (F n · entries l) || not x) (sym (gain-test b e) ∙ lost)
+        over = sym (ap (λ x. someOutside largest 0 (s .have + phi n) (F n · entries l) || not x)
+            (sym (gain-test b e) ∙ lost)
             ∙ or-true (someOutside largest 0 (s .have + phi n) (F n · entries l)));
         leaves = λ e. absurd (true≢false e);
         len = refl;

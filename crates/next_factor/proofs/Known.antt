@@ -1,5 +1,6 @@
--- What is known of F(n) before it is made: no coefficient is larger than crate `never_over` promises by r and the number
--- of its primes (`by-promise`), so the magnitudes add up to at most as many times that as there are terms (`weighed`).
+-- What is known of F(n) before it is made: no coefficient is larger than crate `never_over` promises by r and the
+-- number of its primes (`by-promise`), so the magnitudes add up to at most as many times that as there are terms
+-- (`weighed`).
 use Prim.Native.Nat.{ℕ, zero, suc, _+_, _*_, _^_, _<_, _≤_}
 use mathlib.Core.Path.{_≡_, refl, sym, _∙_, ap}
 use mathlib.Core.Bool.{true}

@@ -88,7 +88,7 @@ module _ {n : ℕ} {parts : Parts} {l : List ℤ} {have height : ℕ} (K : Asked
     pub multiply-asks : (1 ≤ have) × (1 ≤ length f) × (length f ≤ 65536) × (length l + 1 ≤ have + length f)
         × ZeroFrom have (entries l)
     multiply-asks =
-        (K .some, omega (arith, f-length), omega (arith, f-length, phi-small), omega (arith, f-length, K .room), K .ends)
+        let n = f-length in (K .some, omega arith, omega (arith, phi-small), omega (arith, K .room), K .ends)
 
     pub multiplied-out : (m : List ℤ) (r : Bool) → r ≡ not (someOutside largest 0 (length l) (entries f · entries l))
         → (r ≡ true → m ≡ firsts (length l) (entries f · entries l)) × (length m ≡ length l) → Multiplied n l m r

@@ -1,5 +1,5 @@
-// How much F(n)'s magnitudes can add up to, told before F(n) is made: it has so many terms, and none is larger than crate
-// `never_over` promises of every value that the steps of n make.
+// How much F(n)'s magnitudes can add up to, told before F(n) is made: it has so many terms, and none is larger than
+// crate `never_over` promises of every value that the steps of n make.
 use index::Parts;
 ghost use mathlib.Core.Path.{_≡_};
 ghost use mathlib.Core.Bool.{true};

@@ -1,6 +1,7 @@
 // An inner crate: what a line of the program `trial` asks, read word by word: a name, numbers, a list of indices, and
 // buffers of entries and of bytes (second/README.md has the form). Little is promised, only that each function is safe
-// and ends, and how much of a buffer can be lent: what is made of what was read is printed, and held to a stored output.
+// and ends, and how much of a buffer can be lent: what is made of what was read is printed, and held to a stored
+// output.
 //
 // A reader is told the place of the byte before its word, and tells the place after it. From NOWHERE, which is told
 // where a word is not there, nothing can be read: so whoever reads to the end of a line has read all its words well.

@@ -121,7 +121,8 @@ like-exact l f fit like small =
     is-firsts (length l) f l refl (λ i b. like-equal (fit i) (small i b) (like i b))
 
 -- where no value leaves the range it is the step
-pub wrapped-known : (s : Sort) (d : ℕ) (l : List ℤ) → stepOver largest s d l ≡ false → wrappedList s d l ≡ stepList s d l
+pub wrapped-known : (s : Sort) (d : ℕ) (l : List ℤ) → stepOver largest s d l ≡ false
+    → wrappedList s d l ≡ stepList s d l
 unfolding wrappedList stepList
 wrapped-known s d l inside =
     firsts-same (length l) (wrappedStep s d (entries l)) (stepped s d (entries l))

@@ -41,7 +41,8 @@ module _ (e : tie.Else4) where
   good-list = e .before .before
 
   short : ltb 65535 (totalDegree (start (sized good-list) .args .indices .now)) ≡ false
-  short = le-ltb 65535 (totalDegree (start (sized good-list) .args .indices .now)) (omega (arith, total-is good-list, e .if4 .left))
+  short = le-ltb 65535 (totalDegree (start (sized good-list) .args .indices .now))
+      (omega (arith, total-is good-list, e .if4 .left))
 
 refused-requires : tie.Need-refused-requires
 refused-requires c κs = search needs
@@ -51,7 +52,8 @@ returns c =
     let p = c .before .before .before in
     at-list _ _ (p .args .buf .now) (p .args .scratch .now) (c .refused .ensures)
     (ask-list _ _ _ _
-    (ap (λ x. x || ltb 8 (length (p .args .indices .now))) (eq-eqb (length (p .args .indices .now)) 0 (c .before .if1 .taken))))
+    (ap (λ x. x || ltb 8 (length (p .args .indices .now)))
+    (eq-eqb (length (p .args .indices .now)) 0 (c .before .if1 .taken))))
 
 refused-requires-2 : tie.Need-refused-requires-2
 refused-requires-2 c κs = search needs
@@ -61,7 +63,8 @@ returns-2 c =
     let p = c .before .before .before .before in
     at-list _ _ (p .args .buf .now) (p .args .scratch .now) (c .refused2 .ensures)
     (ask-list _ _ _ _
-    (ap (λ x. eqb (length (p .args .indices .now)) 0 || x) (lt-ltb 8 (length (p .args .indices .now)) (c .before .if2 .taken))
+    (ap (λ x. eqb (length (p .args .indices .now)) 0 || x)
+    (lt-ltb 8 (length (p .args .indices .now)) (c .before .if2 .taken))
     ∙ or-true (eqb (length (p .args .indices .now)) 0)))
 
 sizes-of-requires : tie.Need-sizes-of-requires

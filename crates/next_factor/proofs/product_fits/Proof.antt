@@ -18,7 +18,9 @@ divided a b l =
     (λ h. le-div-iff-mul-le {x = b} {y = largest} l .1 (omega (arith, mul-comm a b)))
 
 returns : tie.Need-returns
-returns c = sym (ap (λ a. leb (a * c .before .args .b) largest) (c .if1 .taken) ∙ le-leb (0 * c .before .args .b) largest (omega (arith, zero-mul (c .before .args .b))))
+returns c =
+    let b = c .before .args .b in
+    sym (ap (λ a. leb (a * b) largest) (c .if1 .taken) ∙ le-leb (0 * b) largest (omega (arith, zero-mul b)))
 
 div-result : tie.Need-div-result
 div-result c = search needs

@@ -9,7 +9,8 @@ use lib.ListN.{length, drop}
 use lib.Seq.{length-take-le}
 use Rattle.definitions.specs.Steps.{largest}
 use Rattle.index.proofs.Laws.{taken-good}
-use Rattle.next_factor.proofs.Extending.{inside, factor-asked, turns-asked, gain-over, coefficient-over, whole-length, extended}
+use Rattle.next_factor.proofs.Extending.{inside, factor-asked, turns-asked, gain-over, coefficient-over}
+use Rattle.next_factor.proofs.Extending.{whole-length, extended}
 use Rattle.next_factor.proofs.take_factor.Statement.{statement}
 use Rattle.next_factor.proofs.take_factor.Tie as tie
 
@@ -27,8 +28,10 @@ module _ (t : tie.After-times) where
   sized = t .before .before .before .before .before .before .before
 
   kept : start sized .args .so .have + sized .size-of .result .degree
-      ≤ length (t .times .last .0 ++ drop (start sized .args .so .have + sized .size-of .result .degree) (start sized .args .b .now))
-  kept = rw (whole-length (start sized .pre .0) (start sized .pre .1) (sized .size-of .ensures) (t .times .ensures)) (room sized)
+      ≤ length (t .times .last .0
+      ++ drop (start sized .args .so .have + sized .size-of .result .degree) (start sized .args .b .now))
+  kept = rw (whole-length (start sized .pre .0) (start sized .pre .1) (sized .size-of .ensures) (t .times .ensures))
+      (room sized)
 
 take-apart-requires : tie.Need-take-apart-requires
 take-apart-requires c κs = search needs
@@ -126,8 +129,10 @@ returns-3 c =
     let g = sized t in
     let p = start g in
     let e = t .before .before .before .before .before in (
-      extended (p .pre .0) (p .pre .1) (g .size-of .ensures) (t .times .ensures) (not-false _ (c .before .before .before .if2 .left))
-          (e .before .product-fits .ensures) (not-false _ (e .if1 .left)) (t .before .before .before .turned-by .ensures) (c .before .peak .ensures),
+      extended (p .pre .0) (p .pre .1) (g .size-of .ensures) (t .times .ensures)
+          (not-false _ (c .before .before .before .if2 .left))
+          (e .before .product-fits .ensures) (not-false _ (e .if1 .left))
+          (t .before .before .before .turned-by .ensures) (c .before .peak .ensures),
       t .times .kept .1 .0,
     )
 

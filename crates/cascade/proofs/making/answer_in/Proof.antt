@@ -66,7 +66,8 @@ same-length-2 c = search needs
 returns-3 : tie.Need-returns-3
 returns-3 c =
     let p = c .before .before .before .before .before .before .before .before .before in
-    at-last (p .pre .1) (p .args .buf .now) (p .args .scratch .now) (total-is p) (omega (arith, total-is p)) (omega (arith, longest-is p))
+    at-last (p .pre .1) (p .args .buf .now) (p .args .scratch .now) (total-is p) (omega (arith, total-is p))
+    (omega (arith, longest-is p))
     (c .before .before .answer-of .ensures)
 
 pub answer-in-spec : {M : Type 1} → statement M

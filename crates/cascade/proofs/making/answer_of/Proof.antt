@@ -31,8 +31,10 @@ returns : tie.Need-returns
 returns c =
     let m = c .before .before .before .before .before .before .before .before .before .before in
     let p = m .before .before .before .before in
-    made-over (p .pre .2 .good) (m .make .ensures .0) (p .args .h) (p .pre .0) _ (m .make .last .1 .1 .0) (p .args .scratch .now) (c .before .before .before .before .before .before .clear .ensures)
-    (m .make .ensures .1) (c .before .before .before .before .if1 .taken) (c .refused .ensures) (c .before .before .clear2 .ensures)
+    made-over (p .pre .2 .good) (m .make .ensures .0) (p .args .h) (p .pre .0) _ (m .make .last .1 .1 .0)
+    (p .args .scratch .now) (c .before .before .before .before .before .before .clear .ensures)
+    (m .make .ensures .1) (c .before .before .before .before .if1 .taken) (c .refused .ensures)
+    (c .before .before .clear2 .ensures)
 
 clear-requires-3 : tie.Need-clear-requires-3
 clear-requires-3 c κs = search needs
@@ -50,12 +52,15 @@ returns-2 : tie.Need-returns-2
 returns-2 c =
     let m = c .before .before .before .before .before .before .before .before .before .before .before .before in
     let p = m .before .before .before .before in
-    made-tall (p .pre .2 .good) (m .make .ensures .0) (p .args .h) (p .pre .0) _ (m .make .last .1 .1 .0) (p .args .scratch .now) (c .before .before .before .before .before .before .before .before .clear .ensures)
-    (m .make .ensures .1) (c .before .before .before .before .before .before .if1 .left) (c .before .before .before .before .if2 .taken) (c .refused2 .ensures) (c .before .before .clear3 .ensures)
+    made-tall (p .pre .2 .good) (m .make .ensures .0) (p .args .h) (p .pre .0) _ (m .make .last .1 .1 .0)
+    (p .args .scratch .now) (c .before .before .before .before .before .before .before .before .clear .ensures)
+    (m .make .ensures .1) (c .before .before .before .before .before .before .if1 .left)
+    (c .before .before .before .before .if2 .taken) (c .refused2 .ensures) (c .before .before .clear3 .ensures)
 
 cast-t21 : tie.Need-cast-t21
 cast-t21 c =
-    let small : c .before .before .before .before .before .before .before .before .before .make .result .gain ≤ largest = c .before .before .before .before .before .before .before .before .before .make .ensures .0 .small (c .before .before .before .if1 .left) in
+    let m = c .before .before .before .before .before .before .before .before .before in
+    let small : m .make .result .gain ≤ largest = m .make .ensures .0 .small (c .before .before .before .if1 .left) in
     record { sfits = omega arith }
 
 same-length-5 : tie.Need-same-length-5
@@ -69,8 +74,10 @@ returns-3 c =
     let m = c .before .before .before .before .before .before .before .before .before in
     let p = m .before .before .before .before in
     let small : m .make .result .gain ≤ largest = m .make .ensures .0 .small (c .before .before .before .if1 .left) in
-    made-done (p .pre .2 .good) (m .make .ensures .0) (p .args .h) (p .pre .0) _ (m .make .last .1 .1 .0) (p .args .scratch .now) (c .before .before .before .before .before .clear .ensures)
-    (m .make .ensures .1) (c .before .before .before .if1 .left) (c .before .if2 .left) (toZ-ofZ {w = w64} (record { sfits = omega arith }))
+    made-done (p .pre .2 .good) (m .make .ensures .0) (p .args .h) (p .pre .0) _ (m .make .last .1 .1 .0)
+    (p .args .scratch .now) (c .before .before .before .before .before .clear .ensures)
+    (m .make .ensures .1) (c .before .before .before .if1 .left) (c .before .if2 .left)
+    (toZ-ofZ {w = w64} (record { sfits = omega arith }))
 
 pub answer-of-spec : {M : Type 1} → statement M
 answer-of-spec =

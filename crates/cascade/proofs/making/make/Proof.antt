@@ -4,7 +4,8 @@ use mathlib.Core.Path.{_≡_, refl, sym, _∙_}
 use native.Mathlib.Omega.{arith}
 use lib.ListN.{length}
 use borrow.Author.Needs.{needs}
-use Rattle.cascade.proofs.Underway.{Underway, first-asks, underway-first, known, room, over-here, underway-more, done}
+use Rattle.cascade.proofs.Underway.{Underway, first-asks, underway-first, known, room}
+use Rattle.cascade.proofs.Underway.{over-here, underway-more, done}
 use Rattle.cascade.proofs.making.make.Statement.{statement}
 use Rattle.cascade.proofs.making.make.Tie as tie
 
@@ -23,12 +24,16 @@ shared-slice-read-first-factor c = c .before .before .before .before .before .be
 
 first-factor-requires : tie.Need-first-factor-requires Inv-loop μ-loop
 first-factor-requires c κs =
-    let p = c .before .before .before .before .before .before in first-asks (p .pre .0) (p .pre .1) _ (c .before .before .before .clear .ensures)
+    let p = c .before .before .before .before .before .before in
+    first-asks (p .pre .0) (p .pre .1) _ (c .before .before .before .clear .ensures)
 
 loop-holds : tie.Need-loop-holds Inv-loop μ-loop
 loop-holds c =
-    let p = c .before .before .before .before .before .before .before .before in
-    (underway-first (p .pre .0) (p .pre .1) (c .before .before .before .before .before .clear .ensures) (c .before .first-factor .ensures), refl)
+    let p = c .before .before .before .before .before .before .before .before in (
+      underway-first (p .pre .0) (p .pre .1) (c .before .before .before .before .before .clear .ensures)
+          (c .before .first-factor .ensures),
+      refl,
+    )
 
 mul-take-factor : tie.Need-mul-take-factor Inv-loop μ-loop
 mul-take-factor c = omega arith
@@ -38,20 +43,25 @@ shared-slice-read-take-factor c = omega arith
 
 take-factor-requires : tie.Need-take-factor-requires Inv-loop μ-loop
 take-factor-requires c κs =
-    let at = c .before .before .before .before in (known (at .loop .inv .0), room (at .loop .inv .0) (c .before .before .before .loop-test .taken))
+    let at = c .before .before .before .before in
+    (known (at .loop .inv .0), room (at .loop .inv .0) (c .before .before .before .loop-test .taken))
 
 same-length : tie.Need-same-length Inv-loop μ-loop
 same-length c =
-    c .before .before .before .take-factor .ensures .0 .len ∙ c .before .before .before .before .before .before .before .before .loop .inv .0 .roomy .room ∙ sym (c .before .before .before .before .before .before .before .before .before .before .before .before .before .before .before .before .before .pre .1 .room)
+    let at = c .before .before .before .before .before .before .before .before in
+    c .before .before .before .take-factor .ensures .0 .len ∙ at .loop .inv .0 .roomy .room
+    ∙ sym (at .before .before .before .before .before .before .before .before .before .pre .1 .room)
 
 same-length-2 : tie.Need-same-length-2 Inv-loop μ-loop
-same-length-2 c = c .before .before .before .take-factor .ensures .1 ∙ c .before .before .before .before .before .before .before .before .loop .inv .1
+same-length-2 c = c .before .before .before .take-factor .ensures .1
+    ∙ c .before .before .before .before .before .before .before .before .loop .inv .1
 
 returns : tie.Need-returns Inv-loop μ-loop
 returns c =
     let at = c .before .before .before .before .before .before .before .before in
     let t = c .before .before .before in (
-      over-here (at .loop .inv .0) (c .before .before .before .before .before .before .before .loop-test .taken) (t .take-factor .ensures .0) (c .if1 .taken),
+      over-here (at .loop .inv .0) (c .before .before .before .before .before .before .before .loop-test .taken)
+          (t .take-factor .ensures .0) (c .if1 .taken),
       t .take-factor .ensures .1 ∙ at .loop .inv .1,
     )
 
@@ -65,12 +75,14 @@ loop-again : tie.Need-loop-again Inv-loop μ-loop
 loop-again c =
     let at = c .before .before .before .before .before .before .before .before in
     let t = c .before .before .before in (
-      underway-more (at .loop .inv .0) (c .before .before .before .before .before .before .before .loop-test .taken) (t .take-factor .ensures .0) (c .if1 .left) _ (t .take-factor .ensures .1),
+      underway-more (at .loop .inv .0) (c .before .before .before .before .before .before .before .loop-test .taken)
+          (t .take-factor .ensures .0) (c .if1 .left) _ (t .take-factor .ensures .1),
       t .take-factor .ensures .1 ∙ at .loop .inv .1,
     )
 
 same-length-3 : tie.Need-same-length-3 Inv-loop μ-loop
-same-length-3 c = c .before .loop .inv .0 .roomy .room ∙ sym (c .before .before .before .before .before .before .before .before .before .before .pre .1 .room)
+same-length-3 c = c .before .loop .inv .0 .roomy .room ∙ sym
+    (c .before .before .before .before .before .before .before .before .before .before .pre .1 .room)
 
 same-length-4 : tie.Need-same-length-4 Inv-loop μ-loop
 same-length-4 c = c .before .loop .inv .1

@@ -1,4 +1,5 @@
--- `times_lower` meets its contract: by steps where F(n) is known to be light enough (Multiplying), or as `times_made` does.
+-- `times_lower` meets its contract: by steps where F(n) is known to be light enough (Multiplying), else as `times_made`
+-- does.
 use borrow.Author.Needs.{needs}
 use mathlib.Core.Path.{sym, _∙_, ap}
 use native.Mathlib.Omega.{arith}
@@ -38,8 +39,8 @@ slice-reshare-prefix-times-made c = search needs
 slice-aggregate-times-made : tie.Need-slice-aggregate-times-made
 slice-aggregate-times-made c =
     let made = c .before .before .before .make-factor in
-    sym (length-take-le _ _
-    (omega (arith, made .ensures .0, made .kept .0, c .before .before .before .before .before .before .before .before .pre .1)))
+    let p = c .before .before .before .before .before .before .before .before in
+    sym (length-take-le _ _ (omega (arith, made .ensures .0, made .kept .0, p .pre .1)))
 
 times-made-requires : tie.Need-times-made-requires
 times-made-requires c κs =

@@ -22,8 +22,11 @@ first-row-requires c κs = (omega arith, omega arith)
 
 loop-holds : tie.Need-loop-holds Inv-loop μ-loop
 loop-holds c =
-    let p = c .before .before .before .before in
-    (refl, start-up (p .args .d) (p .args .a .now) (p .pre .2), carried-first (omega arith) (c .before .first-row .ensures))
+    let p = c .before .before .before .before in (
+      refl,
+      start-up (p .args .d) (p .args .a .now) (p .pre .2),
+      carried-first (omega arith) (c .before .first-row .ensures),
+    )
 
 sub-loop : tie.Need-sub-loop Inv-loop μ-loop
 sub-loop c = omega (arith, c .loop .inv .1 .split .len)
