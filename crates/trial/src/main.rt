@@ -7,6 +7,21 @@ ghost use mathlib.Core.Path.{_≡_};
 ghost use lib.ListN.{length};
 use libc::STDIN_FILENO;
 use libc::STDOUT_FILENO;
+use trial_lines::Row;
+
+// A door of two buffers, or one of one.
+fn ask(
+    name: u64,
+    asked: Row,
+    indices: &[u64],
+    entries: &mut [i64],
+    scratch: &mut [i64],
+    bytes: &mut [u8],
+) {
+    if !trial_pair_doors::ask(name, asked, indices, entries, scratch, bytes) {
+        trial_doors::ask(name, asked, entries);
+    }
+}
 
 // A whole line. Its words are a name and numbers; then, each where there are some, indices, entries, entries of a
 // second buffer, and bytes.
@@ -23,7 +38,7 @@ fn answer(line: &[u8], buf: &mut [i64], scratch: &mut [i64], space: &mut [u8]) {
     let j = others.count;
     let m = bytes.count;
     if bytes.next == line.len() {
-        trial_pair_doors::ask(
+        ask(
             name.bits,
             asked,
             &values[..i],
