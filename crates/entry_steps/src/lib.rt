@@ -1,5 +1,6 @@
 // Inner: nothing here but `Sort` is offered to callers; the crates of combs and of accumulates show each `requires`.
-// What their passes are made of: a step at one entry, its test, and a pass that has got to some place.
+// What their passes are made of: a step at one entry, its test, a pass that has got to some place, and the entries that
+// chains begin with.
 
 mod entry;
 mod range;

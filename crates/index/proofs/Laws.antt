@@ -8,7 +8,7 @@ use native.Mathlib.Nat as NatL
 use native.Mathlib.Decide.{ℕ-discrete}
 use borrow.Author.Tests.{lt-ltb, le-ltb}
 use lib.Dec.{eqb, ltb}
-use Rattle.definitions.specs.Numbers.{countTo, phi, rOf, mOf, tOf}
+use Rattle.definitions.specs.Numbers.{countTo, phi, rOf, kOf, mOf, tOf}
 use Rattle.definitions.specs.Polynomials.{degree}
 use Rattle.definitions.specs.Requests.{goodIndex}
 use Rattle.numbers.specs.Tests.{not-both, test-and, test-lt, test-le}
@@ -73,9 +73,12 @@ module _ (n : ℕ) (x : Parts) (e : x ≡ partsOf n) where
   unfolding degree
   parts-degree kind d q = q ∙ ap (λ f. cond (eqb kind 1) f (n - f)) parts-phi
 
-  pub parts-few : goodIndex n ≡ true → x .count ≤ 5
+  pub parts-k : x .count ≡ kOf n
   unfolding partsOf
-  parts-few g = rw (ap (λ (y : Parts). y .count) e) (k-at-most-5 n (index-good n g .1))
+  parts-k = ap (λ (y : Parts). y .count) e
+
+  pub parts-few : goodIndex n ≡ true → x .count ≤ 5
+  parts-few g = rw parts-k (k-at-most-5 n (index-good n g .1))
 
 pub r-small : (n : ℕ) → goodIndex n ≡ true → rOf n ≤ 65535
 r-small n g = let (a, b) = index-good n g in NatL.le-trans (NatL.le-of-dvd a (r-divides n)) b

@@ -17,7 +17,7 @@ use Rattle.step_laws.specs.Firsts.{length-firsts}
 use Rattle.cyclotomic.specs.Heights.{at-most-height}
 use Rattle.index.specs.Parts.{partsOf}
 use Rattle.index.specs.declared.Parts.{Parts}
-use Rattle.index.proofs.Laws.{index-good, parts-r, parts-phi, phi-within, r-small}
+use Rattle.index.proofs.Laws.{index-good, parts-k, parts-r, parts-phi, phi-within, r-small}
 use Rattle.light_sums.specs.Weight.{weight-most}
 use Rattle.never_over.specs.Promised.{promisedOf, promisedAt}
 use Rattle.next_factor.specs.Times.{factor, Weighs}
@@ -36,19 +36,12 @@ cubed r =
     ∙ ap (λ x. x * r) (NatL.pow-suc r 0 ∙ ap (λ x. x * r) (NatL.pow-zero r) ∙ NatL.one-mul r)))
 
 module _ (n : ℕ) (good : goodIndex n ≡ true) (parts : Parts) (apart : parts ≡ partsOf n) where
-  k-is : parts .count ≡ kOf n
-  unfolding partsOf
-  k-is = ap (λ (y : Parts). y .count) apart
-
-  r-is : parts .r ≡ rOf n
-  r-is = parts-r n parts apart
-
   pub r-most : parts .r ≤ 65535
-  r-most = rw r-is (r-small n good)
+  r-most = rw (parts-r n parts apart) (r-small n good)
 
   by-promise : (b : ℕ) → promisedAt true (parts .count) (parts .r) ≡ b → 0 < b → height 1 n ≤ b
   by-promise b e some =
-      let same : promisedAt true (kOf n) (rOf n) ≡ b = rw (sym k-is, sym r-is) e in
+      let same : promisedAt true (kOf n) (rOf n) ≡ b = rw (parts-k n parts apart, parts-r n parts apart) at e in
       rw same at (height-promised n good (rw same some))
 
   pub none-or-one : parts .count < 2 → height 1 n ≤ 1
@@ -68,9 +61,6 @@ module _ (n : ℕ) (good : goodIndex n ≡ true) (parts : Parts) (apart : parts 
   four e = by-promise (1920 * (parts .r * parts .r * parts .r)) (rw e (cubed (parts .r)))
 
   -- ---- the weight
-  phi-is : parts .phi ≡ phi n
-  phi-is = parts-phi n parts apart
-
   pub terms-most : parts .phi ≤ 65535
   terms-most = omega (arith, phi-within n parts apart, index-good n good .1)
 
@@ -80,7 +70,7 @@ module _ (n : ℕ) (good : goodIndex n ≡ true) (parts : Parts) (apart : parts 
       let most = weight-most (factor n) b
       (firsts-bounded b (suc (phi n)) (F n) (λ i _. NatL.le-trans (at-most-height 1 n (index-good n good .0) i) l)) in
       let many : length (factor n) ≡ parts .phi + 1
-      = length-firsts (suc (phi n)) (F n) ∙ ap suc (sym phi-is) ∙ sym (add-one (parts .phi)) in
+      = length-firsts (suc (phi n)) (F n) ∙ ap suc (sym (parts-phi n parts apart)) ∙ sym (add-one (parts .phi)) in
       omega (arith, rw many at most)
 
 -- ---- the products fit

@@ -40,6 +40,9 @@ uncut h w small =
     none zero s = omega (arith, NatL.zero-mul w)
     none (suc h) s = omega (arith, NatL.suc-mul h 9223372036854775808)
 
+pub weighs-little : (n h w : ℕ) → Weighs n w → h * w ≤ largest → h * weight (factor n) ≤ largest
+weighs-little n h w weighs small = uncut h (weight (factor n)) (NatL.le-trans (NatL.mul-le-mul-left h weighs) small)
+
 pub weighed-made : (n : ℕ) {f : List ℤ} → f ≡ factor n → {w : ℕ} → w ≡ min (weight f) 9223372036854775808 → Weighs n w
 weighed-made n made is = NatL.le-of-eq (ap (λ x. min (weight x) 9223372036854775808) (sym made) ∙ sym is)
 
@@ -59,15 +62,11 @@ module _ {n : ℕ} {parts : Parts} {l : List ℤ} {have height : ℕ} (K : Asked
   entries-fit i = range-fits (entries l i) (in-range largest (entries l i) (NatL.le-trans (K .bounded i) (K .inside)))
 
   -- no coefficient can leave the range
-  module _ (w : ℕ) (weighs : Weighs n w) (small : height * w ≤ largest) where
+  module _ (small : height * weight (factor n) ≤ largest) where
     inside : (i : ℕ) → natAbs ((F n · entries l) i) ≤ largest
     inside i =
         NatL.le-trans (rw factor-is at (product-bound (factor n) (entries l) height (K .bounded) i))
-        (omega (
-          arith,
-          uncut height (weight (factor n)) (NatL.le-trans (NatL.mul-le-mul-left height weighs) small),
-          NatL.mul-comm (weight (factor n)) height,
-        ))
+        (omega (arith, small, NatL.mul-comm (weight (factor n)) height))
 
     pub by-steps : (m : List ℤ) → Modulo.Multiplied (F n) l m → Multiplied n l m true
     by-steps m M =
@@ -88,7 +87,7 @@ module _ {n : ℕ} {parts : Parts} {l : List ℤ} {have height : ℕ} (K : Asked
     pub multiply-asks : (1 ≤ have) × (1 ≤ length f) × (length f ≤ 65536) × (length l + 1 ≤ have + length f)
         × ZeroFrom have (entries l)
     multiply-asks =
-        let n = f-length in (K .some, omega arith, omega (arith, phi-small), omega (arith, K .room), K .ends)
+        let size = f-length in (K .some, omega arith, omega (arith, phi-small), omega (arith, K .room), K .ends)
 
     pub multiplied-out : (m : List ℤ) (r : Bool) → r ≡ not (someOutside largest 0 (length l) (entries f · entries l))
         → (r ≡ true → m ≡ firsts (length l) (entries f · entries l)) × (length m ≡ length l) → Multiplied n l m r

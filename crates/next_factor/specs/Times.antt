@@ -1,8 +1,9 @@
 -- A product's entries, and what its product with F(n) comes to.
-use Prim.Native.Nat.{ℕ, suc, _+_, _-_, _≤_, min}
+use Prim.Native.Nat.{ℕ, suc, _+_, _*_, _-_, _≤_, min}
 use mathlib.Core.Path.{_≡_}
 use mathlib.Core.Bool.{Bool, true, cond, not}
 use mathlib.Core.List.{List}
+use mathlib.Core.Logic.{_≢_}
 use lib.ListN.{length}
 use lib.IntN.{ℤ}
 use Rattle.definitions.specs.Series.{Series, -ˢ, _·_, firsts}
@@ -35,6 +36,12 @@ factor n = firsts (suc (phi n)) (F n)
 -- what is known of the sum of F(n)'s magnitudes: it is no larger than w, or nothing, where w is 2^63 or more
 abbrev pub Weighs : ℕ → ℕ → Type 0
 Weighs n w = min (weight (factor n)) 9223372036854775808 ≤ w
+
+-- steps modulo 2^64 make the true product: F(1) has a sign that no step has, and else a coefficient, at most the height
+-- times that sum, stays in range
+pub record Serve (n height : ℕ) : Type 0 where
+  pub other : n ≢ 1
+  pub light : height * weight (factor n) ≤ largest
 
 -- a series, or its negative
 unfoldable pub signed : Bool → Series → Series

@@ -5,19 +5,18 @@ use crate::product_fits;
 use crate::weighing::known_weight;
 use index::Parts;
 ghost use mathlib.Core.Path.{_≡_};
-ghost use mathlib.Core.Bool.{true};
-ghost use mathlib.Core.Logic.{_≢_};
-ghost use Prim.Native.Nat.{suc, _*_, _<_, _≤_};
+ghost use mathlib.Core.Bool.{true, false};
+ghost use Prim.Native.Nat.{suc, _<_};
 ghost use lib.ListN.{length, take};
 ghost use Rattle.definitions.specs.Numbers.{phi};
-ghost use Rattle.definitions.specs.Steps.{largest};
 ghost use Rattle.definitions.specs.Requests.{goodIndex};
-ghost use Rattle.next_factor.specs.Times.{Asked, Turns, Multiplied, factor};
+ghost use Rattle.index.specs.Parts.{partsOf};
+ghost use Rattle.next_factor.specs.Times.{Asked, Turns, Multiplied, factor, Weighs, Serve};
 
-// Steps serve where a coefficient, at most the height of the product so far times the sum of the factor's magnitudes,
-// stays in range. F(1) has a sign that no step has.
+// Whether steps serve, by a bound of the sum of F(n)'s magnitudes.
 fn by_steps(n: u64, height: u64, weight: u64) -> bool
-    ensures { λ r. ⌜ (r ≡ true → (n ≢ 1) × (height * weight ≤ largest)) ⌝ }
+    requires { ⌜ Weighs n weight ⌝ }
+    ensures { λ r. ⌜ (r ≡ true → Serve n height) ⌝ }
 {
     if n == 1 {
         return false;
@@ -34,19 +33,20 @@ fn make_factor(scratch: &mut [i64], n: u64) -> usize
     made.degree as usize + 1
 }
 
-// The product as far as b goes, F(n) being made in f; or whether a coefficient of that is out of range.
-fn times_made(b: &mut [i64], f: &[i64], n: u64, parts: Parts, have: usize, height: u64) -> bool
-    requires { ⌜ Asked n parts (now b) have height × (now f ≡ factor n) ⌝ }
-    ensures { λ r. ⌜ Multiplied n (now (b .entry)) (now (b .exit)) r ⌝ }
+// Whether steps serve; F(n) is made only where that is not known beforehand.
+fn steps_serve(scratch: &mut [i64], n: u64, parts: Parts, height: u64) -> bool
+    requires { ⌜ (goodIndex n ≡ true) × (parts ≡ partsOf n) × (phi n < length (now scratch)) ⌝ }
+    ensures { λ r.
+        ⌜ (r ≡ true → Serve n height) × (r ≡ false → take (suc (phi n)) (now (scratch .exit)) ≡ factor n) ⌝ }
 {
-    if by_steps(n, height, exact_products::weight_of(f)) {
-        factor_steps::times_factor(b, n, parts);
+    if by_steps(n, height, known_weight(n, parts)) {
         return true;
     }
-    exact_products::multiply(b, f, have)
+    let size = make_factor(scratch, n);
+    by_steps(n, height, exact_products::weight_of(&scratch[..size]))
 }
 
-// The same where F(n) is still to be made, which is only needed where it may be too heavy.
+// The product as far as b goes; or whether a coefficient of that is out of range.
 fn times_lower(
     b: &mut [i64],
     scratch: &mut [i64],
@@ -58,12 +58,12 @@ fn times_lower(
     requires { ⌜ Asked n parts (now b) have height × (phi n < length (now scratch)) ⌝ }
     ensures { λ r. ⌜ Multiplied n (now (b .entry)) (now (b .exit)) r ⌝ }
 {
-    if by_steps(n, height, known_weight(n, parts)) {
+    if steps_serve(scratch, n, parts, height) {
         factor_steps::times_factor(b, n, parts);
         return true;
     }
-    let size = make_factor(scratch, n);
-    times_made(b, &scratch[..size], n, parts, have, height)
+    let size = parts.phi as usize + 1;
+    exact_products::multiply(b, &scratch[..size], have)
 }
 
 // The product, or whether a coefficient is out of range: its upper half mirrors the lower.

@@ -9,7 +9,8 @@ ghost use Rattle.definitions.specs.Answer.{height};
 ghost use Rattle.index.specs.Parts.{partsOf};
 ghost use Rattle.next_factor.specs.Times.{Weighs};
 
-// F(n) is no taller; or 0, where nothing is known, or too little: with four odd primes and a large r, and with five.
+// F(n) is no taller: 1, 2 p, 8 r and 128 p r^3 by the number of odd primes, with p at most 255 and 15; or 0, where
+// nothing is known, or too little to be of use: with four odd primes and a large r, and with five.
 fn known_height(n: u64, parts: Parts) -> u64
     requires { ⌜ (goodIndex n ≡ true) × (parts ≡ partsOf n) ⌝ }
     ensures { λ b. ⌜ (0 < b → height 1 n ≤ b) × (b < 140737488355328) ⌝ }

@@ -1,76 +1,95 @@
--- `times_lower` meets its contract: by steps where F(n) is known to be light enough (Multiplying), else as `times_made`
--- does.
+-- `times_lower` meets its contract, either way (Multiplying).
 use borrow.Author.Needs.{needs}
-use mathlib.Core.Path.{sym, _∙_, ap}
+use Prim.Native.Nat.{_+_, _≤_}
+use mathlib.Core.Path.{_≡_, sym, _∙_, ap}
 use native.Mathlib.Omega.{arith}
-use lib.ListN.{take}
+use native.Mathlib.Numerals.{add-one}
+use lib.ListN.{length, take}
 use lib.Seq.{length-take-le}
-use Rattle.next_factor.proofs.Multiplying.{by-steps}
+use Rattle.definitions.specs.Numbers.{phi}
+use Rattle.index.proofs.Laws.{parts-phi}
+use Rattle.next_factor.specs.Times.{factor}
+use Rattle.next_factor.proofs.Multiplying.{multiply-asks, by-steps, multiplied-out}
 use Rattle.next_factor.proofs.times.times_lower.Statement.{statement}
 use Rattle.next_factor.proofs.times.times_lower.Tie as tie
 
-known-weight-requires : tie.Need-known-weight-requires
-known-weight-requires c κs = search needs
+-- where steps do not serve, F(n) is made
+module _ (e : tie.Else1) where
+  abbrev start : tie.Start
+  start = e .before .before .before .before
 
-by-steps-requires : tie.Need-by-steps-requires
-by-steps-requires c κs = search needs
+  terms : start .args .parts .phi ≡ phi (start .args .n)
+  terms = parts-phi (start .args .n) (start .args .parts) (start .pre .0 .apart)
+
+  room : start .args .parts .phi + 1 ≤ length (e .before .before .steps-serve .last .0)
+  room = omega (arith, terms, e .before .before .steps-serve .kept .0, start .pre .1)
+
+  made : take (start .args .parts .phi + 1) (e .before .before .steps-serve .last .0) ≡ factor (start .args .n)
+  made =
+      ap (λ k. take k (e .before .before .steps-serve .last .0))
+      (ap (λ x. x + 1) terms ∙ add-one (phi (start .args .n)))
+      ∙ e .before .before .steps-serve .ensures .1 (e .if1 .left)
+
+steps-serve-requires : tie.Need-steps-serve-requires
+steps-serve-requires c κs = search needs
 
 times-factor-requires : tie.Need-times-factor-requires
 times-factor-requires c κs =
-    let K = c .before .before .before .before .pre .0 in
-    (K .apart, K .good, c .before .before .by-steps .ensures (c .before .if1 .taken) .0)
+    let K = c .before .before .before .before .before .pre .0 in
+    (K .apart, K .good, c .before .before .before .steps-serve .ensures .0 (c .before .if1 .taken) .other)
 
 same-length : tie.Need-same-length
 same-length c = search needs
 
-returns : tie.Need-returns
-returns c =
-    let s = c .before .before .before .before in
-    let p = s .before .before in
-    by-steps (p .pre .0) (s .before .known-weight .result) (s .before .known-weight .ensures)
-    (s .by-steps .ensures (c .before .before .before .if1 .taken) .1) _ (c .before .times-factor .ensures)
-
-make-factor-requires : tie.Need-make-factor-requires
-make-factor-requires c κs = search needs
-
-slice-reshare-prefix-times-made : tie.Need-slice-reshare-prefix-times-made
-slice-reshare-prefix-times-made c = search needs
-
-slice-aggregate-times-made : tie.Need-slice-aggregate-times-made
-slice-aggregate-times-made c =
-    let made = c .before .before .before .make-factor in
-    let p = c .before .before .before .before .before .before .before .before in
-    sym (length-take-le _ _ (omega (arith, made .ensures .0, made .kept .0, p .pre .1)))
-
-times-made-requires : tie.Need-times-made-requires
-times-made-requires c κs =
-    let made = c .before .before .before .make-factor in (
-      c .before .before .before .before .before .before .before .before .pre .0,
-      ap (λ k. take k (made .last .0)) (made .ensures .0) ∙ made .ensures .1,
-    )
-
 same-length-2 : tie.Need-same-length-2
 same-length-2 c = search needs
+
+returns : tie.Need-returns
+returns c =
+    let s = c .before .before .before .before .before in
+    by-steps (s .before .before .pre .0) (s .steps-serve .ensures .0 (c .before .before .before .if1 .taken) .light) _
+    (c .before .times-factor .ensures)
+
+add-size : tie.Need-add-size
+add-size c =
+    record { fits = omega (arith, room c) }
+
+slice-reshare-prefix-multiply : tie.Need-slice-reshare-prefix-multiply
+slice-reshare-prefix-multiply c =
+    room (c .before)
+
+slice-aggregate-multiply : tie.Need-slice-aggregate-multiply
+slice-aggregate-multiply c =
+    sym (length-take-le _ _ (room (c .before .before)))
+
+multiply-requires : tie.Need-multiply-requires
+multiply-requires c κs =
+    multiply-asks (start (c .before .before) .pre .0) (made (c .before .before))
 
 same-length-3 : tie.Need-same-length-3
 same-length-3 c = search needs
 
+same-length-4 : tie.Need-same-length-4
+same-length-4 c = search needs
+
 returns-2 : tie.Need-returns-2
-returns-2 c = search needs
+returns-2 c =
+    let e = c .before .before .before .before in
+    multiplied-out (start e .pre .0) (made e) _ _ (c .before .multiply .ensures .0) (c .before .multiply .ensures .1)
 
 pub times-lower-spec : {M : Type 1} → statement M
 times-lower-spec =
     tie.close
     (tie.spec
-    known-weight-requires
-    by-steps-requires
+    steps-serve-requires
     times-factor-requires
     same-length
-    returns
-    make-factor-requires
-    slice-reshare-prefix-times-made
-    slice-aggregate-times-made
-    times-made-requires
     same-length-2
+    returns
+    add-size
+    slice-reshare-prefix-multiply
+    slice-aggregate-multiply
+    multiply-requires
     same-length-3
+    same-length-4
     returns-2)
