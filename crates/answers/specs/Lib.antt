@@ -3,3 +3,4 @@
 pub mod Polynomial
 pub mod Partial
 pub mod Cascade
+pub mod Second

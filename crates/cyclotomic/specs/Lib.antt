@@ -11,4 +11,6 @@ pub mod Heights
 pub mod Gain
 pub mod Terms
 pub mod Kept
+pub mod Inside
 pub mod Worked
+pub mod Second

@@ -1,13 +1,15 @@
 -- F(n) and I(n) read backwards, for n above 1: F(n) is its own mirror (`mirror-F`), and I(n) the negative of its own
--- (`mirror-I`). F(1) = z - 1 changes its sign; from one prime to the next that sign cancels.
+-- (`mirror-I`). F(1) = z - 1 changes its sign; from one prime to the next that sign cancels. Coefficient by coefficient
+-- that is `mirrored` and, with n = 1 in it, `mirrored-any`.
 use Prim.Native.Nat.{ℕ, _*_, _-_, _≤_, _<_, _∣_}
 use mathlib.Core.Path.{_≡_, refl, sym, _∙_, ap, ap₂}
-use mathlib.Core.Bool.{Bool, true, false, cond}
+use mathlib.Core.Bool.{Bool, true, false, cond, not}
 use mathlib.Core.Logic.{_≢_}
 use mathlib.Core.List.{[], _∷_}
 use native.Mathlib.Omega.{arith}
 use native.Mathlib.Nat as NatL
 use native.Mathlib.Decide.{decDvd, ℕ-discrete}
+use borrow.Author.Tests.{eq-eqb, ne-eqb}
 use lib.IntN.{ℤ}
 use lib.Dec.{eqb}
 use Rattle.definitions.specs.Integers.{⊖, 0ℤ}
@@ -102,3 +104,33 @@ mirrored kind n l i = go (eqb kind 1)
         ≡ cond b (cond b (F n) (I n) i) (⊖ (cond b (F n) (I n) i))
     go true h = sym (mirror-in (phi n) (F n) i h) ∙ ap (λ q. q i) (mirror-F n l)
     go false h = sym (mirror-in (n - phi n) (I n) i h) ∙ ap (λ q. q i) (mirror-I n l) ∙ at--ˢ (I n) i
+
+-- of 1 too: which polynomials change their sign when they are mirrored, F(1) = z - 1 and I(n) above 1
+unfoldable pub negates : ℕ → ℕ → Bool
+negates kind n = cond (eqb kind 1) (eqb n 1) (not (eqb n 1))
+
+first-mirrored : (i : ℕ) → i ≤ 1 → z^-1 1 (1 - i) ≡ ⊖ (z^-1 1 i)
+first-mirrored i h =
+    sym (mirror-in 1 (z^-1 1) i h) ∙ ap (λ q. q i) (mirror-z^-1 1 (omega arith)) ∙ at--ˢ (z^-1 1) i
+
+pub mirrored-any : (kind n : ℕ) → 0 < n → (i : ℕ) → i ≤ degree kind n → polynomial kind n (degree kind n - i)
+    ≡ cond (negates kind n) (⊖ (polynomial kind n i)) (polynomial kind n i)
+unfolding negates turned degree polynomial
+mirrored-any kind n pos i = go (ℕ-discrete n 1)
+  where
+    above : (b : Bool) (v : ℤ) → cond b v (⊖ v) ≡ cond (cond b false true) (⊖ v) v
+    above true v = refl
+    above false v = refl
+
+    one : (b : Bool) → i ≤ cond b (phi 1) (1 - phi 1) → cond b (F 1) (I 1) (cond b (phi 1) (1 - phi 1) - i)
+        ≡ cond (cond b true false) (⊖ (cond b (F 1) (I 1) i)) (cond b (F 1) (I 1) i)
+    one true h = rw (F-one, phi-one) (first-mirrored i (rw phi-one at h))
+    one false h = ap (I 1) (omega (arith, phi-one))
+
+    go : Dec (n ≡ 1) → i ≤ cond (eqb kind 1) (phi n) (n - phi n)
+        → cond (eqb kind 1) (F n) (I n) (cond (eqb kind 1) (phi n) (n - phi n) - i)
+        ≡ cond (cond (eqb kind 1) (eqb n 1) (not (eqb n 1))) (⊖ (cond (eqb kind 1) (F n) (I n) i))
+        (cond (eqb kind 1) (F n) (I n) i)
+    go (yes e) h = rw (e, eq-eqb 1 1 refl) (one (eqb kind 1) (rw e at h))
+    go (no u) h =
+        mirrored kind n (omega arith) i h ∙ rw (ne-eqb n 1 u) (above (eqb kind 1) (cond (eqb kind 1) (F n) (I n) i))

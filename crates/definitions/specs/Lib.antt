@@ -9,3 +9,4 @@ pub mod KeptHalf
 pub mod Answer
 pub mod Requests
 pub mod Cascades
+pub mod Second

@@ -5,6 +5,7 @@ use Prim.Native.Nat.{ℕ, zero, suc, _+_, _*_, _-_, _/_, _%_}
 use mathlib.Core.Bool.{Bool, false, cond, not, _&&_, _||_}
 use mathlib.Core.List.{List, [], _∷_, _++_}
 use lib.Dec.{eqb, ltb}
+use lib.ListN.{getD}
 
 -- does one of 1, .., k have the property; how many do; which, in ascending order
 unfoldable pub someTo : ℕ → (ℕ → Bool) → Bool
@@ -23,6 +24,11 @@ listTo (suc k) p = listTo k p ++ cond (p (suc k)) (suc k ∷ []) []
 unfoldable pub productOfTo : ℕ → (ℕ → Bool) → ℕ
 productOfTo zero p = 1
 productOfTo (suc k) p = productOfTo k p * cond (p (suc k)) (suc k) 1
+
+-- the product of the first i of a row
+unfoldable pub rowTo : List ℕ → ℕ → ℕ
+rowTo l zero = 1
+rowTo l (suc i) = rowTo l i * getD l i 0
 
 -- d divides n
 unfoldable pub divides : ℕ → ℕ → Bool

@@ -1,5 +1,4 @@
 -- Laws that the functions' proofs share, and `kept_half`'s.
 pub mod MaskLaws
-pub mod Rows
 pub mod Searching
 pub mod Walking

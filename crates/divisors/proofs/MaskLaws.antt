@@ -19,7 +19,8 @@ use lib.Count.{ones, ones-cat}
 use Rattle.definitions.specs.Numbers.{primesOf, muIsPlus}
 use Rattle.numbers.specs.Primes.{Prime, prime-pos, divides-without}
 use Rattle.numbers.specs.HowMany.{primes-times, primes-one}
-use Rattle.divisors.specs.Masks.{bit, maskTo, rowTo}
+use Rattle.definitions.specs.Numbers.{rowTo}
+use Rattle.divisors.specs.Masks.{bit, maskTo}
 
 -- the complement formed by a mask: what full has and m has not
 pub mask-xor : (k m : ℕ) → m < 2 ^ k → bitXor (2 ^ k - 1) m ≡ 2 ^ k - 1 - m

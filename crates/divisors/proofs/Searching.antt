@@ -15,7 +15,8 @@ use lib.ListN.{getD}
 use lib.Pow.{pow-pos}
 use Rattle.numbers.specs.Tests.{Tests, test-and, test-lt, refutes}
 use Rattle.numbers.specs.Primes.{prime-pos}
-use Rattle.divisors.specs.Masks.{maskTo, rowTo, bit}
+use Rattle.definitions.specs.Numbers.{rowTo}
+use Rattle.divisors.specs.Masks.{maskTo, bit}
 use Rattle.divisors.proofs.MaskLaws.{mask-suc, mask-off, mask-complement}
 use Rattle.divisors.specs.Least.{Row, LeastTo, orNamed}
 use Rattle.divisors.specs.declared.NamedDivisor.{NamedDivisor}

@@ -21,9 +21,10 @@ use Rattle.numbers.specs.HowMany.{k-of-r, r-same-primes, r-none-above}
 use Rattle.numbers.specs.AtMostFive.{k-at-most-5}
 use Rattle.numbers.specs.Below.{divisors-below}
 use Rattle.index.specs.Parts.{padded, partsOf}
-use Rattle.divisors.specs.Masks.{maskTo, rowTo}
+use Rattle.definitions.specs.Numbers.{rowTo}
+use Rattle.divisors.specs.Masks.{maskTo}
 use Rattle.divisors.proofs.MaskLaws.{mask-divides, divisor-mask, mask-mu, mask-xor}
-use Rattle.divisors.proofs.Rows.{entry-new, row-r}
+use Rattle.index.proofs.Rows.{entry-new, row-r}
 use Rattle.divisors.specs.Least.{Row, LeastTo}
 use Rattle.divisors.specs.Walks.{divisorAt, lastOf, walkAt, nextAt, taken, Stands, overParts}
 use Rattle.divisors.specs.declared.NamedDivisor.{NamedDivisor}

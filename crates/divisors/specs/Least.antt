@@ -7,7 +7,8 @@ use mathlib.Core.List.{List}
 use lib.Dec.{ltb}
 use lib.ListN.{getD}
 use Rattle.numbers.specs.Primes.{Prime}
-use Rattle.divisors.specs.Masks.{maskTo, rowTo}
+use Rattle.definitions.specs.Numbers.{rowTo}
+use Rattle.divisors.specs.Masks.{maskTo}
 use Rattle.divisors.specs.declared.NamedDivisor.{NamedDivisor}
 
 -- at most five different primes with a small product

@@ -5,14 +5,10 @@ use mathlib.Core.List.{List}
 use lib.Dec.{eqb}
 use lib.ListN.{getD}
 
--- the i-th bit; the product of the entries whose bits are ones, of the first i; and of all the first i
+-- the i-th bit; the product of the entries whose bits are ones, of the first i
 abbrev pub bit : ℕ → ℕ → ℕ
 bit m i = m / 2 ^ i % 2
 
 unfoldable pub maskTo : List ℕ → ℕ → ℕ → ℕ
 maskTo l m zero = 1
 maskTo l m (suc i) = maskTo l m i * cond (eqb (bit m i) 1) (getD l i 0) 1
-
-unfoldable pub rowTo : List ℕ → ℕ → ℕ
-rowTo l zero = 1
-rowTo l (suc i) = rowTo l i * getD l i 0

@@ -5,7 +5,8 @@ ghost use Prim.Native.Nat.{_+_, _*_, _-_, _^_, _<_, _≤_};
 ghost use mathlib.Core.Path.{_≡_};
 ghost use mathlib.Core.Bool.{cond};
 ghost use lib.Dec.{eqb};
-ghost use Rattle.divisors.specs.Masks.{bit, maskTo, rowTo};
+ghost use Rattle.definitions.specs.Numbers.{rowTo};
+ghost use Rattle.divisors.specs.Masks.{bit, maskTo};
 ghost use Rattle.divisors.specs.Least.{Row, LeastTo, orNamed};
 ghost use Rattle.divisors.specs.Walks.{overParts, Stands, nextOf};
 

@@ -16,7 +16,7 @@ use Rattle.numbers.specs.AtMostFive.{k-at-most-5}
 use Rattle.index.proofs.Laws.{index-good}
 use Rattle.index.specs.Parts.{padded, partsOf}
 use Rattle.index.specs.declared.Parts.{Parts}
-use Rattle.divisors.proofs.Rows.{entry-new, row-r}
+use Rattle.index.proofs.Rows.{entry-new, row-r}
 use Rattle.factor_steps.specs.Factors.{termsOf, odd-factor, even-factor}
 use Rattle.factor_steps.specs.Multiplied.{Due}
 

@@ -20,34 +20,20 @@ use Rattle.integers.specs.Whole.{⊗-one, ringℤ}
 use Rattle.series.specs.Laws.{Unitˢ, cancel, unit-mul, one-·, ringˢ, constants-neg}
 use Rattle.series.specs.Maps.{spread-mul, spread-zero, spread-spread}
 use Rattle.numbers.specs.Primes.{Prime, prime-pos, prime-two}
+use Rattle.numbers.specs.PrimeRows.{New, fewer, last-pos, row-pos}
 use Rattle.numbers.specs.Apart.{r-odd, m-even, m-odd, m-above, t-pos}
 use Rattle.cyclotomic.specs.Family.{F-one, unit-F}
 use Rattle.cyclotomic.specs.OnePrime.{prime-new, spread-z^-1}
 use Rattle.cyclotomic.specs.Apart.{taken-apart}
 use Rattle.cyclotomic.specs.Terms.{other, inverse-terms}
-use Rattle.divisors.specs.Masks.{rowTo}
+use Rattle.definitions.specs.Numbers.{rowTo}
 
 -- the product of the terms of the first k primes of a row, each with z^s for z
 unfoldable pub termsOf : List ℕ → ℕ → ℕ → Sort → Series
 termsOf l zero s σ = termOf σ s
 termsOf l (suc k) s σ = termsOf l k s (other σ) · termsOf l k (s * getD l k 0) σ
 
--- the first k are primes, and none divides the product of those before it
-abbrev pub New : List ℕ → ℕ → Type 0
-New l k = (i : ℕ) → i < k → Prime (getD l i 0) × (¬ (getD l i 0 ∣ rowTo l i))
-
 module _ (l : List ℕ) where
-  fewer : {k : ℕ} → New l (suc k) → New l k
-  fewer h i b = h i (omega arith)
-
-  last-pos : {k : ℕ} → New l (suc k) → 0 < getD l k 0
-  last-pos {k} h = prime-pos (h k (omega arith) .0)
-
-  pub row-pos : (k : ℕ) → New l k → 0 < rowTo l k
-  unfolding rowTo
-  row-pos zero h = omega arith
-  row-pos (suc k) h = NatL.mul-pos (row-pos k (fewer h)) (last-pos h)
-
   -- the two sorts are inverse to one another
   pub inverse-all : (k : ℕ) → New l k → (s : ℕ) → 0 < s → (σ : Sort) → termsOf l k s (other σ) · termsOf l k s σ ≡ 𝟙
   unfolding termsOf
@@ -57,7 +43,7 @@ module _ (l : List ℕ) where
       ringˢ
       (termsOf l k s (other (other σ)) ∷ termsOf l k q (other σ) ∷ termsOf l k s (other σ) ∷ termsOf l k q σ ∷ [])
       (x :* y :* (z :* w)) (x :* z :* (y :* w)) refl
-      ∙ ap₂ _·_ (inverse-all k (fewer h) s b (other σ)) (inverse-all k (fewer h) q (NatL.mul-pos b (last-pos h)) σ)
+      ∙ ap₂ _·_ (inverse-all k (fewer l h) s b (other σ)) (inverse-all k (fewer l h) q (NatL.mul-pos b (last-pos l h)) σ)
       ∙ one-· 𝟙
 
 -- the sign: of no prime at all the terms are 1 - z = -F(1)

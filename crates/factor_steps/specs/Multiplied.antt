@@ -12,9 +12,10 @@ use Rattle.definitions.specs.Steps.{Sort, entries}
 use Rattle.definitions.specs.KeptHalf.{termOf}
 use Rattle.series.specs.Laws.{·-assoc}
 use Rattle.cyclotomic.specs.Kept.{step-term}
-use Rattle.wrapped_combs.specs.Wrapped.{wrap, wrappedList, Like, AllFit}
+use Rattle.wrapped_sums.specs.Wrapped.{wrap, Like, AllFit}
+use Rattle.wrapped_combs.specs.Wrapped.{wrappedList}
 use Rattle.wrapped_combs.specs.Laws.{length-wrapped, wrapped-fit, wrapped-like}
-use Rattle.divisors.specs.Masks.{rowTo}
+use Rattle.definitions.specs.Numbers.{rowTo}
 
 -- m is l times g: as many entries, each a 64-bit number where those of l are, and where l is f modulo 2^64, m is g f
 pub record Multiplied (g : Series) (l m : List ℤ) : Type 0 where

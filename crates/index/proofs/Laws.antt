@@ -1,7 +1,7 @@
 -- What a caller knows of n taken apart: its fields, by the names of docs/RULES.md, and the degree of a kind as it is
 -- computed.
-use Prim.Native.Nat.{ℕ, _-_, _<_, _≤_}
-use mathlib.Core.Path.{_≡_, refl, sym, _∙_, ap}
+use Prim.Native.Nat.{ℕ, _-_, _/_, _<_, _≤_}
+use mathlib.Core.Path.{_≡_, refl, sym, _∙_, ap, ap₂}
 use mathlib.Core.Bool.{Bool, true, false, cond}
 use native.Mathlib.Omega.{arith}
 use native.Mathlib.Nat as NatL
@@ -10,6 +10,7 @@ use borrow.Author.Tests.{lt-ltb, le-ltb}
 use lib.Dec.{eqb, ltb}
 use Rattle.definitions.specs.Numbers.{countTo, phi, rOf, kOf, mOf, tOf}
 use Rattle.definitions.specs.Polynomials.{degree}
+use Rattle.definitions.specs.KeptHalf.{halfDegree}
 use Rattle.definitions.specs.Requests.{goodIndex}
 use Rattle.numbers.specs.Tests.{not-both, test-and, test-lt, test-le}
 use Rattle.numbers.specs.Apart.{r-divides}
@@ -72,6 +73,10 @@ module _ (n : ℕ) (x : Parts) (e : x ≡ partsOf n) where
   pub parts-degree : (kind d : ℕ) → d ≡ cond (eqb kind 1) (x .phi) (n - x .phi) → d ≡ degree kind n
   unfolding degree
   parts-degree kind d q = q ∙ ap (λ f. cond (eqb kind 1) f (n - f)) parts-phi
+
+  pub parts-half : (kind d : ℕ) → d ≡ cond (eqb kind 1) (x .free) (x .r - x .free) / 2 → d ≡ halfDegree kind (rOf n)
+  unfolding halfDegree degree
+  parts-half kind d q = q ∙ ap₂ (λ f r. cond (eqb kind 1) f (r - f) / 2) parts-free parts-r
 
   pub parts-k : x .count ≡ kOf n
   unfolding partsOf

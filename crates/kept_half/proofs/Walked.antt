@@ -1,6 +1,6 @@
 -- What n taken apart gives the walk over r's divisors, and the half degree.
 use Prim.Native.Nat.{ℕ, _+_, _-_, _/_, _≤_}
-use mathlib.Core.Path.{_≡_, sym, _∙_, ap, ap₂, subst}
+use mathlib.Core.Path.{_≡_, sym, _∙_, ap, subst}
 use mathlib.Core.Bool.{cond}
 use mathlib.Core.List.{List}
 use native.Mathlib.Nat as NatL
@@ -16,7 +16,7 @@ use Rattle.divisors.specs.Walks.{walkAt, overParts}
 use Rattle.divisors.proofs.Walking.{over-start}
 use Rattle.divisors.specs.declared.Walk.{Walk}
 use Rattle.index.specs.declared.Parts.{Parts}
-use Rattle.index.proofs.Laws.{index-good, r-small, parts-r, parts-free}
+use Rattle.index.proofs.Laws.{index-good, r-small, parts-r, parts-half}
 use Rattle.kept_half.specs.Halves.{StepsDue, WalkAtStart, KeptHalfIs}
 use Rattle.kept_half.specs.declared.RunOutcome.{RunOutcome}
 
@@ -60,6 +60,4 @@ module _ (kind n : ℕ) (x : Parts) (S : StepsDue kind n x) (w : Walk) (o : w �
 -- D, as it is computed
 pub half-is : (kind n : ℕ) (x : Parts) → StepsDue kind n x
     → (d : ℕ) → d ≡ cond (eqb kind 1) (x .free) (x .r - x .free) / 2 → d ≡ halfDegree kind (rOf n)
-unfolding halfDegree degree
-half-is kind n x S d e =
-    e ∙ ap₂ (λ f r. cond (eqb kind 1) f (r - f) / 2) (parts-free n x (S .parts)) (parts-r n x (S .parts))
+half-is kind n x S = parts-half n x (S .parts) kind

@@ -11,4 +11,6 @@ pub mod Pairs
 pub mod Listed
 pub mod FivePrimes
 pub mod NotOver
+pub mod Heights
+pub mod Second
 pub mod Never

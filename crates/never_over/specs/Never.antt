@@ -1,8 +1,8 @@
 -- OVER is never met: no polynomial request and no partial request gives it, whatever the kind, the index, the height
 -- limit, the number of divisors and the length of the buffer, under a working limit from `promised` on
 -- (`polynomial-not-over`, `partial-not-over`); so none does under the largest (`polynomial-never-over`,
--- `partial-never-over`).
-use Prim.Native.Nat.{ℕ, _≤_}
+-- `partial-never-over`). Nor does a request of the second engine (`second-never-over`).
+use Prim.Native.Nat.{ℕ, _+_, _*_, _≤_}
 use mathlib.Core.Path.{_≡_, refl, sym, _∙_, ap}
 use mathlib.Core.Bool.{Bool, true, false, cond, not, _||_, Bool·not-not}
 use mathlib.Core.Logic.{_≢_}
@@ -21,9 +21,11 @@ use Rattle.definitions.specs.Answer.{height}
 use Rattle.step_laws.specs.Tests.{neither}
 use Rattle.answers.specs.Polynomial as Polynomial
 use Rattle.answers.specs.Partial as Partial
+use Rattle.answers.specs.Second as Second
 use Rattle.index.proofs.Laws.{index-good}
 use Rattle.never_over.specs.Promised.{promised}
 use Rattle.never_over.specs.NotOver.{not-over, promised-fits}
+use Rattle.never_over.specs.Second.{second-never}
 
 -- another code, whose test comes before
 before : (b : Bool) (c : ℕ) {x : ℕ} → c ≢ OVER → (b ≡ false → x ≢ OVER) → cond b c x ≢ OVER
@@ -65,3 +67,16 @@ module _ (kind n : ℕ) where
 
   pub partial-never-over : (j room : ℕ) → Partial.answer kind n j (pos largest) room .code ≢ OVER
   partial-never-over = partial-not-over kind n (pos largest) (promised-fits (eqb kind 1) (kOf n))
+
+  -- nor does the second engine, which takes no steps
+  pub second-never-over : (h : ℤ) (room scratch : ℕ) → Second.answer kind n h room scratch .code ≢ OVER
+  unfolding Second.answer Second.answered Second.code
+  second-never-over h room scratch =
+      before (not (knownKind kind)) 1 (λ e. omega arith)
+      (λ known. before (not (goodIndex n)) 2 (λ e. omega arith)
+      (λ index. before (belowOne h) 3 (λ e. omega arith)
+      (λ limit. before (leb room (degree kind n) || ltb scratch (2 * n + 16)) 4 (λ e. omega arith)
+      (λ room.
+      let good = index-good n (sym (Bool·not-not (goodIndex n)) ∙ ap not index) in
+      rw (second-never kind n (good .0) (good .1))
+      (before (ltZ h (pos (height kind n))) 6 (λ e. omega arith) (λ low e. omega arith))))))

@@ -1,6 +1,5 @@
 -- No request for F(n) is refused, once the index is good and there is room, where both limits are the largest: OVER is
--- never met (crate `never_over`), so the kept half stays in range at every stop (`kept-inside`), and with it the
--- height (`height-fits`); and in a smaller range too, by r and the number of its primes (`height-promised`).
+-- never met, and the height is in range (crate `never_over`, Heights).
 use Prim.Native.Nat.{ℕ, zero, suc, _+_, _-_, _<_, _≤_}
 use mathlib.Core.Path.{_≡_, refl, sym, _∙_, ap}
 use mathlib.Core.Bool.{Bool, true, false, cond}
@@ -43,36 +42,9 @@ use Rattle.answers.specs.declared.Answer.{Answer}
 use Rattle.answers.specs.Polynomial.{code, answered, answer, left, leaves}
 use Rattle.index.proofs.Laws.{index-good}
 use Rattle.never_over.specs.Promised.{promisedAt}
-use Rattle.never_over.specs.NotOver.{not-over, not-over-at, promised-fits}
+use Rattle.never_over.specs.Heights as Heights
 use Rattle.next_factor.specs.Taking.{First}
 use Rattle.next_factor.specs.Times.{factor}
-
--- the start is 1 or -1, and then zeros
-start-bound : (kind i : ℕ) → natAbs (start kind i) ≤ 1
-unfolding start constant -ˢ ⊖
-start-bound kind i = go (eqb kind 1) i
-  where
-    go : (b : Bool) (i : ℕ) → natAbs (cond b 𝟙 (-ˢ 𝟙) i) ≤ 1
-    go true zero = omega arith
-    go true (suc i) = omega arith
-    go false zero = omega arith
-    go false (suc i) = omega arith
-
-divisor-in : (r j : ℕ) → j < divisorsDue r → 0 < nextDivisor r j
-unfolding nextDivisor divisorsDue divisorsBelow
-divisor-in r j h = entry-has (λ d. divides d r) (r - 1) j h .0
-
-kept-inside : (kind r w : ℕ) → 1 ≤ w → (j : ℕ) → j ≤ divisorsDue r → overAmong w kind r j ≡ false
-    → Bounded w (entries (keptHalf kind r j))
-unfolding overAmong overAt divisorsDue
-kept-inside kind r w one zero l e =
-    rw (kept-start kind r)
-    (firsts-bounded w (halfDegree kind r + 1) (start kind) (λ i b. omega (arith, start-bound kind i)))
-kept-inside kind r w one (suc j) l e =
-    let below : j < divisorsDue r = l in
-    let both = neither (overAmong w kind r j) (overAt w kind r j) e in
-    rw (sym (step-kept kind r j l (divisor-in r j below)))
-    (stays-inside w _ _ (keptHalf kind r j) (kept-inside kind r w one j (NatL.le-of-lt l) (both .0)) (both .1))
 
 -- the gain is no negative number, and small
 pub gain-whole : (n : ℕ) → goodIndex n ≡ true → (k : ℕ) × (gain 1 n ≡ pos k) × (k ≤ 65535)
@@ -96,32 +68,13 @@ gain-whole n good = go (ℕ-discrete n 1)
 
 module _ (n : ℕ) (good : goodIndex n ≡ true) where
   pub never : overAmong largest 1 (rOf n) (divisorsDue (rOf n)) ≡ false
-  never =
-      not-over 1 n (index-good n good .0) (index-good n good .1) largest (promised-fits true (kOf n))
-      (divisorsDue (rOf n)) (omega arith)
-
-  -- no coefficient is larger than what no step passes
-  height-within : (w : ℕ) → 1 ≤ w → overAmong w 1 (rOf n) (divisorsDue (rOf n)) ≡ false → height 1 n ≤ w
-  unfolding divisorsDue
-  height-within w one inside = go (ℕ-discrete (rOf n) 1)
-    where
-      go : Dec (rOf n ≡ 1) → height 1 n ≤ w
-      go (yes e) = rw (told-one 1 n (index-good n good .0) e .0) one
-      go (no u) =
-          rw (told-half 1 n (index-good n good .0) u .0)
-          (height-least (halfDegree 1 (rOf n) + 1) (polynomial 1 (rOf n)) w
-          (λ i b. rw (firsts-here (halfDegree 1 (rOf n) + 1) (polynomial 1 (rOf n)) i b)
-          at (rw (kept-all 1 (rOf n) (r-odd-squarefree n) u)
-          at (kept-inside 1 (rOf n) w one (divisorsDue (rOf n)) (omega arith) inside i))))
+  never = Heights.never n (index-good n good .0) (index-good n good .1) 1
 
   pub height-fits : height 1 n ≤ largest
-  height-fits = height-within largest (omega arith) never
+  height-fits = Heights.height-fits n (index-good n good .0) (index-good n good .1) 1
 
   pub height-promised : 1 ≤ promisedAt true (kOf n) (rOf n) → height 1 n ≤ promisedAt true (kOf n) (rOf n)
-  height-promised some =
-      height-within (promisedAt true (kOf n) (rOf n)) some
-      (not-over-at 1 n (index-good n good .0) (index-good n good .1) (promisedAt true (kOf n) (rOf n)) (omega arith)
-      (divisorsDue (rOf n)) (omega arith))
+  height-promised = Heights.height-promised n (index-good n good .0) (index-good n good .1) 1
 
   -- the gain's magnitude, as the machine reads it
   pub seen-gain : {v : ℤ} {g : ℕ} → v ≡ gain 1 n → g ≡ natAbs (seen v) → pos g ≡ gain 1 n

@@ -23,8 +23,8 @@ use Rattle.cyclotomic.specs.Degrees.{monic-F}
 use Rattle.numbers.specs.Phi.{phi-le}
 use Rattle.index.proofs.Laws.{index-good}
 use Rattle.index.specs.declared.Parts.{Parts}
-use Rattle.wrapped_combs.specs.Wrapped.{AllFit}
-use Rattle.wrapped_combs.specs.Laws.{like-exact}
+use Rattle.wrapped_sums.specs.Wrapped.{AllFit}
+use Rattle.wrapped_sums.specs.Alike.{like-exact}
 use Rattle.factor_steps.specs.Multiplied as Modulo
 use Rattle.light_sums.specs.Weight.{weight, product-bound}
 use Rattle.next_factor.specs.Times.{Asked, Multiplied, factor, Weighs}

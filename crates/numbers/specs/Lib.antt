@@ -17,4 +17,5 @@ pub mod AtMostFive
 pub mod Lists
 pub mod Below
 pub mod PrimeLists
+pub mod PrimeRows
 pub mod Fives

@@ -4,12 +4,13 @@
 use Prim.Native.Nat.{ℕ, zero, suc, _%_, _≤_, _<_, _∣_}
 use mathlib.Core.Path.{_≡_, refl, sym, ap}
 use mathlib.Core.Bool.{Bool, true, false, not, _&&_, _||_, true≢false, false≢true}
-use mathlib.Core.Logic.{_⊎_, inl, inr, ⊎-elim}
+use mathlib.Core.Logic.{_≢_, _⊎_, inl, inr, ⊎-elim}
 use native.Mathlib.Nat.{mod-eq-zero-of-dvd, dvd-of-mod-eq-zero, not-suc-le-zero, le-suc-iff}
 use native.Mathlib.Omega.{arith}
 use lib.Dec.{eqb, ltb, leb}
 use borrow.Author.Tests.{eqb-true, eq-eqb, ltb-true, lt-ltb, leb-true, le-leb}
 use Rattle.definitions.specs.Numbers.{divides, someTo}
+use Rattle.definitions.specs.Requests.{knownKind}
 
 pub record Tests (b : Bool) (A : Type 0) : Type 0 where
   pub says : A → b ≡ true
@@ -143,3 +144,8 @@ strong-below P step (suc k) n h = step n (λ m l. strong-below P step k m (omega
 
 pub strong : (P : ℕ → Type 0) → ((n : ℕ) → ((m : ℕ) → m < n → P m) → P n) → (n : ℕ) → P n
 strong P step n = strong-below P step (suc n) n (omega arith)
+
+-- a known kind that is not 1 is 2
+pub kind-two : (kind : ℕ) → knownKind kind ≡ true → kind ≢ 1 → kind ≡ 2
+unfolding knownKind
+kind-two kind e n = ⊎-elim (λ h. absurd (n h)) (λ h. h) (test-or (test-eq kind 1) (test-eq kind 2) .shows e)

@@ -31,7 +31,8 @@ use Rattle.step_laws.specs.Firsts.{length-firsts}
 use Rattle.step_laws.specs.Tests.{neither}
 use Rattle.step_laws.specs.WorkingLimit.{good-limit}
 use Rattle.cyclotomic.specs.Kept.{kept-all, kept-start, step-kept}
-use Rattle.cyclotomic.specs.Heights.{told-half, told-one, at-most-height, height-least}
+use Rattle.cyclotomic.specs.Heights.{at-most-height}
+use Rattle.cyclotomic.specs.Inside.{height-inside}
 use Rattle.answers.specs.Partial as Partial
 use Rattle.answers.specs.Polynomial as Polynomial
 use Rattle.answers.proofs.WorkingLimit.{polynomial-done}
@@ -104,27 +105,11 @@ told-of-entries kind n h w l e = rw e (ap heightOf (sym front), ap peakOf (sym f
         ∙ firsts-front N N (polynomial kind n) (NatL.le-refl N)
 
 -- ---- no coefficient passes the working limit
-kept-step : (w kind r j : ℕ) → j < divisorsDue r → Bounded w (entries (keptHalf kind r j)) → overAt w kind r j ≡ false
-    → Bounded w (entries (keptHalf kind r (suc j)))
-unfolding overAt divisorsDue
-kept-step w kind r j h b o k =
-    subst (λ l. natAbs (entries l k) ≤ w) (step-kept kind r j h (divisor-in r j h .0))
-    (stays-inside w (sortOf kind r (nextDivisor r j)) (nextDivisor r j) (keptHalf kind r j) b o k)
-
--- every kept half on the way is within it
-pub kept-inside : (w kind r j : ℕ) → 1 ≤ w → j ≤ divisorsDue r → overAmong w kind r j ≡ false
-    → Bounded w (entries (keptHalf kind r j))
-unfolding overAmong
-kept-inside w kind r zero one h e =
-    λ k. rw (kept-start kind r) (NatL.le-trans (start-bounded kind (halfDegree kind r + 1) k) one)
-kept-inside w kind r (suc j) one h e =
-    let b = neither (overAmong w kind r j) (overAt w kind r j) e in
-    kept-step w kind r j h (kept-inside w kind r j one (omega arith) (b .0)) (b .1)
-
 pub within-limit : (kind n : ℕ) (h w : ℤ) (room : ℕ) → 0 < n → Polynomial.code kind n h w room ≡ DONE → (i : ℕ)
     → natAbs (polynomial kind n i) ≤ natAbs w
 unfolding divisorsDue
-within-limit kind n h w room l e i = NatL.le-trans (at-most-height kind n l i) (go (ℕ-discrete (rOf n) 1))
+within-limit kind n h w room l e i =
+    NatL.le-trans (at-most-height kind n l i) (height-inside (natAbs w) kind n l one (asked .2))
   where
     asked : (belowOne h ≡ false) × (belowOne w ≡ false)
         × (overAmong (natAbs w) kind (rOf n) (divisorsDue (rOf n)) ≡ false)
@@ -132,17 +117,6 @@ within-limit kind n h w room l e i = NatL.le-trans (at-most-height kind n l i) (
 
     one : 1 ≤ natAbs w
     one = good-limit w (asked .1) .1
-
-    go : Dec (rOf n ≡ 1) → height kind n ≤ natAbs w
-    go (yes o) = rw (told-one kind n l o .0) one
-    go (no o) =
-        rw (told-half kind n l o .0)
-        (height-least (halfDegree kind (rOf n) + 1) (polynomial kind (rOf n)) (natAbs w)
-        (λ k b. subst (λ v. natAbs v ≤ natAbs w)
-        (front-entry (halfDegree kind (rOf n) + 1) (polynomial kind (rOf n))
-        (keptHalf kind (rOf n) (divisorsDue (rOf n))) (kept-all kind (rOf n) (r-odd-squarefree n) o) k b)
-        (kept-inside (natAbs w) kind (rOf n) (divisorsDue (rOf n)) one (NatL.le-refl (divisorsDue (rOf n))) (asked .2)
-        k)))
 
 -- so every coefficient can be negated
 pub can-be-negated : (kind n : ℕ) (h w : ℤ) (room : ℕ) → 0 < n → Polynomial.code kind n h w room ≡ DONE

@@ -25,7 +25,7 @@ use Rattle.definitions.specs.Answer.{coefficients, heightOf, height, peakOf, pe
 use Rattle.numbers.specs.Apart.{r-odd-squarefree}
 use Rattle.numbers.specs.Below.{additions-all}
 use Rattle.cyclotomic.specs.Kept.{kept-all}
-use Rattle.cyclotomic.specs.Heights.{told-half, told-one, peak-inside}
+use Rattle.cyclotomic.specs.Heights.{told-one}
 use Rattle.step_laws.specs.Bound.{Bounded}
 use Rattle.kept_half.specs.Halves.{StepsDue, KeptHalfIs}
 use Rattle.squarefree_from_half.specs.Growth.{Lower}
@@ -33,19 +33,13 @@ use Rattle.whole_from_half.specs.Ready.{Ready}
 use Rattle.polynomial.specs.Making.{MakingOutcomeIs, makingCode}
 use Rattle.index.specs.declared.Parts.{Parts}
 use Rattle.kept_half.specs.declared.RunOutcome.{RunOutcome}
-use Rattle.heights.specs.declared.Top.{Top}
+use Rattle.laying_out.specs.Laid.{LaidIs}
+use Rattle.laying_out.specs.declared.Laid.{Laid}
 use Rattle.squarefree_from_half.proofs.Growing.{half-within, front-entry}
-use Rattle.whole_from_half.proofs.Laying.{above-zero, t-is, r-fits}
+use Rattle.whole_from_half.proofs.Laying.{r-fits}
 
 pub steps-due : {kind n : ℕ} {a : Parts} {l : List ℤ} → Ready kind n a l → rOf n ≢ 1 → StepsDue kind n a
 steps-due R above = record { parts = R .parts; known = R .known; good = R .good; above = above }
-
-pub peak-room : {kind n : ℕ} {a : Parts} {l : List ℤ} → Ready kind n a l → peak kind n < length l
-peak-room {kind} {n} {a} {l} R = omega (arith, peak-inside kind n (above-zero kind n a l R), R .room)
-
--- what `peak_within` tells
-abbrev pub topOf : List ℤ → Top
-topOf cs = record { height = heightOf cs; place = peakOf cs }
 
 -- what the making goes by once all steps are taken on the first d + 1 entries of l and have left m there
 pub record Halfway (w kind n : ℕ) (a : Parts) (l : List ℤ) (d : ℕ) (m : List ℤ) (h : RunOutcome) : Type 0 where
@@ -54,16 +48,13 @@ pub record Halfway (w kind n : ℕ) (a : Parts) (l : List ℤ) (d : ℕ) (m : Li
   pub over : (lim : ℕ) (x : List ℤ) → h .over ≡ true → x ≡ zeros (length (m ++ drop (d + 1) l))
       → MakingOutcomeIs kind n lim w x (record { code = OVER; additions = 0; height = 0; peak = 0 })
   pub lower : h .over ≡ false → Lower kind (rOf n) (m ++ drop (d + 1) l)
-  pub bounded : h .over ≡ false → Bounded (h .bound) (entries (take (d + 1) (m ++ drop (d + 1) l)))
-  pub top-is : h .over ≡ false → (x : Top) → x ≡ topOf (take (d + 1) (m ++ drop (d + 1) l))
-      → (x .height ≡ height kind n) × (x .place * a .t ≡ peak kind n)
-  pub tall : h .over ≡ false → (lim : ℕ) (x : List ℤ) → ltb lim (height kind n) ≡ true
-      → x ≡ zeros (length (m ++ drop (d + 1) l))
+  pub bounded : h .over ≡ false
+      → Bounded (h .bound) (entries (take (halfDegree kind (rOf n) + 1) (m ++ drop (d + 1) l)))
+  pub tall : h .over ≡ false → {lim : ℕ} {x : List ℤ} {r : Laid} → LaidIs kind n lim x r → r .tall ≡ true
       → MakingOutcomeIs kind n lim w x (record { code = TALL; additions = 0; height = 0; peak = 0 })
-  pub done : h .over ≡ false → (lim : ℕ) (x : List ℤ) (y z : ℕ) → ltb lim (height kind n) ≡ false
-      → x ≡ coefficients kind n
-      → y ≡ height kind n → z ≡ peak kind n
-      → MakingOutcomeIs kind n lim w x (record { code = DONE; additions = h .additions; height = y; peak = z })
+  pub done : h .over ≡ false → {lim : ℕ} {x : List ℤ} {r : Laid} → LaidIs kind n lim x r → r .tall ≡ false
+      → MakingOutcomeIs kind n lim w x
+      (record { code = DONE; additions = h .additions; height = r .height; peak = r .peak })
 
 module _ (kind n : ℕ) (a : Parts) (l : List ℤ) (R : Ready kind n a l) (above : rOf n ≢ 1) (d : ℕ)
     (ed : d ≡ halfDegree kind (rOf n)) where
@@ -122,40 +113,32 @@ module _ (kind n : ℕ) (a : Parts) (l : List ℤ) (R : Ready kind n a l) (above
       m-there : take (d + 1) (m ++ drop (d + 1) l) ≡ m
       m-there = take-at m (drop (d + 1) l) (d + 1) m-length
 
-      bounded : Bounded (h .bound) (entries (take (d + 1) (m ++ drop (d + 1) l)))
-      bounded = rw m-there (made .ran .bounded o)
-
-      top-is : (x : Top) → x ≡ topOf (take (d + 1) (m ++ drop (d + 1) l))
-          → (x .height ≡ height kind n) × (x .place * a .t ≡ peak kind n)
-      top-is x e =
-          let is = e ∙ ap topOf (m-there ∙ m-is) in
-          let half = told-half kind n (above-zero kind n a l R) above in (
-            ap (λ y. y .height) is ∙ sym (half .0),
-            ap₂ (λ y t. y .place * t) is (t-is kind n a l R) ∙ sym (half .1),
-          )
+      bounded : Bounded (h .bound) (entries (take (halfDegree kind (rOf n) + 1) (m ++ drop (d + 1) l)))
+      bounded = rw (sym ed, m-there) (made .ran .bounded o)
 
       -- the code hangs on the height alone
       by-height : (lim : ℕ) (b : Bool) → ltb lim (height kind n) ≡ b → makingCode kind n lim w ≡ cond b TALL DONE
       unfolding makingCode
       by-height lim b t = ap₂ (λ x y. cond x OVER (cond y TALL DONE)) (sym (made .ran .over) ∙ o) t
 
-      laid-tall : (lim : ℕ) (x : List ℤ) → ltb lim (height kind n) ≡ true
-          → x ≡ zeros (length (m ++ drop (d + 1) l))
+      laid-tall : {lim : ℕ} {x : List ℤ} {r : Laid} → LaidIs kind n lim x r → r .tall ≡ true
           → MakingOutcomeIs kind n lim w x (record { code = TALL; additions = 0; height = 0; peak = 0 })
-      laid-tall lim x t = laid-refused TALL lim x (λ q. omega arith) (by-height lim true t)
+      laid-tall {lim} {x} L t =
+          laid-refused TALL lim x (λ q. omega arith) (by-height lim true (sym (L .tall) ∙ t))
+          (L .leaves ∙ ap (λ b. cond b (zeros (suc (degree kind n))) (coefficients kind n)) t
+          ∙ sym (ap zeros (rest-length ∙ R .room ∙ add-one (degree kind n))))
 
-      laid-done :
-          (lim : ℕ) (x : List ℤ) (y z : ℕ) → ltb lim (height kind n) ≡ false → x ≡ coefficients kind n
-          → y ≡ height kind n → z ≡ peak kind n
-          → MakingOutcomeIs kind n lim w x (record { code = DONE; additions = h .additions; height = y; peak = z })
+      laid-done : {lim : ℕ} {x : List ℤ} {r : Laid} → LaidIs kind n lim x r → r .tall ≡ false
+          → MakingOutcomeIs kind n lim w x
+          (record { code = DONE; additions = h .additions; height = r .height; peak = r .peak })
       unfolding additionsFor divisorsDue
-      laid-done lim x y z t e q p =
+      laid-done {lim} {x} L t =
           record {
-            code = sym (by-height lim false t);
-            leaves = e;
+            code = sym (by-height lim false (sym (L .tall) ∙ t));
+            leaves = L .leaves ∙ ap (λ b. cond b (zeros (suc (degree kind n))) (coefficients kind n)) t;
             additions = λ _. made .ran .additions o ∙ additions-all kind (rOf n);
-            height = λ _. q;
-            peak = λ _. p;
+            height = λ _. L .height t;
+            peak = λ _. L .peak t;
           }
 
     pub halfway : Halfway w kind n a l d m h
@@ -166,7 +149,6 @@ module _ (kind n : ℕ) (a : Parts) (l : List ℤ) (R : Ready kind n a l) (above
           over = laid-over;
           lower = lower;
           bounded = bounded;
-          top-is = top-is;
           tall = laid-tall;
           done = laid-done;
         }

@@ -1,6 +1,7 @@
 // The polynomial request, once kind, index and both limits are good.
 use answers::Answer;
 use index::Parts;
+use laying_out::lay_out;
 ghost use mathlib.Core.Path.{_≡_};
 ghost use mathlib.Core.Bool.{true};
 ghost use mathlib.Core.Logic.{_≢_};
@@ -36,8 +37,7 @@ impl MakingOutcome {
     }
 }
 
-// r > 1: the kept half after all divisors, and the polynomial laid out from it. The height is that of the kept half, so
-// a polynomial too tall is never laid out; the first peak is that of the kept half, t times as far up.
+// r > 1: the kept half after all divisors, and the polynomial laid out from it.
 fn make_by_steps(b: &mut [i64], kind: u64, n: u64, parts: Parts, h: u64, w: u64) -> MakingOutcome
     requires { ⌜ Ready kind n parts (now b) × (rOf n ≢ 1) × Workable w ⌝ }
     ensures { λ r. ⌜ MakingOutcomeIs kind n h w (now (b .exit)) r ⌝ }
@@ -48,20 +48,15 @@ fn make_by_steps(b: &mut [i64], kind: u64, n: u64, parts: Parts, h: u64, w: u64)
         shapes::clear(b);
         return MakingOutcome::refused(answers::OVER);
     }
-    let top = peaks::peak_within(&b[..half], run.bound);
-    let height = top.height;
-    if h < height {
-        shapes::clear(b);
+    let laid = lay_out(b, kind, n, parts, h, run.bound);
+    if laid.tall {
         return MakingOutcome::refused(answers::TALL);
     }
-    whole_from_half::from_lower_half(b, kind, n, parts);
-    let t = parts.t;
-    let peak = top.place * t;
     MakingOutcome {
         code: answers::DONE,
         additions: run.additions,
-        height,
-        peak,
+        height: laid.height,
+        peak: laid.peak,
     }
 }
 

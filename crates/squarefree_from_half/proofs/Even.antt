@@ -2,7 +2,7 @@
 use Prim.Native.Nat.{ℕ, _+_, _*_, _-_, _<_, _≤_}
 use mathlib.Core.Path.{_≡_, refl, sym, _∙_, ap, ap₂}
 use mathlib.Core.Bool.{Bool, true, false, cond}
-use mathlib.Core.Logic.{_≢_, ⊎-elim}
+use mathlib.Core.Logic.{_≢_}
 use mathlib.Core.List.{List}
 use native.Mathlib.Omega.{arith}
 use native.Mathlib.Nat as NatL
@@ -17,7 +17,7 @@ use Rattle.definitions.specs.Series.{constant, _+ˢ_, -ˢ, _·_, _÷_, z^, firs
 use Rattle.definitions.specs.Numbers.{someTo, countTo, divides, shareFactor, phi}
 use Rattle.definitions.specs.Polynomials.{productTo, atDivisors, z^-1, familyTo, F, I, polynomial, degree}
 use Rattle.definitions.specs.Requests.{knownKind}
-use Rattle.numbers.specs.Tests.{test-or, test-eq}
+use Rattle.numbers.specs.Tests.{kind-two}
 use Rattle.numbers.specs.Apart.{OddSquarefree}
 use Rattle.numbers.specs.Primes.{prime-two}
 use Rattle.numbers.specs.Phi.{phi-new, phi-le}
@@ -25,10 +25,6 @@ use Rattle.step_laws.specs.Machine.{seen}
 use Rattle.step_laws.specs.Firsts.{is-firsts}
 use Rattle.cyclotomic.specs.Apart.{F-twice}
 use Rattle.cyclotomic.specs.Degrees.{monic}
-
-pub kind-two : (kind : ℕ) → knownKind kind ≡ true → kind ≢ 1 → kind ≡ 2
-unfolding knownKind
-kind-two kind e n = ⊎-elim (λ h. absurd (n h)) (λ h. h) (test-or (test-eq kind 1) (test-eq kind 2) .shows e)
 
 pub phi-double : (r : ℕ) → OddSquarefree r → phi (2 * r) ≡ phi r
 phi-double r O = ap phi (NatL.mul-comm 2 r) ∙ omega (arith, phi-new r 2 prime-two (O .odd))

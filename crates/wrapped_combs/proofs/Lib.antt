@@ -1,3 +1,2 @@
 -- Laws that the functions' proofs share.
-mod Bits
 mod Passes

@@ -14,7 +14,8 @@ use Rattle.step_laws.specs.Firsts.{is-firsts}
 use Rattle.entry_steps.specs.Passes.{setFour}
 use Rattle.entry_steps.proofs.FourEntries.{moved-four-down}
 use Rattle.entry_steps.proofs.Split.{moved-down}
-use Rattle.wrapped_combs.specs.Wrapped.{wrap, wrapEntry, wrappedStep, wrappedList, DownTo}
+use Rattle.wrapped_sums.specs.Wrapped.{wrap}
+use Rattle.wrapped_combs.specs.Wrapped.{wrapEntry, wrappedStep, wrappedList, DownTo}
 use Rattle.wrapped_combs.specs.Laws.{wrapped-below, wrapped-comb}
 
 module _ (d : ℕ) (l : List ℤ) (h : d ≤ length l) where

@@ -7,17 +7,18 @@ use Prim.Native.Nat.{ℕ, _-_, _<_, _≤_}
 use native.Mathlib.Omega.{arith}
 use borrow.Author.Tests.{lt-ltb, le-ltb}
 use lib.ListN.{length}
-use lib.IntN.{ℤ, natAbs}
+use lib.IntN.{ℤ}
 use Rattle.definitions.specs.Integers.{_⊕_, _⊝_}
-use Rattle.definitions.specs.Series.{Series, firsts}
+use Rattle.definitions.specs.Series.{Series}
 use Rattle.definitions.specs.Steps.{Sort, comb, accumulate, stepped, entries, stepOver, stepList, largest}
 use Rattle.step_laws.specs.Tests.{by-order}
-use Rattle.step_laws.specs.Firsts.{length-firsts, firsts-here, firsts-past, firsts-same, firsts-entries, is-firsts}
+use Rattle.step_laws.specs.Firsts.{length-firsts, firsts-here, firsts-past, firsts-same, firsts-entries}
 use Rattle.step_laws.specs.Accumulated.{accumulated-from, accumulated-below, by-chain}
 use Rattle.step_laws.specs.Machine.{range-fits}
 use Rattle.step_laws.specs.Step.{combed-from, stepped-below, not-over-each}
-use Rattle.wrapped_combs.specs.Wrapped.{wrap, wrappedStep, wrappedList, Like, AllFit}
-use Rattle.wrapped_combs.specs.Residues.{wrap-fits, wrap-fit, wrap-wrap, like-⊕, like-⊝, like-equal}
+use Rattle.wrapped_sums.specs.Wrapped.{wrap, Like, AllFit}
+use Rattle.wrapped_combs.specs.Wrapped.{wrappedStep, wrappedList}
+use Rattle.wrapped_sums.specs.Residues.{wrap-fits, wrap-fit, wrap-wrap, like-⊕, like-⊝}
 
 module _ (s : Sort) (d : ℕ) (f : Series) where
   pub wrapped-below : (i : ℕ) → i < d → wrappedStep s d f i ≡ f i
@@ -73,17 +74,6 @@ module _ (s : Sort) (d : ℕ) (l : List ℤ) where
       (λ k b. wrapped-below s d (entries l) k (omega arith))
       ∙ firsts-entries l
 
--- equal modulo 2^64
-module _ (n : ℕ) (f g : Series) where
-  pub like-trans : (h : Series) → Like n f g → Like n g h → Like n f h
-  like-trans h p q i b = p i b ∙ q i b
-
-  pub like-sym : Like n f g → Like n g f
-  like-sym p i b = sym (p i b)
-
-  pub like-same : ((i : ℕ) → i < n → f i ≡ g i) → Like n f g
-  like-same p i b = ap wrap (p i b)
-
 -- a step respects it
 module _ (n d : ℕ) (f g : Series) (one : 1 ≤ d) (like : Like n f g) where
   stepped-at : (s : Sort) (i : ℕ) → i < n → wrap (stepped s d f i) ≡ wrap (stepped s d g i)
@@ -112,13 +102,6 @@ wrapped-like s d l f one like i b =
     ap wrap (wrapped-here s d l i b)
     ∙ wrapped-is s d (entries l) i
     ∙ stepped-like (length l) d (entries l) f one like s i b
-
--- 64-bit numbers that are modulo 2^64 those of f, none of which is larger than the largest, are f's
-pub like-exact : (l : List ℤ) (f : Series) → AllFit l → Like (length l) (entries l) f
-    → ((i : ℕ) → i < length l → natAbs (f i) ≤ largest) → l ≡ firsts (length l) f
-unfolding entries
-like-exact l f fit like small =
-    is-firsts (length l) f l refl (λ i b. like-equal (fit i) (small i b) (like i b))
 
 -- where no value leaves the range it is the step
 pub wrapped-known : (s : Sort) (d : ℕ) (l : List ℤ) → stepOver largest s d l ≡ false

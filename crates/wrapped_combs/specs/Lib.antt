@@ -1,5 +1,4 @@
 -- What a step modulo 2^64 is, what the contracts of `wrapped_combs` and `wrapped_steps` cite, and laws that callers
 -- use.
 pub mod Wrapped
-pub mod Residues
 pub mod Laws

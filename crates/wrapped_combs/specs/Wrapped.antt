@@ -1,25 +1,14 @@
--- Numbers modulo 2^64, as the 64-bit numbers from -2^63 on; what a step leaves that wraps; and a step that has got to
--- some place.
-use Prim.Native.Nat.{ℕ, suc, _-_, _%_, _^_, _<_, _≤_}
+-- What a step leaves that wraps, and a step that has got to some place.
+use Prim.Native.Nat.{ℕ, _≤_}
 use mathlib.Core.Bool.{cond}
-use mathlib.Core.Path.{_≡_}
 use mathlib.Core.List.{List}
 use lib.Dec.{ltb}
 use lib.ListN.{length}
-use lib.IntN.{ℤ, pos, negsuc}
-use mir.Syntax.{w64}
-use mir.Val.{SFits, toZ}
+use lib.IntN.{ℤ}
 use Rattle.definitions.specs.Series.{Series, firsts}
 use Rattle.definitions.specs.Steps.{Sort, comb, stepped, entries}
 use Rattle.entry_steps.specs.Passes.{newEntry, Split}
-
--- v modulo 2^64, and the 64-bit number that is so much modulo 2^64
-unfoldable pub residue : ℤ → ℕ
-residue (pos n) = n % 2 ^ 64
-residue (negsuc n) = 2 ^ 64 - suc (n % 2 ^ 64)
-
-unfoldable pub wrap : ℤ → ℤ
-wrap v = toZ w64 (residue v)
+use Rattle.wrapped_sums.specs.Wrapped.{wrap}
 
 -- what is stored at the place i of a list
 abbrev pub wrapEntry : Sort → ℕ → List ℤ → ℕ → ℤ
@@ -31,14 +20,6 @@ wrappedStep s d f i = cond (ltb i d) (f i) (wrap (stepped s d f i))
 
 unfoldable pub wrappedList : Sort → ℕ → List ℤ → List ℤ
 wrappedList s d l = firsts (length l) (wrappedStep s d (entries l))
-
--- equal modulo 2^64 below n
-abbrev pub Like : ℕ → Series → Series → Type 0
-Like n f g = (i : ℕ) → i < n → wrap (f i) ≡ wrap (g i)
-
--- every entry is a 64-bit number
-abbrev pub AllFit : List ℤ → Type 0
-AllFit l = (i : ℕ) → SFits w64 (entries l i)
 
 -- a comb of size d on l that has got down to the place i, and left m
 pub record DownTo (d : ℕ) (l m : List ℤ) (i : ℕ) : Type 0 where

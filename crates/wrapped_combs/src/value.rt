@@ -1,48 +1,25 @@
-// The value of a step at one place, and at four, modulo 2^64. A cast keeps a number, so a negative one goes by its
-// complement; the compiler makes one addition of the whole.
+// The value of a step at one place, and at four, modulo 2^64.
 
 ghost use mathlib.Core.Path.{_≡_};
 ghost use Prim.Native.Nat.{_+_, _≤_, _<_};
 ghost use lib.ListN.{length, set};
-ghost use mir.Syntax.{w64};
-ghost use mir.Val.{toZ, ofZ};
 ghost use Rattle.entry_steps.specs.Sorts.{sortMeans};
 ghost use Rattle.entry_steps.specs.Passes.{newValue, setFour};
-ghost use Rattle.wrapped_combs.specs.Wrapped.{wrap, wrapEntry};
+ghost use Rattle.wrapped_sums.specs.Wrapped.{wrap};
+ghost use Rattle.wrapped_combs.specs.Wrapped.{wrapEntry};
 use entry_steps::Sort;
 use entry_steps::put;
 use entry_steps::put_four;
-use std::num::wrapping_add_u64;
-use std::num::wrapping_sub_u64;
-
-// The bits of a number, and the number of bits.
-fn bits_of(x: i64) -> u64
-    ensures { λ r. ⌜ r ≡ ofZ w64 x ⌝ }
-{
-    if x < 0 {
-        return !(!x as u64);
-    }
-    x as u64
-}
-
-fn of_bits(b: u64) -> i64
-    ensures { λ r. ⌜ r ≡ toZ w64 b ⌝ }
-{
-    if b < 9223372036854775808 {
-        return b as i64;
-    }
-    !(!b as i64)
-}
+use wrapped_sums::minus;
+use wrapped_sums::plus;
 
 // What a step makes of an entry x and the one y that stands d before it.
 pub fn wrapped_value(sort: Sort, x: i64, y: i64) -> i64
     ensures { λ r. ⌜ r ≡ wrap (newValue (sortMeans sort) x y) ⌝ }
 {
-    let p = bits_of(x);
-    let q = bits_of(y);
     match sort {
-        Sort::Comb => of_bits(wrapping_sub_u64(p, q)),
-        Sort::Accumulate => of_bits(wrapping_add_u64(p, q)),
+        Sort::Comb => minus(x, y),
+        Sort::Accumulate => plus(x, y),
     }
 }
 

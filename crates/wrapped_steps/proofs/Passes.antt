@@ -11,7 +11,8 @@ use Rattle.definitions.specs.Steps.{accumulate, entries}
 use Rattle.entry_steps.specs.Passes.{setFour}
 use Rattle.entry_steps.proofs.FourEntries.{moved-four-up}
 use Rattle.entry_steps.proofs.Split.{moved-up, all-firsts, all-below}
-use Rattle.wrapped_combs.specs.Wrapped.{wrap, wrapEntry, wrappedStep, wrappedList}
+use Rattle.wrapped_sums.specs.Wrapped.{wrap}
+use Rattle.wrapped_combs.specs.Wrapped.{wrapEntry, wrappedStep, wrappedList}
 use Rattle.wrapped_combs.specs.Laws.{wrapped-below, wrapped-sum}
 use Rattle.wrapped_steps.specs.Upward.{UpTo}
 

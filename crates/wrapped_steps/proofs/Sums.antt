@@ -10,7 +10,8 @@ use lib.IntN.{ℤ}
 use Rattle.definitions.specs.Integers.{_⊕_, 0ℤ}
 use Rattle.definitions.specs.Steps.{accumulate}
 use Rattle.entry_steps.proofs.Split.{getD-set-by}
-use Rattle.wrapped_combs.specs.Wrapped.{wrap, wrapEntry}
+use Rattle.wrapped_sums.specs.Wrapped.{wrap}
+use Rattle.wrapped_combs.specs.Wrapped.{wrapEntry}
 use Rattle.wrapped_steps.specs.Upward.{UpTo}
 use Rattle.wrapped_steps.specs.Rows.{rowSum, Carried}
 use Rattle.wrapped_steps.proofs.Passes.{next-up}

@@ -5,7 +5,7 @@ use mathlib.Core.List.{List}
 use lib.ListN.{length, getD}
 use lib.IntN.{ℤ}
 use Rattle.definitions.specs.Integers.{_⊕_, 0ℤ}
-use Rattle.wrapped_combs.specs.Wrapped.{wrap}
+use Rattle.wrapped_sums.specs.Wrapped.{wrap}
 
 -- what is stored at the place q of the row that begins at k
 abbrev pub rowSum : List ℤ → List ℤ → ℕ → ℕ → ℤ

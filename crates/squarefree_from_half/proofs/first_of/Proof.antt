@@ -1,7 +1,8 @@
 -- `first_of` meets its contract, by kind and parity (Even).
 use mathlib.Core.Path.{sym}
 use Rattle.definitions.specs.Integers.{⊖}
-use Rattle.squarefree_from_half.proofs.Even.{kind-two, first-F1, first-F2, first-I1, first-I2}
+use Rattle.numbers.specs.Tests.{kind-two}
+use Rattle.squarefree_from_half.proofs.Even.{first-F1, first-F2, first-I1, first-I2}
 use Rattle.squarefree_from_half.proofs.first_of.Statement.{statement}
 use Rattle.squarefree_from_half.proofs.first_of.Tie as tie
 

@@ -3,7 +3,8 @@ use borrow.Author.Needs.{needs}
 use native.Mathlib.Omega.{arith}
 use borrow.Author.Tests.{not-true, not-false}
 use Rattle.numbers.specs.Phi.{phi-le}
-use Rattle.squarefree_from_half.proofs.Even.{kind-two, odd-length, odd-grown, F-length}
+use Rattle.numbers.specs.Tests.{kind-two}
+use Rattle.squarefree_from_half.proofs.Even.{odd-length, odd-grown, F-length}
 use Rattle.squarefree_from_half.proofs.Even.{F-grown, I-length, I-grown, top-I}
 use Rattle.squarefree_from_half.proofs.of_m.Statement.{statement}
 use Rattle.squarefree_from_half.proofs.of_m.Tie as tie

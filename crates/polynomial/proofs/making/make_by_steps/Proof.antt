@@ -14,7 +14,7 @@ use Rattle.definitions.specs.Numbers.{rOf}
 use Rattle.definitions.specs.KeptHalf.{halfDegree}
 use Rattle.definitions.specs.Answer.{height, peak}
 use Rattle.kept_half.proofs.Walked.{half-is}
-use Rattle.polynomial.proofs.Stepping.{steps-due, half-room, peak-room, Halfway, halfway}
+use Rattle.polynomial.proofs.Stepping.{steps-due, half-room, Halfway, halfway}
 use borrow.Author.Needs.{needs}
 use Rattle.polynomial.proofs.making.make_by_steps.Statement.{statement}
 use Rattle.polynomial.proofs.making.make_by_steps.Tie as tie
@@ -54,25 +54,6 @@ module _ (c : tie.After-all-steps) where
   part-room : D at-start + 1 ≤ length (c .all-steps .last .1 .1 .1 .1 .0 ++ drop (D at-start + 1) (old at-start))
   part-room = omega (arith, mid .rest-length, room at-start)
 
--- after the height
-module _ (t : tie.After-peak-within) where
-  abbrev steps : tie.After-all-steps
-  steps = t .before .before .before .before
-
-  abbrev begin : tie.Start
-  begin = start (at-start steps)
-
-  inside : steps .all-steps .result .over ≡ false
-  inside = t .before .before .if1 .left
-
-  high : (t .peak-within .result .height ≡ height (begin .args .kind) (begin .args .n))
-      × (t .peak-within .result .place * begin .args .parts .t ≡ peak (begin .args .kind) (begin .args .n))
-  high = mid steps .top-is inside _ (t .peak-within .ensures)
-
-  told : ltb (begin .args .h) (t .peak-within .result .height)
-      ≡ ltb (begin .args .h) (height (begin .args .kind) (begin .args .n))
-  told = ap (ltb (begin .args .h)) (high .0)
-
 half-degree-requires : tie.Need-half-degree-requires
 half-degree-requires c κs = search needs
 
@@ -105,18 +86,11 @@ returns c =
     (mid (c .before .before .before .before .before .before) .over _ _ (c .before .before .before .before .if1 .taken)
     (c .before .before .clear .ensures))
 
-slice-reshare-prefix-peak-within : tie.Need-slice-reshare-prefix-peak-within
-slice-reshare-prefix-peak-within c = part-room (c .before .before)
-
-slice-aggregate-peak-within : tie.Need-slice-aggregate-peak-within
-slice-aggregate-peak-within c = sym (length-take-le _ _ (part-room (c .before .before .before)))
-
-peak-within-requires : tie.Need-peak-within-requires
-peak-within-requires c κs =
-    let s = c .before .before .before in mid s .bounded (c .before .if1 .left)
-
-clear-requires-2 : tie.Need-clear-requires-2
-clear-requires-2 c κs = search needs
+lay-out-requires : tie.Need-lay-out-requires
+lay-out-requires c κs =
+    let s = c .before .before .before in
+    let inside = c .before .if1 .left in
+    (mid s .ready, mid s .lower inside, mid s .bounded inside)
 
 refused-requires-2 : tie.Need-refused-requires-2
 refused-requires-2 c κs = search needs
@@ -126,29 +100,19 @@ same-length-2 c = search needs
 
 returns-2 : tie.Need-returns-2
 returns-2 c =
-    let t = c .before .before .before .before .before in
+    let l = c .before .before .before in
+    let s = l .before .before .before .before in
     rw (c .refused2 .ensures)
-    (mid (steps t) .tall (inside t) _ _ (sym (told t) ∙ lt-ltb _ _ (c .before .before .before .before .if2 .taken))
-    (c .before .before .clear2 .ensures))
-
-from-lower-half-requires : tie.Need-from-lower-half-requires
-from-lower-half-requires c κs =
-    let t = c .before .before in (mid (steps t) .ready, mid (steps t) .lower (inside t))
-
-mul-peak : tie.Need-mul-peak
-mul-peak c =
-    let t = c .before .before .before .before .before in
-    omega (arith, high t .1, peak-room (begin t .pre .0))
+    (mid s .tall (l .before .before .if1 .left) (l .lay-out .ensures) (c .before .if2 .taken))
 
 same-length-3 : tie.Need-same-length-3
 same-length-3 c = search needs
 
 returns-3 : tie.Need-returns-3
 returns-3 c =
-    let t = c .before .before .before .before .before in
-    let low = c .before .before in
-    mid (steps t) .done (inside t) _ _ _ _ (sym (told t) ∙ le-ltb _ _ (low .before .before .if2 .left))
-    (low .from-lower-half .ensures) (high t .0) (high t .1)
+    let l = c .before .before in
+    let s = l .before .before .before .before in
+    mid s .done (l .before .before .if1 .left) (l .lay-out .ensures) (c .if2 .left)
 
 pub make-by-steps-spec : {M : Type 1} → statement M
 make-by-steps-spec =
@@ -163,14 +127,9 @@ make-by-steps-spec =
     refused-requires
     same-length
     returns
-    slice-reshare-prefix-peak-within
-    slice-aggregate-peak-within
-    peak-within-requires
-    clear-requires-2
+    lay-out-requires
     refused-requires-2
     same-length-2
     returns-2
-    from-lower-half-requires
-    mul-peak
     same-length-3
     returns-3)

@@ -1,9 +1,9 @@
--- `wrapped_steps::value::step_four` meets its contract: four values computed before the first is put.
+-- `wrapped_combs::value::step_four` meets its contract: four values computed before the first is put.
 use Rattle.step_laws.specs.Machine.{handed}
 use Rattle.entry_steps.specs.Sorts.{sortMeans}
 use Rattle.entry_steps.proofs.FourEntries.{four-is}
 use Rattle.wrapped_combs.specs.Wrapped.{wrapEntry}
-use Rattle.wrapped_combs.specs.Residues.{wrap-fits}
+use Rattle.wrapped_sums.specs.Residues.{wrap-fits}
 use borrow.Author.Needs.{needs}
 use Rattle.wrapped_combs.proofs.value.step_four.Statement.{statement}
 use Rattle.wrapped_combs.proofs.value.step_four.Tie as tie

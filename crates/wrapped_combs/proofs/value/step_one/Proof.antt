@@ -1,8 +1,8 @@
--- `wrapped_steps::value::step_one` meets its contract: what is put is what was computed.
+-- `wrapped_combs::value::step_one` meets its contract: what is put is what was computed.
 use mathlib.Core.Path.{_∙_, ap}
 use lib.ListN.{set}
 use Rattle.step_laws.specs.Machine.{handed}
-use Rattle.wrapped_combs.specs.Residues.{wrap-fits}
+use Rattle.wrapped_sums.specs.Residues.{wrap-fits}
 use borrow.Author.Needs.{needs}
 use Rattle.wrapped_combs.proofs.value.step_one.Statement.{statement}
 use Rattle.wrapped_combs.proofs.value.step_one.Tie as tie

@@ -1,4 +1,4 @@
--- `wrapped_steps::value::wrapped_entry` meets its contract: both entries fit, so they are as they were read.
+-- `wrapped_combs::value::wrapped_entry` meets its contract: both entries fit, so they are as they were read.
 use mathlib.Core.Path.{_∙_, ap}
 use Prim.Native.Nat.{_-_}
 use lib.ListN.{getD}
@@ -8,8 +8,8 @@ use Rattle.definitions.specs.Integers.{0ℤ}
 use Rattle.step_laws.specs.Machine.{seen-both, handed}
 use Rattle.entry_steps.specs.Sorts.{sortMeans}
 use Rattle.entry_steps.specs.Passes.{newValue}
-use Rattle.wrapped_combs.specs.Wrapped.{wrap}
-use Rattle.wrapped_combs.specs.Residues.{wrap-fits}
+use Rattle.wrapped_sums.specs.Wrapped.{wrap}
+use Rattle.wrapped_sums.specs.Residues.{wrap-fits}
 use borrow.Author.Needs.{needs}
 use Rattle.wrapped_combs.proofs.value.wrapped_entry.Statement.{statement}
 use Rattle.wrapped_combs.proofs.value.wrapped_entry.Tie as tie

@@ -6,8 +6,8 @@ use mir.Syntax.{w64}
 use mir.Val.{SFits}
 use Rattle.definitions.specs.Integers.{_⊕_, 0ℤ}
 use Rattle.step_laws.specs.Machine.{seen-both, handed}
-use Rattle.wrapped_combs.specs.Wrapped.{wrap}
-use Rattle.wrapped_combs.specs.Residues.{wrap-fits}
+use Rattle.wrapped_sums.specs.Wrapped.{wrap}
+use Rattle.wrapped_sums.specs.Residues.{wrap-fits}
 use borrow.Author.Needs.{needs}
 use Rattle.wrapped_steps.proofs.rows.take_entry.Statement.{statement}
 use Rattle.wrapped_steps.proofs.rows.take_entry.Tie as tie

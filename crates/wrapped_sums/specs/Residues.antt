@@ -12,7 +12,7 @@ use Rattle.definitions.specs.Integers.{_⊕_, _⊝_, ⊖}
 use Rattle.definitions.specs.Steps.{largest}
 use Rattle.step_laws.specs.Tests.{by-order}
 use Rattle.step_laws.specs.Signed.{mag-abs}
-use Rattle.wrapped_combs.specs.Wrapped.{residue, wrap}
+use Rattle.wrapped_sums.specs.Wrapped.{residue, wrap}
 
 pub residue-small : (v : ℤ) → residue v < 2 ^ 64
 unfolding residue

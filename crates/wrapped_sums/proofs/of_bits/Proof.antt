@@ -1,12 +1,12 @@
--- `wrapped_steps::value::of_bits` meets its contract: bits from 2^63 on go by their complement.
+-- `wrapped_sums::of_bits` meets its contract: bits from 2^63 on go by their complement.
 use mathlib.Core.Path.{ap}
 use native.Mathlib.Omega.{arith}
 use mir.Syntax.{w64}
 use mir.Val.{toZ}
-use Rattle.wrapped_combs.proofs.Bits.{twice}
+use Rattle.wrapped_sums.proofs.Bits.{twice}
 use borrow.Author.Needs.{needs}
-use Rattle.wrapped_combs.proofs.value.of_bits.Statement.{statement}
-use Rattle.wrapped_combs.proofs.value.of_bits.Tie as tie
+use Rattle.wrapped_sums.proofs.of_bits.Statement.{statement}
+use Rattle.wrapped_sums.proofs.of_bits.Tie as tie
 
 cast-result : tie.Need-cast-result
 cast-result c = search needs

@@ -13,8 +13,8 @@ use mir.Val.{SFits, Fits, toZ, ofZ}
 use mir.Facts.{toZ-ofZ, toZ-pos}
 use Rattle.definitions.specs.Integers.{_⊕_, _⊝_, ⊖}
 use Rattle.step_laws.specs.Machine.{seen}
-use Rattle.wrapped_combs.specs.Wrapped.{residue, wrap}
-use Rattle.wrapped_combs.specs.Residues.{residue-⊕, residue-⊖, residue-small, bits-residue}
+use Rattle.wrapped_sums.specs.Wrapped.{residue, wrap}
+use Rattle.wrapped_sums.specs.Residues.{residue-⊕, residue-⊖, residue-small, bits-residue}
 
 -- a negative number's complement
 negative-is : (x : ℤ) → SFits w64 x → ltZ x (pos 0) ≡ true → toZ w64 (18446744073709551615 - ofZ w64 x)
@@ -84,3 +84,7 @@ module _ (x y : ℤ) (f : SFits w64 x) (g : SFits w64 y) {p q r : ℕ} (hp : p �
 -- bits from 2^63 on go by their complement
 pub twice : (b : ℕ) → b < 2 ^ 64 → 18446744073709551615 - (18446744073709551615 - b) ≡ b
 twice b h = omega arith
+
+-- the bits of a number that was read
+pub as-read : {x : ℤ} → SFits w64 x → ofZ w64 (seen x) ≡ ofZ w64 x
+as-read f = ap (ofZ w64) (toZ-ofZ f)

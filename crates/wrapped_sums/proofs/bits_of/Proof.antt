@@ -1,7 +1,7 @@
--- `wrapped_steps::value::bits_of` meets its contract: a negative number is cast by its complement.
-use Rattle.wrapped_combs.proofs.Bits.{complement-casts, complement-bits, number-casts, number-bits}
-use Rattle.wrapped_combs.proofs.value.bits_of.Statement.{statement}
-use Rattle.wrapped_combs.proofs.value.bits_of.Tie as tie
+-- `wrapped_sums::bits_of` meets its contract: a negative number is cast by its complement.
+use Rattle.wrapped_sums.proofs.Bits.{complement-casts, complement-bits, number-casts, number-bits}
+use Rattle.wrapped_sums.proofs.bits_of.Statement.{statement}
+use Rattle.wrapped_sums.proofs.bits_of.Tie as tie
 
 cast-result : tie.Need-cast-result
 cast-result c = complement-casts (c .before .args .x) (c .before .fits .x) (c .if1 .taken)

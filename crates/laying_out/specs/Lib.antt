@@ -1,0 +1,2 @@
+-- What laying out comes to.
+pub mod Laid

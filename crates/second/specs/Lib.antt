@@ -1,0 +1,2 @@
+-- Vectors: the definitions of the second engine, run.
+mod Vectors

@@ -1,0 +1,4 @@
+-- Laws that the functions' proofs share.
+mod Filling
+mod Joined
+mod Fewer

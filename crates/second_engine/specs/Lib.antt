@@ -1,0 +1,2 @@
+-- What the contracts of `second_engine` cite.
+pub mod Halves

@@ -1,0 +1,2 @@
+-- Laws that the functions' proofs share.
+mod Bits
