@@ -301,6 +301,31 @@ bv_record bv_read(const uint8_t *bytes, size_t len, int64_t *coeffs, size_t coun
 bv_answer bv_cascade(const uint64_t *indices, size_t count, int64_t h, int64_t *buf, size_t len, int64_t *scratch,
                      size_t room);
 
+/*
+ * The polynomial of a kind at n from another road, for reviewers: with p the largest odd prime of n and m the product
+ * of its other odd primes, F(mp) is F(m), with z^p for z, times I(m), divided by z^m - 1, and I(mp) is I(m), with z^p
+ * for z, times F(m); each is made so in its turn. No comb and no accumulate is taken, so additions is always 0.
+ *
+ *   code               given where                                degree told   buf                      scratch
+ *   BV_DONE            nothing below applies                      yes           entries 0 to degree:     all 0
+ *                                                                               the polynomial
+ *   BV_REFUSED_KIND    kind is not 1 or 2                         0             untouched                untouched
+ *   BV_REFUSED_INDEX   n is 0 or above 65535                      0             untouched                untouched
+ *   BV_REFUSED_LIMIT   h is below 1                               0             untouched                untouched
+ *   BV_REFUSED_SHORT   len is below degree + 1, or room below     yes           untouched                untouched
+ *                      2 n + 16
+ *   BV_REFUSED_OVER    a polynomial on that road, or a product    yes           entries 0 to degree: 0   all 0
+ *                      before its division, has a coefficient
+ *                      above 2^63 - 1 in magnitude: never
+ *   BV_REFUSED_TALL    the height is above h                      yes           entries 0 to degree: 0   all 0
+ *
+ * The order is that of the table; on refusal height, peak and gain are 0. The scratch is a second slice to work in:
+ * where the table says all 0, the whole of it is, however long it is; 131086 entries have room for every n. It is
+ * proved that with a scratch that is long enough everything but additions, the entries too, is what bv_polynomial gives
+ * with BV_NO_LIMIT as w, and that BV_REFUSED_OVER is never given.
+ */
+bv_answer bv_second(uint64_t kind, uint64_t n, int64_t h, int64_t *buf, size_t len, int64_t *scratch, size_t room);
+
 #ifdef __cplusplus
 }
 #endif

@@ -12,6 +12,7 @@ use Rattle.steps.proofs.Step.apply.Reads as step-request
 use Rattle.polynomial.proofs.polynomial.Reads as polynomial-request
 use Rattle.partial.proofs.partial.Reads as partial-request
 use Rattle.cascade.proofs.cascade.Reads as cascade-request
+use Rattle.second.proofs.second.Reads as second-request
 use Rattle.shelf.proofs.write.Reads as write-request
 use Rattle.shelf.proofs.read.Reads as read-request
 use Rattle.bonvedrick.proofs.bv_polynomial as polynomial
@@ -21,8 +22,11 @@ use Rattle.bonvedrick.proofs.bv_partial as partial
 use Rattle.bonvedrick.proofs.bv_partial.Kinds as partial-kinds
 use Rattle.bonvedrick.proofs.bv_partial.Reads as partial-reads
 use Rattle.bonvedrick.proofs.bv_cascade as cascade
+use Rattle.bonvedrick.proofs.bv_second as second
 use Rattle.bonvedrick.proofs.bv_cascade.Kinds as cascade-kinds
+use Rattle.bonvedrick.proofs.bv_second.Kinds as second-kinds
 use Rattle.bonvedrick.proofs.bv_cascade.Reads as cascade-reads
+use Rattle.bonvedrick.proofs.bv_second.Reads as second-reads
 use Rattle.bonvedrick.proofs.bv_write as write
 use Rattle.bonvedrick.proofs.bv_write.Kinds as write-kinds
 use Rattle.bonvedrick.proofs.bv_write.Reads as write-reads
@@ -53,6 +57,12 @@ pub cascade-door :
     (e : AtExit (endedOf 3 cascade-kinds.ps cascade-kinds.r) κs)
     → cascade-reads.Post κs a z e ≡ cascade-request.Post κs a z e
 cascade-door κs a z e = refl
+
+pub second-door :
+    (κs : Lfts 2) (a : ArgsD second.signature κs) (z : ResD second.signature κs)
+    (e : AtExit (endedOf 2 second-kinds.ps second-kinds.r) κs)
+    → second-reads.Post κs a z e ≡ second-request.Post κs a z e
+second-door κs a z e = refl
 
 pub write-door :
     (κs : Lfts 2) (a : ArgsD write.signature κs) (z : ResD write.signature κs)

@@ -13,8 +13,11 @@ use Rattle.bonvedrick.proofs.bv_partial as partial
 use Rattle.bonvedrick.proofs.bv_partial.Kinds as partial-kinds
 use Rattle.bonvedrick.proofs.bv_partial.Reads as partial-reads
 use Rattle.bonvedrick.proofs.bv_cascade as cascade
+use Rattle.bonvedrick.proofs.bv_second as second
 use Rattle.bonvedrick.proofs.bv_cascade.Kinds as cascade-kinds
+use Rattle.bonvedrick.proofs.bv_second.Kinds as second-kinds
 use Rattle.bonvedrick.proofs.bv_cascade.Reads as cascade-reads
+use Rattle.bonvedrick.proofs.bv_second.Reads as second-reads
 use Rattle.bonvedrick.proofs.bv_write as write
 use Rattle.bonvedrick.proofs.bv_write.Kinds as write-kinds
 use Rattle.bonvedrick.proofs.bv_write.Reads as write-reads
@@ -48,6 +51,14 @@ pub cascade-one :
     cascade-reads.Post κs a z e → cascade-reads.Post κs a z′ e′
     → (z ≡ z′) × (now (e .1 .1 .0) ≡ now (e′ .1 .1 .0)) × (now (e .1 .1 .1 .0) ≡ now (e′ .1 .1 .1 .0))
 cascade-one κs a z z′ e e′ p p′ =
+    (p .0 ∙ sym (p′ .0), p .1 .0 ∙ sym (p′ .1 .0), p .1 .1 ∙ sym (p′ .1 .1))
+
+pub second-one :
+    (κs : Lfts 2) (a : ArgsD second.signature κs) (z z′ : ResD second.signature κs)
+    (e e′ : AtExit (endedOf 2 second-kinds.ps second-kinds.r) κs) →
+    second-reads.Post κs a z e → second-reads.Post κs a z′ e′
+    → (z ≡ z′) × (now (e .1 .1 .1 .0) ≡ now (e′ .1 .1 .1 .0)) × (now (e .1 .1 .1 .1 .0) ≡ now (e′ .1 .1 .1 .1 .0))
+second-one κs a z z′ e e′ p p′ =
     (p .0 ∙ sym (p′ .0), p .1 .0 ∙ sym (p′ .1 .0), p .1 .1 ∙ sym (p′ .1 .1))
 
 pub write-one :

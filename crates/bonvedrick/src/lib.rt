@@ -13,6 +13,7 @@ ghost use Rattle.definitions.specs.Steps.{comb, accumulate, stepCode, stepCount
 ghost use Rattle.answers.specs.Polynomial as Polynomial;
 ghost use Rattle.answers.specs.Partial as Partial;
 ghost use Rattle.answers.specs.Cascade as Cascade;
+ghost use Rattle.answers.specs.Second as Second;
 ghost use Rattle.shelf.specs.Format.{writeAnswer, writeLeaves, readAnswer, readLeaves};
 
 // The polynomial of a kind and an index, no taller than h and made of steps within w.
@@ -52,6 +53,19 @@ pub extern "C" fn bv_cascade(
         ≡ Cascade.scratches (now (indices .entry)) h (length (now (buf .entry))) (now (scratch .entry)) ⌝ }
 {
     cascade::cascade(indices, h, buf, scratch)
+}
+
+// The polynomial of a kind and an index by the second engine, no taller than h; the scratch is lent for the road.
+#[no_mangle]
+pub extern "C" fn bv_second(kind: u64, n: u64, h: i64, buf: &mut [i64], scratch: &mut [i64]) -> Answer
+    ensures answer { λ r.
+        ⌜ r ≡ Second.answer kind n h (length (now (buf .entry))) (length (now (scratch .entry))) ⌝ }
+    ensures leaves { λ _.
+        ⌜ now (buf .exit) ≡ Second.leaves kind n h (now (buf .entry)) (length (now (scratch .entry))) ⌝ }
+    ensures scratches { λ _.
+        ⌜ now (scratch .exit) ≡ Second.scratches kind n h (length (now (buf .entry))) (now (scratch .entry)) ⌝ }
+{
+    second::second(kind, n, h, buf, scratch)
 }
 
 // A comb on its own, within w.

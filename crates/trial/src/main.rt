@@ -73,7 +73,7 @@ fn main() {
     let mut space = io::large_buffer();
     let mut entries = [0i64; 65536];
     let buf: &mut [i64] = &mut entries;
-    let mut others = [0i64; 65536];
+    let mut others = [0i64; 131088];
     let scratch: &mut [i64] = &mut others;
     let n = io::read_full(STDIN_FILENO, &mut input);
     answer_all(&input[..n], buf, scratch, &mut space);

@@ -1,6 +1,7 @@
 // An inner crate: each door of the library that is lent more than one buffer, asked for the program `trial`, and its
 // answer told (second/README.md has the form). Nothing is promised but that each function is safe and ends: what is
 // told is held to a stored output. The buffers that a request does not take are empty.
+use answers::Answer;
 use trial_lines::Row;
 
 // The names of the requests, as `trial_lines::name` reads them.
@@ -9,6 +10,8 @@ const WRITE: u64 = 24716933;
 const READ: u64 = 594980;
 
 const CASCADE: u64 = 3274802309;
+
+const SECOND: u64 = 642891204;
 
 fn write(asked: Row, entries: &[i64], bytes: &mut [u8]) {
     let v = asked.bits;
@@ -23,12 +26,24 @@ fn read(entries: &mut [i64], bytes: &[u8]) {
     trial_output::entries(entries);
 }
 
-fn cascade(asked: Row, indices: &[u64], entries: &mut [i64], scratch: &mut [i64]) {
-    let s = asked.signed;
-    let a = bonvedrick::bv_cascade(indices, s[0], entries, scratch);
+// An answer, and what stands in two buffers.
+fn told(a: Answer, entries: &[i64], scratch: &[i64]) {
     trial_output::numbers(&[a.code, a.degree, a.additions, a.height, a.peak]);
     trial_output::signed(b" ", a.gain);
     trial_output::two(entries, scratch);
+}
+
+fn cascade(asked: Row, indices: &[u64], entries: &mut [i64], scratch: &mut [i64]) {
+    let s = asked.signed;
+    let a = bonvedrick::bv_cascade(indices, s[0], entries, scratch);
+    told(a, entries, scratch);
+}
+
+fn second(asked: Row, entries: &mut [i64], scratch: &mut [i64]) {
+    let v = asked.bits;
+    let s = asked.signed;
+    let a = bonvedrick::bv_second(v[0], v[1], s[2], entries, scratch);
+    told(a, entries, scratch);
 }
 
 // A request by its name; tells whether it is one of these.
@@ -44,6 +59,7 @@ pub fn ask(
         WRITE => write(asked, entries, bytes),
         READ => read(entries, bytes),
         CASCADE => cascade(asked, indices, entries, scratch),
+        SECOND => second(asked, entries, scratch),
         _ => return false,
     }
     true
