@@ -84,3 +84,24 @@ def cascade(indices, h, room, scratch):
         return (TALL, top, 0, 0, 0, 0), [0] * (top + 1)
     peak = [abs(c) for c in coefficients].index(tallest)
     return (DONE, top, 0, tallest, peak, sum(coefficients)), coefficients
+
+
+def second(kind, n, h, room, scratch):
+    """(code, degree, additions, height, peak, gain), entries. The scratch is all zero wherever entries are written. The
+    polynomial is made by exact division, not by that engine's products, so nothing here can be out of range."""
+    if kind not in (1, 2):
+        return (KIND, 0, 0, 0, 0, 0), []
+    if not 1 <= n <= MOST_INDEX:
+        return (INDEX, 0, 0, 0, 0, 0), []
+    if h < 1:
+        return (LIMIT, 0, 0, 0, 0, 0), []
+    top = degree(kind, n)
+    if room < top + 1 or scratch < 2 * n + 16:
+        return (SHORT, top, 0, 0, 0, 0), []
+    coefficients = made(kind, n)
+    assert len(coefficients) == top + 1
+    tallest = height(coefficients)
+    if tallest > h:
+        return (TALL, top, 0, 0, 0, 0), [0] * (top + 1)
+    peak = [abs(c) for c in coefficients].index(tallest)
+    return (DONE, top, 0, tallest, peak, sum(coefficients)), coefficients

@@ -1,6 +1,6 @@
 """Requests at the edges of docs/RULES.md, 'The codes': each refusal, the order of refusals, and the figures of 'The worked polynomials'."""
 
-from kept import least_limit, over_after
+from kept import degree, least_limit, over_after
 from whole import divisors_below
 
 ROOM = 33000
@@ -177,6 +177,60 @@ CASCADES += [
     for h in (MOST, 1)
     for more in (-room, -1, 0, 2)
     for also in (-scratch, -1, 0, 2)
+]
+
+# kind, n, h, room of the buffer, room of the scratch
+SECONDS = [
+    # KIND, before all else
+    (0, 15, 1, 9, 46),
+    (3, 0, 0, 0, 0),
+    (TOP, 65536, LEAST, 0, 0),
+    # INDEX, before LIMIT and SHORT
+    (1, 0, 1, 9, 46),
+    (2, 0, 0, 0, 0),
+    (1, 65536, 1, 33000, 131088),
+    (2, TOP, LEAST, 0, 0),
+    # LIMIT, before SHORT and TALL
+    (1, 15, 0, 9, 46),
+    (2, 15, -1, 0, 0),
+    (1, 105, LEAST, 49, 226),
+    (1, 65535, 0, 33000, 131086),
+    # SHORT, before TALL: either buffer
+    (1, 105, 1, 48, 226),
+    (1, 105, 1, 49, 225),
+    (1, 105, 1, 48, 225),
+    (2, 561, 1, 300, 1137),
+    (1, 65535, MOST, 32768, 131086),
+    (1, 65535, MOST, 32769, 131085),
+    (2, 65535, MOST, 32767, 131086),
+    (2, 65535, MOST, 32768, 131085),
+    # just enough, and the last index
+    (1, 65535, MOST, 32769, 131086),
+    (2, 65535, MOST, 32768, 131086),
+    (2, 65535, MOST, 32768, 131088),
+    # TALL, and the least limit that is enough
+    (1, 105, 1, 49, 226),
+    (1, 105, 2, 49, 226),
+    (1, 210, 1, 60, 440),
+    (1, 385, 2, 300, 790),
+    (1, 385, 3, 300, 790),
+    (2, 385, 1, 300, 790),
+    (2, 561, 1, 300, 1138),
+    (2, 561, 2, 300, 1138),
+    (1, 40755, 358, 33000, 81526),
+    (1, 40755, 359, 33000, 81526),
+    (2, 40755, 201, 33000, 81526),
+    (2, 40755, 202, 33000, 81526),
+]
+
+# One entry less than is needed, just enough, and two more, in the buffer and in the scratch.
+SECONDS += [
+    (kind, n, h, degree(kind, n) + 1 + more, 2 * n + 16 + also)
+    for kind in (1, 2)
+    for n in (1, 2, 3, 8, 9, 15, 20, 45, 105, 210)
+    for h in (MOST, 1)
+    for more in (-degree(kind, n) - 1, -1, 0, 2)
+    for also in (-2 * n - 16, -1, 0, 2)
 ]
 
 # OVER, for each number of primes, 1 to 5, and both kinds: kind, r, and an index with m = 2r and, where ROOM has the entries, t > 1.

@@ -43,7 +43,12 @@ def cascade(numbers, indices, lent, scratch):
     return fields, written + lent[len(written):], [0] * len(scratch) if written else scratch
 
 
-ANSWERS = {f.__name__: f for f in (polynomial, partial, comb, accumulate, write, read, cascade)}
+def second(numbers, lent, scratch):
+    fields, written = answers.second(*numbers, len(lent), len(scratch))
+    return fields, written + lent[len(written):], [0] * len(scratch) if written else scratch
+
+
+ANSWERS = {f.__name__: f for f in (polynomial, partial, comb, accumulate, write, read, cascade, second)}
 
 
 def spelled(buffer):
@@ -61,7 +66,7 @@ def lent(buffer):
 
 
 def summed(buffer):
-    """No two of the first 131,072 powers of 31 are the same modulo the prime: its order is no less than (PRIME - 1) / 2."""
+    """No two of the first 131,088 powers of 31 are the same modulo the prime: its order is no less than (PRIME - 1) / 2."""
     total = 1
     for entry in buffer:
         total = (total * 31 + entry) % PRIME

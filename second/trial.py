@@ -20,6 +20,8 @@ def edges():
         yield "partial", numbers, (lent(room),)
     for case in refusals.CASCADES:
         yield cascades.asked(*case)
+    for *numbers, room, scratch in refusals.SECONDS:
+        yield "second", numbers, (lent(room), lent(scratch))
 
 
 def table():
@@ -31,6 +33,14 @@ def table():
                 yield "polynomial", (kind, n, LARGEST_LIMIT, LARGEST_LIMIT), ([FILLING] * room,)
 
 
+def seconds():
+    """The second engine for both kinds of each index, its scratch just long enough or a little longer."""
+    for place, n in enumerate(choice.table()):
+        for kind in (1, 2):
+            numbers = kind, n, LARGEST_LIMIT
+            yield "second", numbers, ([FILLING] * (degree(kind, n) + 4), [FILLING] * (2 * n + 16 + place % 3))
+
+
 def stops():
     """Every stop, and one more, which is refused."""
     for r in choice.PARTIAL_ORDERS:
@@ -40,5 +50,5 @@ def stops():
 
 
 def cases():
-    for some in (edges, steps.cases, shelf.cases, stops, over.cases, cascades.cases, table):
+    for some in (edges, steps.cases, shelf.cases, stops, over.cases, cascades.cases, table, seconds):
         yield from some()

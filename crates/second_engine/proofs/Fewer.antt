@@ -153,9 +153,9 @@ module _ {kind : ℕ} {primes : List ℕ} {k r free : ℕ} {a b : List ℤ} (A :
         two : (i : ℕ) → k - 1 ≡ suc i → rowTo primes (suc (suc i)) ≡ r
         two i e = let at : suc (suc i) ≡ k = omega arith in ap (rowTo primes) at ∙ sym (A .is-r)
 
-    pub one-fewer : OneFewer kind primes k r (r / P) (free / (P - 1)) P a b
-    one-fewer =
-        rw (m-is, below-is)
+    pub one-fewer : {p : ℕ} → p ≡ P → OneFewer kind primes k r (r / p) (free / (p - 1)) p a b
+    one-fewer e =
+        rw (e, m-is, below-is)
         (record {
           few = A .few;
           above = p-above;

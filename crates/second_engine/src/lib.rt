@@ -2,13 +2,23 @@
 // for the other, and for itself, at one prime fewer. No comb and no accumulate is taken.
 mod joining;
 
+ghost use Prim.Native.Nat.{_-_, _≤_};
 ghost use mathlib.Core.Path.{_≡_};
 ghost use mathlib.Core.Bool.{true};
+ghost use lib.ListN.{getD};
 ghost use Rattle.definitions.specs.Requests.{knownKind};
 ghost use Rattle.second_engine.specs.Halves.{Asked, Half};
 use joining::fill;
 use joining::join_first;
 use joining::join_inverse;
+
+// p, the largest of the first k primes: they ascend.
+fn largest(primes: [u64; 5], k: usize) -> u64
+    requires { ⌜ (1 ≤ k) × (k ≤ 5) ⌝ }
+    ensures { λ r. ⌜ r ≡ getD primes (k - 1) 0 ⌝ }
+{
+    primes[k - 1]
+}
 
 // F(r), of the first k primes, in a: with p the last of them and m = r / p, from I(m) and F(m), which are made in b; a is
 // the scratch there.
@@ -21,7 +31,7 @@ fn first(a: &mut [i64], b: &mut [i64], primes: [u64; 5], k: usize, r: u64, free:
         return;
     }
     let last = k - 1;
-    let p = primes[last];
+    let p = largest(primes, k);
     let m = r / p;
     let below = free / (p - 1);
     let whole = (m - below + 1) as usize;
@@ -41,7 +51,7 @@ fn inverse(a: &mut [i64], b: &mut [i64], primes: [u64; 5], k: usize, r: u64, fre
         return;
     }
     let last = k - 1;
-    let p = primes[last];
+    let p = largest(primes, k);
     let m = r / p;
     let below = free / (p - 1);
     let whole = (below + 1) as usize;

@@ -17,7 +17,9 @@ fn next_quotient(a: &[i64], i: usize, m: usize) -> i64
     requires { ⌜ (m ≤ i) × (i < length (now a)) ⌝ }
     ensures { λ r. ⌜ r ≡ nextQuotient m (now (a .entry)) i ⌝ }
 {
-    minus(a[i - m], a[i])
+    let earlier = a[i - m];
+    let here = a[i];
+    minus(earlier, here)
 }
 
 // The places below m.

@@ -3,13 +3,12 @@
 use Prim.Native.Nat.{ℕ, _<_}
 use borrow.Fn.Kinds.{In}
 use borrow.Fn.PlainCycle.{Measures, is, falls, and}
-use mathlib.Core.Path.{_≡_, refl, sym, _∙_, ap}
-use native.Mathlib.Omega.{arith}
+use mathlib.Core.Path.{refl, sym, _∙_}
 use native.Mathlib.Nat as NatL
+use native.Mathlib.Omega.{arith}
 use Rattle.definitions.specs.Second.{otherKind}
-use Rattle.second_engine.proofs.Fewer.{rest-room, rest-length}
-use Rattle.second_engine.proofs.Fewer.{one-fewer, below-le, front-half, front-room, rest-half, half-front, join}
-use Rattle.second_engine.proofs.Fewer.{first-whole, inverse-whole, first-one, inverse-one}
+use Rattle.second_engine.proofs.Fewer.{one-fewer, below-le, front-half, front-room, rest-room, rest-length}
+use Rattle.second_engine.proofs.Fewer.{half-front, join, first-whole, inverse-whole, first-one, inverse-one}
 use borrow.Author.Needs.{needs}
 use Rattle.second_engine.proofs.first.Reads as first
 use Rattle.second_engine.proofs.first.Kinds as first-kinds
@@ -20,6 +19,7 @@ use Rattle.second_engine.proofs.+first+inverse.Lts-inverse as inverse-l
 use Rattle.second_engine.proofs.joining.fill.Reads as fill-reads
 use Rattle.second_engine.proofs.joining.join_first.Reads as join-first-reads
 use Rattle.second_engine.proofs.joining.join_inverse.Reads as join-inverse-reads
+use Rattle.second_engine.proofs.largest.Reads as largest-reads
 use Rattle.second_engine.proofs.+first+inverse.{statement}
 use Rattle.second_engine.proofs.+first+inverse.Tie.{close}
 
@@ -42,6 +42,8 @@ abbrev inverse-below : ℕ → In 2 inverse-kinds.ps
 inverse-below t = and 2 inverse-kinds.ps (falls 2 inverse-kinds.ps _<_ μ-inverse t) inverse.Pre
 
 first-slice-set-of-a : (t : ℕ) → first-lts.Need-slice-set-of-a (
+  largest-reads.Asked,
+  largest-reads.Learnt,
   inverse-below t,
   inverse.Post,
   fill-reads.Asked,
@@ -54,6 +56,8 @@ first-slice-set-of-a : (t : ℕ) → first-lts.Need-slice-set-of-a (
 first-slice-set-of-a t c = search needs
 
 first-same-length : (t : ℕ) → first-lts.Need-same-length (
+  largest-reads.Asked,
+  largest-reads.Learnt,
   inverse-below t,
   inverse.Post,
   fill-reads.Asked,
@@ -66,6 +70,8 @@ first-same-length : (t : ℕ) → first-lts.Need-same-length (
 first-same-length t c = search needs
 
 first-returns : (t : ℕ) → first-lts.Need-returns (
+  largest-reads.Asked,
+  largest-reads.Learnt,
   inverse-below t,
   inverse.Post,
   fill-reads.Asked,
@@ -78,6 +84,8 @@ first-returns : (t : ℕ) → first-lts.Need-returns (
 first-returns t c = first-one (c .before .pre .1) (c .if1 .taken)
 
 first-sub-last : (t : ℕ) → first-lts.Need-sub-last (
+  largest-reads.Asked,
+  largest-reads.Learnt,
   inverse-below t,
   inverse.Post,
   fill-reads.Asked,
@@ -89,7 +97,9 @@ first-sub-last : (t : ℕ) → first-lts.Need-sub-last (
 ) (first-at t) first.Post
 first-sub-last t c = omega arith
 
-first-mul-p : (t : ℕ) → first-lts.Need-mul-p (
+first-largest-requires : (t : ℕ) → first-lts.Need-largest-requires (
+  largest-reads.Asked,
+  largest-reads.Learnt,
   inverse-below t,
   inverse.Post,
   fill-reads.Asked,
@@ -99,21 +109,13 @@ first-mul-p : (t : ℕ) → first-lts.Need-mul-p (
   join-first-reads.Asked,
   join-first-reads.Learnt,
 ) (first-at t) first.Post
-first-mul-p t c = omega (arith, c .before .pre .1 .few)
-
-first-array-read-p : (t : ℕ) → first-lts.Need-array-read-p (
-  inverse-below t,
-  inverse.Post,
-  fill-reads.Asked,
-  fill-reads.Learnt,
-  first-below t,
-  first.Post,
-  join-first-reads.Asked,
-  join-first-reads.Learnt,
-) (first-at t) first.Post
-first-array-read-p t c = omega (arith, c .before .pre .1 .few)
+first-largest-requires t c κs =
+    let s = c .before in
+    (omega arith, s .pre .1 .few)
 
 first-div-m : (t : ℕ) → first-lts.Need-div-m (
+  largest-reads.Asked,
+  largest-reads.Learnt,
   inverse-below t,
   inverse.Post,
   fill-reads.Asked,
@@ -123,9 +125,14 @@ first-div-m : (t : ℕ) → first-lts.Need-div-m (
   join-first-reads.Asked,
   join-first-reads.Learnt,
 ) (first-at t) first.Post
-first-div-m t c = omega (arith, one-fewer (c .before .pre .1) (c .if1 .left) .above)
+first-div-m t c =
+    let l = c in
+    let O = one-fewer (l .before .before .pre .1) (l .before .if1 .left) (l .largest .ensures) in
+    omega (arith, O .above)
 
 first-sub-below : (t : ℕ) → first-lts.Need-sub-below (
+  largest-reads.Asked,
+  largest-reads.Learnt,
   inverse-below t,
   inverse.Post,
   fill-reads.Asked,
@@ -135,9 +142,14 @@ first-sub-below : (t : ℕ) → first-lts.Need-sub-below (
   join-first-reads.Asked,
   join-first-reads.Learnt,
 ) (first-at t) first.Post
-first-sub-below t c = omega (arith, one-fewer (c .before .pre .1) (c .if1 .left) .above)
+first-sub-below t c =
+    let l = c in
+    let O = one-fewer (l .before .before .pre .1) (l .before .if1 .left) (l .largest .ensures) in
+    omega (arith, O .above)
 
 first-div-below : (t : ℕ) → first-lts.Need-div-below (
+  largest-reads.Asked,
+  largest-reads.Learnt,
   inverse-below t,
   inverse.Post,
   fill-reads.Asked,
@@ -147,9 +159,14 @@ first-div-below : (t : ℕ) → first-lts.Need-div-below (
   join-first-reads.Asked,
   join-first-reads.Learnt,
 ) (first-at t) first.Post
-first-div-below t c = omega (arith, one-fewer (c .before .pre .1) (c .if1 .left) .above)
+first-div-below t c =
+    let l = c in
+    let O = one-fewer (l .before .before .pre .1) (l .before .if1 .left) (l .largest .ensures) in
+    omega (arith, O .above)
 
 first-sub-whole : (t : ℕ) → first-lts.Need-sub-whole (
+  largest-reads.Asked,
+  largest-reads.Learnt,
   inverse-below t,
   inverse.Post,
   fill-reads.Asked,
@@ -159,9 +176,14 @@ first-sub-whole : (t : ℕ) → first-lts.Need-sub-whole (
   join-first-reads.Asked,
   join-first-reads.Learnt,
 ) (first-at t) first.Post
-first-sub-whole t c = below-le (one-fewer (c .before .pre .1) (c .if1 .left))
+first-sub-whole t c =
+    let l = c in
+    let O = one-fewer (l .before .before .pre .1) (l .before .if1 .left) (l .largest .ensures) in
+    below-le O
 
 first-add-whole : (t : ℕ) → first-lts.Need-add-whole (
+  largest-reads.Asked,
+  largest-reads.Learnt,
   inverse-below t,
   inverse.Post,
   fill-reads.Asked,
@@ -172,10 +194,13 @@ first-add-whole : (t : ℕ) → first-lts.Need-add-whole (
   join-first-reads.Learnt,
 ) (first-at t) first.Post
 first-add-whole t c =
-    let O = one-fewer (c .before .pre .1) (c .if1 .left) in
+    let l = c in
+    let O = one-fewer (l .before .before .pre .1) (l .before .if1 .left) (l .largest .ensures) in
     omega (arith, O .small, below-le O)
 
 first-inverse-requires : (t : ℕ) → first-lts.Need-inverse-requires (
+  largest-reads.Asked,
+  largest-reads.Learnt,
   inverse-below t,
   inverse.Post,
   fill-reads.Asked,
@@ -186,11 +211,13 @@ first-inverse-requires : (t : ℕ) → first-lts.Need-inverse-requires (
   join-first-reads.Learnt,
 ) (first-at t) first.Post
 first-inverse-requires t c κs =
-    let s = c .before .before .before in
-    let O = one-fewer (s .pre .1) (c .before .before .if1 .left) in
-    (omega (arith, s .pre .0), O .ask 2 _ _ refl (front-half O 2))
+    let l = c .before .before in
+    let O = one-fewer (l .before .before .pre .1) (l .before .if1 .left) (l .largest .ensures) in
+    (omega (arith, l .before .before .pre .0), O .ask 2 _ _ refl (front-half O 2))
 
 first-fill-requires : (t : ℕ) → first-lts.Need-fill-requires (
+  largest-reads.Asked,
+  largest-reads.Learnt,
   inverse-below t,
   inverse.Post,
   fill-reads.Asked,
@@ -201,12 +228,17 @@ first-fill-requires : (t : ℕ) → first-lts.Need-fill-requires (
   join-first-reads.Learnt,
 ) (first-at t) first.Post
 first-fill-requires t c κs =
-    let s = c .before .before .before .before .before .before .before in
-    let O = one-fewer (s .pre .1) (c .before .before .before .before .before .before .if1 .left) in
+    let l = c .before .before .before .before .before .before in
+    let O = one-fewer (l .before .before .pre .1) (l .before .if1 .left) (l .largest .ensures) in
     let i = c .before .before .before .inverse in
-    ((O .pos, O .small, first-whole O ∙ sym (NatL.zero-add _), rw (first-whole O, i .kept .0) (front-room O 2)), half-front 2 _ _ (i .ensures))
+    (
+      (O .pos, O .small, first-whole O ∙ sym (NatL.zero-add _), rw (first-whole O, i .kept .0) (front-room O 2)),
+      half-front 2 _ _ (i .ensures),
+    )
 
 first-mul-first : (t : ℕ) → first-lts.Need-mul-first (
+  largest-reads.Asked,
+  largest-reads.Learnt,
   inverse-below t,
   inverse.Post,
   fill-reads.Asked,
@@ -217,11 +249,13 @@ first-mul-first : (t : ℕ) → first-lts.Need-mul-first (
   join-first-reads.Learnt,
 ) (first-at t) first.Post
 first-mul-first t c =
-    let s = c .before .before .before .before .before .before .before .before .before in
-    let O = one-fewer (s .pre .1) (c .before .before .before .before .before .before .before .before .if1 .left) in
+    let l = c .before .before .before .before .before .before .before .before in
+    let O = one-fewer (l .before .before .pre .1) (l .before .if1 .left) (l .largest .ensures) in
     omega (arith, O .small, below-le O)
 
 first-sub-first : (t : ℕ) → first-lts.Need-sub-first (
+  largest-reads.Asked,
+  largest-reads.Learnt,
   inverse-below t,
   inverse.Post,
   fill-reads.Asked,
@@ -232,11 +266,13 @@ first-sub-first : (t : ℕ) → first-lts.Need-sub-first (
   join-first-reads.Learnt,
 ) (first-at t) first.Post
 first-sub-first t c =
-    let s = c .before .before .before .before .before .before .before .before .before in
-    let O = one-fewer (s .pre .1) (c .before .before .before .before .before .before .before .before .if1 .left) in
+    let l = c .before .before .before .before .before .before .before .before in
+    let O = one-fewer (l .before .before .pre .1) (l .before .if1 .left) (l .largest .ensures) in
     rw (first-whole O, c .before .fill .kept .0, c .before .before .before .before .before .inverse .kept .0) (front-room O 2)
 
 first-part-first-start : (t : ℕ) → first-lts.Need-part-first-start (
+  largest-reads.Asked,
+  largest-reads.Learnt,
   inverse-below t,
   inverse.Post,
   fill-reads.Asked,
@@ -247,11 +283,13 @@ first-part-first-start : (t : ℕ) → first-lts.Need-part-first-start (
   join-first-reads.Learnt,
 ) (first-at t) first.Post
 first-part-first-start t c =
-    let s = c .before .before .before .before .before .before .before .before .before in
-    let O = one-fewer (s .pre .1) (c .before .before .before .before .before .before .before .before .if1 .left) in
+    let l = c .before .before .before .before .before .before .before .before in
+    let O = one-fewer (l .before .before .pre .1) (l .before .if1 .left) (l .largest .ensures) in
     rw (first-whole O, c .before .fill .kept .0, c .before .before .before .before .before .inverse .kept .0) (front-room O 2)
 
 first-part-first-end : (t : ℕ) → first-lts.Need-part-first-end (
+  largest-reads.Asked,
+  largest-reads.Learnt,
   inverse-below t,
   inverse.Post,
   fill-reads.Asked,
@@ -264,6 +302,8 @@ first-part-first-end : (t : ℕ) → first-lts.Need-part-first-end (
 first-part-first-end t c = search needs
 
 first-first-requires : (t : ℕ) → first-lts.Need-first-requires (
+  largest-reads.Asked,
+  largest-reads.Learnt,
   inverse-below t,
   inverse.Post,
   fill-reads.Asked,
@@ -275,13 +315,18 @@ first-first-requires : (t : ℕ) → first-lts.Need-first-requires (
 ) (first-at t) first.Post
 unfolding otherKind
 first-first-requires t c κs =
-    let s = c .before .before .before .before .before .before .before .before .before .before .before in
-    let O = one-fewer (s .pre .1) (c .before .before .before .before .before .before .before .before .before .before .if1 .left) in
+    let l = c .before .before .before .before .before .before .before .before .before .before in
+    let O = one-fewer (l .before .before .pre .1) (l .before .if1 .left) (l .largest .ensures) in
     let i = c .before .before .before .before .before .before .before .inverse in
     let f = c .before .before .before .fill in
-    (omega (arith, s .pre .0), O .ask 1 _ _ (i .kept .1 .0) (rest-room O (f .last .0) _ (f .kept .0 ∙ i .kept .0) (first-whole O)))
+    (
+      omega (arith, l .before .before .pre .0),
+      O .ask 1 _ _ (i .kept .1 .0) (rest-room O (f .last .0) _ (f .kept .0 ∙ i .kept .0) (first-whole O)),
+    )
 
 first-join-first-requires : (t : ℕ) → first-lts.Need-join-first-requires (
+  largest-reads.Asked,
+  largest-reads.Learnt,
   inverse-below t,
   inverse.Post,
   fill-reads.Asked,
@@ -293,15 +338,18 @@ first-join-first-requires : (t : ℕ) → first-lts.Need-join-first-requires (
 ) (first-at t) first.Post
 unfolding otherKind
 first-join-first-requires t c κs =
-    let e = c .before .before .before .before .before .before .before .before .before .before .before .before .before .before .before in
-    let s = e .before in
-    let O = one-fewer (s .pre .1) (e .if1 .left) in
+    let l = c .before .before .before .before .before .before .before .before .before .before .before .before .before .before .before in
+    let O = one-fewer (l .before .before .pre .1) (l .before .if1 .left) (l .largest .ensures) in
     let i = c .before .before .before .before .before .before .before .before .before .before .before .before .inverse in
     let f = c .before .before .before .before .before .before .before .before .fill in
     let q = c .before .before .before .before .first in
-    join O _ _ (first-whole O) (f .ensures) (f .kept .0 ∙ i .kept .0) (q .kept .0 ∙ rest-length O (f .last .0) _ (f .kept .0 ∙ i .kept .0) (first-whole O)) (q .kept .1 .0 ∙ i .kept .1 .0) (q .ensures)
+    let same = f .kept .0 ∙ i .kept .0 in
+    join O _ _ (first-whole O) (f .ensures) same (q .kept .0 ∙ rest-length O (f .last .0) _ same (first-whole O))
+    (q .kept .1 .0 ∙ i .kept .1 .0) (q .ensures)
 
 first-same-length-2 : (t : ℕ) → first-lts.Need-same-length-2 (
+  largest-reads.Asked,
+  largest-reads.Learnt,
   inverse-below t,
   inverse.Post,
   fill-reads.Asked,
@@ -314,6 +362,8 @@ first-same-length-2 : (t : ℕ) → first-lts.Need-same-length-2 (
 first-same-length-2 t c = search needs
 
 first-same-length-3 : (t : ℕ) → first-lts.Need-same-length-3 (
+  largest-reads.Asked,
+  largest-reads.Learnt,
   inverse-below t,
   inverse.Post,
   fill-reads.Asked,
@@ -326,6 +376,8 @@ first-same-length-3 : (t : ℕ) → first-lts.Need-same-length-3 (
 first-same-length-3 t c = search needs
 
 first-returns-2 : (t : ℕ) → first-lts.Need-returns-2 (
+  largest-reads.Asked,
+  largest-reads.Learnt,
   inverse-below t,
   inverse.Post,
   fill-reads.Asked,
@@ -336,12 +388,13 @@ first-returns-2 : (t : ℕ) → first-lts.Need-returns-2 (
   join-first-reads.Learnt,
 ) (first-at t) first.Post
 first-returns-2 t c =
-    let e = c .before .before .before .before .before .before .before .before .before .before .before .before .before .before .before .before .before .before in
-    let s = e .before in
-    let O = one-fewer (s .pre .1) (e .if1 .left) in
+    let l = c .before .before .before .before .before .before .before .before .before .before .before .before .before .before .before .before .before .before in
+    let O = one-fewer (l .before .before .pre .1) (l .before .if1 .left) (l .largest .ensures) in
     rw (O .is-r) (c .before .before .join-first .ensures)
 
 inverse-slice-set-of-a : (t : ℕ) → inverse-lts.Need-slice-set-of-a (
+  largest-reads.Asked,
+  largest-reads.Learnt,
   first-below t,
   first.Post,
   fill-reads.Asked,
@@ -354,6 +407,8 @@ inverse-slice-set-of-a : (t : ℕ) → inverse-lts.Need-slice-set-of-a (
 inverse-slice-set-of-a t c = search needs
 
 inverse-same-length : (t : ℕ) → inverse-lts.Need-same-length (
+  largest-reads.Asked,
+  largest-reads.Learnt,
   first-below t,
   first.Post,
   fill-reads.Asked,
@@ -366,6 +421,8 @@ inverse-same-length : (t : ℕ) → inverse-lts.Need-same-length (
 inverse-same-length t c = search needs
 
 inverse-returns : (t : ℕ) → inverse-lts.Need-returns (
+  largest-reads.Asked,
+  largest-reads.Learnt,
   first-below t,
   first.Post,
   fill-reads.Asked,
@@ -378,6 +435,8 @@ inverse-returns : (t : ℕ) → inverse-lts.Need-returns (
 inverse-returns t c = inverse-one (c .before .pre .1) (c .if1 .taken)
 
 inverse-sub-last : (t : ℕ) → inverse-lts.Need-sub-last (
+  largest-reads.Asked,
+  largest-reads.Learnt,
   first-below t,
   first.Post,
   fill-reads.Asked,
@@ -389,7 +448,9 @@ inverse-sub-last : (t : ℕ) → inverse-lts.Need-sub-last (
 ) (inverse-at t) inverse.Post
 inverse-sub-last t c = omega arith
 
-inverse-mul-p : (t : ℕ) → inverse-lts.Need-mul-p (
+inverse-largest-requires : (t : ℕ) → inverse-lts.Need-largest-requires (
+  largest-reads.Asked,
+  largest-reads.Learnt,
   first-below t,
   first.Post,
   fill-reads.Asked,
@@ -399,21 +460,13 @@ inverse-mul-p : (t : ℕ) → inverse-lts.Need-mul-p (
   join-inverse-reads.Asked,
   join-inverse-reads.Learnt,
 ) (inverse-at t) inverse.Post
-inverse-mul-p t c = omega (arith, c .before .pre .1 .few)
-
-inverse-array-read-p : (t : ℕ) → inverse-lts.Need-array-read-p (
-  first-below t,
-  first.Post,
-  fill-reads.Asked,
-  fill-reads.Learnt,
-  inverse-below t,
-  inverse.Post,
-  join-inverse-reads.Asked,
-  join-inverse-reads.Learnt,
-) (inverse-at t) inverse.Post
-inverse-array-read-p t c = omega (arith, c .before .pre .1 .few)
+inverse-largest-requires t c κs =
+    let s = c .before in
+    (omega arith, s .pre .1 .few)
 
 inverse-div-m : (t : ℕ) → inverse-lts.Need-div-m (
+  largest-reads.Asked,
+  largest-reads.Learnt,
   first-below t,
   first.Post,
   fill-reads.Asked,
@@ -423,9 +476,14 @@ inverse-div-m : (t : ℕ) → inverse-lts.Need-div-m (
   join-inverse-reads.Asked,
   join-inverse-reads.Learnt,
 ) (inverse-at t) inverse.Post
-inverse-div-m t c = omega (arith, one-fewer (c .before .pre .1) (c .if1 .left) .above)
+inverse-div-m t c =
+    let l = c in
+    let O = one-fewer (l .before .before .pre .1) (l .before .if1 .left) (l .largest .ensures) in
+    omega (arith, O .above)
 
 inverse-sub-below : (t : ℕ) → inverse-lts.Need-sub-below (
+  largest-reads.Asked,
+  largest-reads.Learnt,
   first-below t,
   first.Post,
   fill-reads.Asked,
@@ -435,9 +493,14 @@ inverse-sub-below : (t : ℕ) → inverse-lts.Need-sub-below (
   join-inverse-reads.Asked,
   join-inverse-reads.Learnt,
 ) (inverse-at t) inverse.Post
-inverse-sub-below t c = omega (arith, one-fewer (c .before .pre .1) (c .if1 .left) .above)
+inverse-sub-below t c =
+    let l = c in
+    let O = one-fewer (l .before .before .pre .1) (l .before .if1 .left) (l .largest .ensures) in
+    omega (arith, O .above)
 
 inverse-div-below : (t : ℕ) → inverse-lts.Need-div-below (
+  largest-reads.Asked,
+  largest-reads.Learnt,
   first-below t,
   first.Post,
   fill-reads.Asked,
@@ -447,9 +510,14 @@ inverse-div-below : (t : ℕ) → inverse-lts.Need-div-below (
   join-inverse-reads.Asked,
   join-inverse-reads.Learnt,
 ) (inverse-at t) inverse.Post
-inverse-div-below t c = omega (arith, one-fewer (c .before .pre .1) (c .if1 .left) .above)
+inverse-div-below t c =
+    let l = c in
+    let O = one-fewer (l .before .before .pre .1) (l .before .if1 .left) (l .largest .ensures) in
+    omega (arith, O .above)
 
 inverse-add-whole : (t : ℕ) → inverse-lts.Need-add-whole (
+  largest-reads.Asked,
+  largest-reads.Learnt,
   first-below t,
   first.Post,
   fill-reads.Asked,
@@ -460,10 +528,13 @@ inverse-add-whole : (t : ℕ) → inverse-lts.Need-add-whole (
   join-inverse-reads.Learnt,
 ) (inverse-at t) inverse.Post
 inverse-add-whole t c =
-    let O = one-fewer (c .before .pre .1) (c .if1 .left) in
+    let l = c in
+    let O = one-fewer (l .before .before .pre .1) (l .before .if1 .left) (l .largest .ensures) in
     omega (arith, O .small, below-le O)
 
 inverse-first-requires : (t : ℕ) → inverse-lts.Need-first-requires (
+  largest-reads.Asked,
+  largest-reads.Learnt,
   first-below t,
   first.Post,
   fill-reads.Asked,
@@ -474,11 +545,13 @@ inverse-first-requires : (t : ℕ) → inverse-lts.Need-first-requires (
   join-inverse-reads.Learnt,
 ) (inverse-at t) inverse.Post
 inverse-first-requires t c κs =
-    let s = c .before .before .before in
-    let O = one-fewer (s .pre .1) (c .before .before .if1 .left) in
-    (omega (arith, s .pre .0), O .ask 1 _ _ refl (front-half O 1))
+    let l = c .before .before in
+    let O = one-fewer (l .before .before .pre .1) (l .before .if1 .left) (l .largest .ensures) in
+    (omega (arith, l .before .before .pre .0), O .ask 1 _ _ refl (front-half O 1))
 
 inverse-fill-requires : (t : ℕ) → inverse-lts.Need-fill-requires (
+  largest-reads.Asked,
+  largest-reads.Learnt,
   first-below t,
   first.Post,
   fill-reads.Asked,
@@ -489,12 +562,17 @@ inverse-fill-requires : (t : ℕ) → inverse-lts.Need-fill-requires (
   join-inverse-reads.Learnt,
 ) (inverse-at t) inverse.Post
 inverse-fill-requires t c κs =
-    let s = c .before .before .before .before .before .before .before in
-    let O = one-fewer (s .pre .1) (c .before .before .before .before .before .before .if1 .left) in
+    let l = c .before .before .before .before .before .before in
+    let O = one-fewer (l .before .before .pre .1) (l .before .if1 .left) (l .largest .ensures) in
     let i = c .before .before .before .first in
-    ((O .pos, O .small, inverse-whole O ∙ sym (NatL.zero-add _), rw (inverse-whole O, i .kept .0) (front-room O 1)), half-front 1 _ _ (i .ensures))
+    (
+      (O .pos, O .small, inverse-whole O ∙ sym (NatL.zero-add _), rw (inverse-whole O, i .kept .0) (front-room O 1)),
+      half-front 1 _ _ (i .ensures),
+    )
 
 inverse-mul-inverse : (t : ℕ) → inverse-lts.Need-mul-inverse (
+  largest-reads.Asked,
+  largest-reads.Learnt,
   first-below t,
   first.Post,
   fill-reads.Asked,
@@ -505,11 +583,13 @@ inverse-mul-inverse : (t : ℕ) → inverse-lts.Need-mul-inverse (
   join-inverse-reads.Learnt,
 ) (inverse-at t) inverse.Post
 inverse-mul-inverse t c =
-    let s = c .before .before .before .before .before .before .before .before .before in
-    let O = one-fewer (s .pre .1) (c .before .before .before .before .before .before .before .before .if1 .left) in
+    let l = c .before .before .before .before .before .before .before .before in
+    let O = one-fewer (l .before .before .pre .1) (l .before .if1 .left) (l .largest .ensures) in
     omega (arith, O .small, below-le O)
 
 inverse-sub-inverse : (t : ℕ) → inverse-lts.Need-sub-inverse (
+  largest-reads.Asked,
+  largest-reads.Learnt,
   first-below t,
   first.Post,
   fill-reads.Asked,
@@ -520,11 +600,13 @@ inverse-sub-inverse : (t : ℕ) → inverse-lts.Need-sub-inverse (
   join-inverse-reads.Learnt,
 ) (inverse-at t) inverse.Post
 inverse-sub-inverse t c =
-    let s = c .before .before .before .before .before .before .before .before .before in
-    let O = one-fewer (s .pre .1) (c .before .before .before .before .before .before .before .before .if1 .left) in
+    let l = c .before .before .before .before .before .before .before .before in
+    let O = one-fewer (l .before .before .pre .1) (l .before .if1 .left) (l .largest .ensures) in
     rw (inverse-whole O, c .before .fill .kept .0, c .before .before .before .before .before .first .kept .0) (front-room O 1)
 
 inverse-part-inverse-start : (t : ℕ) → inverse-lts.Need-part-inverse-start (
+  largest-reads.Asked,
+  largest-reads.Learnt,
   first-below t,
   first.Post,
   fill-reads.Asked,
@@ -535,11 +617,13 @@ inverse-part-inverse-start : (t : ℕ) → inverse-lts.Need-part-inverse-start (
   join-inverse-reads.Learnt,
 ) (inverse-at t) inverse.Post
 inverse-part-inverse-start t c =
-    let s = c .before .before .before .before .before .before .before .before .before in
-    let O = one-fewer (s .pre .1) (c .before .before .before .before .before .before .before .before .if1 .left) in
+    let l = c .before .before .before .before .before .before .before .before in
+    let O = one-fewer (l .before .before .pre .1) (l .before .if1 .left) (l .largest .ensures) in
     rw (inverse-whole O, c .before .fill .kept .0, c .before .before .before .before .before .first .kept .0) (front-room O 1)
 
 inverse-part-inverse-end : (t : ℕ) → inverse-lts.Need-part-inverse-end (
+  largest-reads.Asked,
+  largest-reads.Learnt,
   first-below t,
   first.Post,
   fill-reads.Asked,
@@ -552,6 +636,8 @@ inverse-part-inverse-end : (t : ℕ) → inverse-lts.Need-part-inverse-end (
 inverse-part-inverse-end t c = search needs
 
 inverse-inverse-requires : (t : ℕ) → inverse-lts.Need-inverse-requires (
+  largest-reads.Asked,
+  largest-reads.Learnt,
   first-below t,
   first.Post,
   fill-reads.Asked,
@@ -563,13 +649,18 @@ inverse-inverse-requires : (t : ℕ) → inverse-lts.Need-inverse-requires (
 ) (inverse-at t) inverse.Post
 unfolding otherKind
 inverse-inverse-requires t c κs =
-    let s = c .before .before .before .before .before .before .before .before .before .before .before in
-    let O = one-fewer (s .pre .1) (c .before .before .before .before .before .before .before .before .before .before .if1 .left) in
+    let l = c .before .before .before .before .before .before .before .before .before .before in
+    let O = one-fewer (l .before .before .pre .1) (l .before .if1 .left) (l .largest .ensures) in
     let i = c .before .before .before .before .before .before .before .first in
     let f = c .before .before .before .fill in
-    (omega (arith, s .pre .0), O .ask 2 _ _ (i .kept .1 .0) (rest-room O (f .last .0) _ (f .kept .0 ∙ i .kept .0) (inverse-whole O)))
+    (
+      omega (arith, l .before .before .pre .0),
+      O .ask 2 _ _ (i .kept .1 .0) (rest-room O (f .last .0) _ (f .kept .0 ∙ i .kept .0) (inverse-whole O)),
+    )
 
 inverse-join-inverse-requires : (t : ℕ) → inverse-lts.Need-join-inverse-requires (
+  largest-reads.Asked,
+  largest-reads.Learnt,
   first-below t,
   first.Post,
   fill-reads.Asked,
@@ -581,15 +672,18 @@ inverse-join-inverse-requires : (t : ℕ) → inverse-lts.Need-join-inverse-requ
 ) (inverse-at t) inverse.Post
 unfolding otherKind
 inverse-join-inverse-requires t c κs =
-    let e = c .before .before .before .before .before .before .before .before .before .before .before .before .before .before .before in
-    let s = e .before in
-    let O = one-fewer (s .pre .1) (e .if1 .left) in
+    let l = c .before .before .before .before .before .before .before .before .before .before .before .before .before .before .before in
+    let O = one-fewer (l .before .before .pre .1) (l .before .if1 .left) (l .largest .ensures) in
     let i = c .before .before .before .before .before .before .before .before .before .before .before .before .first in
     let f = c .before .before .before .before .before .before .before .before .fill in
     let q = c .before .before .before .before .inverse in
-    join O _ _ (inverse-whole O) (f .ensures) (f .kept .0 ∙ i .kept .0) (q .kept .0 ∙ rest-length O (f .last .0) _ (f .kept .0 ∙ i .kept .0) (inverse-whole O)) (q .kept .1 .0 ∙ i .kept .1 .0) (q .ensures)
+    let same = f .kept .0 ∙ i .kept .0 in
+    join O _ _ (inverse-whole O) (f .ensures) same (q .kept .0 ∙ rest-length O (f .last .0) _ same (inverse-whole O))
+    (q .kept .1 .0 ∙ i .kept .1 .0) (q .ensures)
 
 inverse-same-length-2 : (t : ℕ) → inverse-lts.Need-same-length-2 (
+  largest-reads.Asked,
+  largest-reads.Learnt,
   first-below t,
   first.Post,
   fill-reads.Asked,
@@ -602,6 +696,8 @@ inverse-same-length-2 : (t : ℕ) → inverse-lts.Need-same-length-2 (
 inverse-same-length-2 t c = search needs
 
 inverse-same-length-3 : (t : ℕ) → inverse-lts.Need-same-length-3 (
+  largest-reads.Asked,
+  largest-reads.Learnt,
   first-below t,
   first.Post,
   fill-reads.Asked,
@@ -614,6 +710,8 @@ inverse-same-length-3 : (t : ℕ) → inverse-lts.Need-same-length-3 (
 inverse-same-length-3 t c = search needs
 
 inverse-returns-2 : (t : ℕ) → inverse-lts.Need-returns-2 (
+  largest-reads.Asked,
+  largest-reads.Learnt,
   first-below t,
   first.Post,
   fill-reads.Asked,
@@ -624,13 +722,14 @@ inverse-returns-2 : (t : ℕ) → inverse-lts.Need-returns-2 (
   join-inverse-reads.Learnt,
 ) (inverse-at t) inverse.Post
 inverse-returns-2 t c =
-    let e = c .before .before .before .before .before .before .before .before .before .before .before .before .before .before .before .before .before .before in
-    let s = e .before in
-    let O = one-fewer (s .pre .1) (e .if1 .left) in
+    let l = c .before .before .before .before .before .before .before .before .before .before .before .before .before .before .before .before .before .before in
+    let O = one-fewer (l .before .before .pre .1) (l .before .if1 .left) (l .largest .ensures) in
     rw (O .is-r) (c .before .before .join-inverse .ensures)
 
 pub +first+inverse-spec : {M : Type 1} → statement M
 +first+inverse-spec = close μ-first μ-inverse (λ t. first-lts.spec (
+  largest-reads.Asked,
+  largest-reads.Learnt,
   inverse-below t,
   inverse.Post,
   fill-reads.Asked,
@@ -646,8 +745,7 @@ pub +first+inverse-spec : {M : Type 1} → statement M
     (first-same-length t)
     (first-returns t)
     (first-sub-last t)
-    (first-mul-p t)
-    (first-array-read-p t)
+    (first-largest-requires t)
     (first-div-m t)
     (first-sub-below t)
     (first-div-below t)
@@ -665,6 +763,8 @@ pub +first+inverse-spec : {M : Type 1} → statement M
     (first-same-length-3 t)
     (first-returns-2 t))
     λ t. inverse-lts.spec (
+      largest-reads.Asked,
+      largest-reads.Learnt,
       first-below t,
       first.Post,
       fill-reads.Asked,
@@ -680,8 +780,7 @@ pub +first+inverse-spec : {M : Type 1} → statement M
     (inverse-same-length t)
     (inverse-returns t)
     (inverse-sub-last t)
-    (inverse-mul-p t)
-    (inverse-array-read-p t)
+    (inverse-largest-requires t)
     (inverse-div-m t)
     (inverse-sub-below t)
     (inverse-div-below t)
