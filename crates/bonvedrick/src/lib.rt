@@ -57,7 +57,13 @@ pub extern "C" fn bv_cascade(
 
 // The polynomial of a kind and an index by the second engine, no taller than h; the scratch is lent for the road.
 #[no_mangle]
-pub extern "C" fn bv_second(kind: u64, n: u64, h: i64, buf: &mut [i64], scratch: &mut [i64]) -> Answer
+pub extern "C" fn bv_second(
+    kind: u64,
+    n: u64,
+    h: i64,
+    buf: &mut [i64],
+    scratch: &mut [i64],
+) -> Answer
     ensures answer { λ r.
         ⌜ r ≡ Second.answer kind n h (length (now (buf .entry))) (length (now (scratch .entry))) ⌝ }
     ensures leaves { λ _.

@@ -1,7 +1,7 @@
 // Inner: each `requires` is shown by `kept_half`. The walk over the divisors of r below r, one after the other in
 // ascending order. A divisor is named by the set of its primes, one bit for each.
 use index::Parts;
-ghost use Prim.Native.Nat.{_+_, _*_, _-_, _^_, _<_, _≤_};
+ghost use Prim.Native.Nat.{_*_, _-_, _^_, _<_, _≤_};
 ghost use mathlib.Core.Path.{_≡_};
 ghost use mathlib.Core.Bool.{cond};
 ghost use lib.Dec.{eqb};

@@ -43,7 +43,8 @@ module _ (l : List ℕ) where
       ringˢ
       (termsOf l k s (other (other σ)) ∷ termsOf l k q (other σ) ∷ termsOf l k s (other σ) ∷ termsOf l k q σ ∷ [])
       (x :* y :* (z :* w)) (x :* z :* (y :* w)) refl
-      ∙ ap₂ _·_ (inverse-all k (fewer l h) s b (other σ)) (inverse-all k (fewer l h) q (NatL.mul-pos b (last-pos l h)) σ)
+      ∙ ap₂ _·_ (inverse-all k (fewer l h) s b (other σ)) (inverse-all k (fewer l h) q (NatL.mul-pos b
+      (last-pos l h)) σ)
       ∙ one-· 𝟙
 
 -- the sign: of no prime at all the terms are 1 - z = -F(1)

@@ -8,7 +8,6 @@ use lib.ListN.{length}
 use lib.Dec.{eqb}
 use lib.IntN.{ℤ}
 use Rattle.definitions.specs.Numbers.{rOf, divisorsBelow}
-use Rattle.definitions.specs.Polynomials.{degree}
 use Rattle.definitions.specs.KeptHalf.{halfDegree}
 use Rattle.definitions.specs.Requests.{divisorsDue}
 use Rattle.numbers.specs.Apart.{r-odd-squarefree}
@@ -16,7 +15,7 @@ use Rattle.divisors.specs.Walks.{walkAt, overParts}
 use Rattle.divisors.proofs.Walking.{over-start}
 use Rattle.divisors.specs.declared.Walk.{Walk}
 use Rattle.index.specs.declared.Parts.{Parts}
-use Rattle.index.proofs.Laws.{index-good, r-small, parts-r, parts-half}
+use Rattle.index.proofs.Laws.{index-good, r-small, parts-half}
 use Rattle.kept_half.specs.Halves.{StepsDue, WalkAtStart, KeptHalfIs}
 use Rattle.kept_half.specs.declared.RunOutcome.{RunOutcome}
 

@@ -1,6 +1,6 @@
 -- No coefficient of F(n) or I(n) is larger than what is promised of the steps of n (`height-promised`), and so none is
 -- out of range (`height-fits`, `coefficient-fits`), nor is twice one (`twice-fits`).
-use Prim.Native.Nat.{ℕ, zero, suc, _+_, _*_, _<_, _≤_}
+use Prim.Native.Nat.{ℕ, zero, suc, _*_, _<_, _≤_}
 use mathlib.Core.Path.{_≡_}
 use mathlib.Core.Bool.{Bool, true, false}
 use native.Mathlib.Omega.{arith}
@@ -34,7 +34,8 @@ doubled false k = both-doubled k .1
 
 module _ (n : ℕ) (pos : 0 < n) (small : n ≤ 65535) where
   pub never : (kind : ℕ) → overAmong largest kind (rOf n) (divisorsDue (rOf n)) ≡ false
-  never kind = not-over kind n pos small largest (promised-fits (eqb kind 1) (kOf n)) (divisorsDue (rOf n)) (omega arith)
+  never kind = not-over kind n pos small largest (promised-fits (eqb kind 1) (kOf n)) (divisorsDue (rOf n))
+      (omega arith)
 
   pub height-fits : (kind : ℕ) → height kind n ≤ largest
   height-fits kind = height-inside largest kind n pos (omega arith) (never kind)

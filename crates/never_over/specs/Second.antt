@@ -1,18 +1,18 @@
 -- The second engine never has a coefficient out of range (`second-never`): what it makes on the way is F and I of rows
 -- of primes, which are in range; its product for I is I itself; and that for F is F(mp) times z^m - 1, a difference of
 -- two coefficients of F(mp), so that twice the height of F(mp) bounds it.
-use Prim.Native.Nat.{ℕ, zero, suc, _*_, _-_, _<_, _≤_, _∣_}
-use mathlib.Core.Path.{_≡_, refl, sym, _∙_, ap}
-use mathlib.Core.Bool.{Bool, true, false, cond, _||_}
-use mathlib.Core.List.{List, [], _∷_}
+use Prim.Native.Nat.{ℕ, zero, suc, _*_, _-_, _<_, _≤_}
+use mathlib.Core.Path.{_≡_, refl, ap}
+use mathlib.Core.Bool.{Bool, true, false, cond}
+use mathlib.Core.List.{List}
 use native.Mathlib.Omega.{arith}
 use native.Mathlib.Nat as NatL
 use lib.Dec.{eqb}
 use lib.IntN.{natAbs}
 use Rattle.definitions.specs.Series.{Series, _·_, z^}
-use Rattle.definitions.specs.Numbers.{listTo, rowTo, oddPrimeOf, rOf, kOf}
+use Rattle.definitions.specs.Numbers.{listTo, rowTo, oddPrimeOf, kOf}
 use Rattle.definitions.specs.Polynomials.{z^-1, F, I, polynomial}
-use Rattle.definitions.specs.Steps.{inRange, largest}
+use Rattle.definitions.specs.Steps.{largest}
 use Rattle.definitions.specs.Second.{otherKind, made, beforeDivision, outside, madeOver, secondOver}
 use Rattle.series.specs.Maps.{shift-below, shift-from}
 use Rattle.numbers.specs.Apart.{r-divides}
@@ -58,8 +58,11 @@ module _ (ps : List ℕ) where
   made-never zero h small kind = refl
   made-never (suc j) h small kind =
       let before : rowTo ps j ≤ 65535 = NatL.le-trans (row-le ps (suc j) h j (omega arith)) small in
-      rw (made-never j (fewer ps h) before kind, made-never j (fewer ps h) before (otherKind kind),
-      none-outside (rowTo ps (suc j)) (beforeDivision kind ps j) (product-inside kind j h small))
+      rw (
+        made-never j (fewer ps h) before kind,
+        made-never j (fewer ps h) before (otherKind kind),
+        none-outside (rowTo ps (suc j)) (beforeDivision kind ps j) (product-inside kind j h small),
+      )
       (none-outside (rowTo ps (suc j)) (made kind ps (suc j))
       (λ i. rw (made-is ps kind (suc j) h)
       (coefficient-fits (rowTo ps (suc j)) (row-pos ps (suc j) h) small kind i)))
@@ -67,5 +70,5 @@ module _ (ps : List ℕ) where
 pub second-never : (kind n : ℕ) → 0 < n → n ≤ 65535 → secondOver kind n ≡ false
 unfolding secondOver
 second-never kind n pos small =
-    made-never (listTo n (oddPrimeOf n)) (kOf n) (list-new n) 
+    made-never (listTo n (oddPrimeOf n)) (kOf n) (list-new n)
     (rw (list-r n) (NatL.le-trans (NatL.le-of-dvd pos (r-divides n)) small)) kind

@@ -1,8 +1,8 @@
 -- No request for F(n) is refused, once the index is good and there is room, where both limits are the largest: OVER is
 -- never met, and the height is in range (crate `never_over`, Heights).
-use Prim.Native.Nat.{ℕ, zero, suc, _+_, _-_, _<_, _≤_}
+use Prim.Native.Nat.{ℕ, suc, _+_, _-_, _<_, _≤_}
 use mathlib.Core.Path.{_≡_, refl, sym, _∙_, ap}
-use mathlib.Core.Bool.{Bool, true, false, cond}
+use mathlib.Core.Bool.{true, false}
 use mathlib.Core.List.{List, _++_}
 use native.Mathlib.Omega.{arith}
 use native.Mathlib.Nat as NatL
@@ -17,26 +17,21 @@ use mir.Syntax.{w64}
 use mir.Val.{SFits}
 use mir.Facts.{toZ-ofZ}
 use Rattle.definitions.specs.Codes.{DONE}
-use Rattle.definitions.specs.Integers.{⊖, 0ℤ}
-use Rattle.definitions.specs.Series.{firsts, constant, 𝟙, -ˢ}
-use Rattle.definitions.specs.Numbers.{rOf, mOf, phi, kOf, divides, divisorsBelow}
+use Rattle.definitions.specs.Integers.{0ℤ}
+use Rattle.definitions.specs.Series.{firsts}
+use Rattle.definitions.specs.Numbers.{rOf, mOf, phi, kOf}
 use Rattle.definitions.specs.Polynomials.{F, degree, polynomial}
 use Rattle.definitions.specs.Steps.{entries, largest, belowOne}
-use Rattle.definitions.specs.KeptHalf.{halfDegree, keptHalf, start}
-use Rattle.definitions.specs.Requests.{knownKind, goodIndex, divisorsDue, nextDivisor, overAt, overAmong}
+use Rattle.definitions.specs.Requests.{knownKind, goodIndex, divisorsDue, overAmong}
 use Rattle.definitions.specs.Requests.{written, zeros}
 use Rattle.definitions.specs.Answer.{coefficients, height, gain}
-use Rattle.numbers.specs.Apart.{r-odd-squarefree, m-divides, m-above}
+use Rattle.numbers.specs.Apart.{m-divides, m-above}
 use Rattle.numbers.specs.Phi.{phi-le}
 use Rattle.numbers.specs.PhiPrime.{prime-phi}
-use Rattle.numbers.specs.Lists.{entry-has}
-use Rattle.step_laws.specs.Bound.{Bounded, stays-inside, firsts-bounded}
-use Rattle.step_laws.specs.Firsts.{length-firsts, getD-firsts, is-firsts, firsts-here}
+use Rattle.step_laws.specs.Firsts.{length-firsts, getD-firsts, is-firsts}
 use Rattle.step_laws.specs.Machine.{seen}
-use Rattle.step_laws.specs.Tests.{by-order, neither}
+use Rattle.step_laws.specs.Tests.{by-order}
 use Rattle.cyclotomic.specs.Degrees.{monic-F}
-use Rattle.cyclotomic.specs.Kept.{kept-all, step-kept, kept-start}
-use Rattle.cyclotomic.specs.Heights.{told-half, told-one, height-least}
 use Rattle.cyclotomic.specs.Gain.{gains, gain-prime, gain-composite}
 use Rattle.answers.specs.declared.Answer.{Answer}
 use Rattle.answers.specs.Polynomial.{code, answered, answer, left, leaves}

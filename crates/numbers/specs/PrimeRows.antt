@@ -1,7 +1,7 @@
 -- A row of different primes, and of odd ones in ascending order: what the product of the first few is, its phi, and
 -- that phi outgrows the product of one prime fewer.
 use Prim.Native.Nat.{ℕ, zero, suc, _+_, _*_, _-_, _<_, _≤_, _∣_}
-use mathlib.Core.Path.{_≡_, sym, ap}
+use mathlib.Core.Path.{_≡_}
 use mathlib.Core.Logic.{⊎-elim}
 use mathlib.Core.List.{List}
 use native.Mathlib.Nat as NatL
@@ -9,7 +9,7 @@ use native.Mathlib.Omega.{arith}
 use lib.ListN.{getD}
 use Rattle.definitions.specs.Numbers.{rowTo, phi}
 use Rattle.numbers.specs.Primes.{Prime, prime-pos}
-use Rattle.numbers.specs.Phi.{phi-times, phi-one, phi-pos}
+use Rattle.numbers.specs.Phi.{phi-times, phi-one}
 use Rattle.numbers.specs.Apart.{OddSquarefree, odd-squarefree-one, odd-squarefree-times}
 
 -- the first k are primes, and none divides the product of those before it

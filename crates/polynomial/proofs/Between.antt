@@ -4,13 +4,12 @@
 -- (`told-of-entries`); and no coefficient delivered is larger in magnitude than the working limit (`within-limit`), so
 -- none is -2^63 (`can-be-negated`).
 use Prim.Native.Nat.{ℕ, zero, suc, _+_, _*_, _^_, _<_, _≤_}
-use mathlib.Core.Path.{_≡_, refl, sym, _∙_, ap, subst}
+use mathlib.Core.Path.{_≡_, refl, sym, _∙_, ap}
 use mathlib.Core.Bool.{false, cond}
 use mathlib.Core.Logic.{_≢_}
 use mathlib.Core.List.{List, _∷_}
 use native.Mathlib.Omega.{arith}
 use native.Mathlib.Nat as NatL
-use native.Mathlib.Decide.{ℕ-discrete}
 use lib.ListN.{length, take, drop}
 use lib.Seq.{take-append-le}
 use lib.Dec.{eqb}
@@ -19,26 +18,23 @@ use Rattle.definitions.specs.Codes.{DONE}
 use Rattle.definitions.specs.Series.{Series, tail, firsts}
 use Rattle.definitions.specs.Numbers.{rOf, kOf}
 use Rattle.definitions.specs.Polynomials.{polynomial, degree}
-use Rattle.definitions.specs.Steps.{entries, largest, belowOne}
-use Rattle.definitions.specs.KeptHalf.{halfDegree, sortOf, keptHalf, additions}
-use Rattle.definitions.specs.Requests.{divisorsDue, nextDivisor, overAt, overAmong, written}
+use Rattle.definitions.specs.Steps.{largest, belowOne}
+use Rattle.definitions.specs.KeptHalf.{halfDegree, keptHalf, additions}
+use Rattle.definitions.specs.Requests.{divisorsDue, overAmong, written}
 use Rattle.definitions.specs.Answer.{coefficients, heightOf, height, peakOf, peak, gainOf, gain, additionsFor}
 use Rattle.numbers.specs.Apart.{r-odd-squarefree}
 use Rattle.numbers.specs.HowMany.{k-of-r}
 use Rattle.numbers.specs.Below.{additions-at-most}
-use Rattle.step_laws.specs.Bound.{Bounded, stays-inside}
 use Rattle.step_laws.specs.Firsts.{length-firsts}
-use Rattle.step_laws.specs.Tests.{neither}
 use Rattle.step_laws.specs.WorkingLimit.{good-limit}
-use Rattle.cyclotomic.specs.Kept.{kept-all, kept-start, step-kept}
+use Rattle.cyclotomic.specs.Kept.{kept-all}
 use Rattle.cyclotomic.specs.Heights.{at-most-height}
 use Rattle.cyclotomic.specs.Inside.{height-inside}
 use Rattle.answers.specs.Partial as Partial
 use Rattle.answers.specs.Polynomial as Polynomial
 use Rattle.answers.proofs.WorkingLimit.{polynomial-done}
-use Rattle.kept_half.proofs.Turning.{kept-length, divisor-in}
-use Rattle.kept_half.proofs.Running.{start-bounded}
-use Rattle.squarefree_from_half.proofs.Growing.{half-within, front-entry}
+use Rattle.kept_half.proofs.Turning.{kept-length}
+use Rattle.squarefree_from_half.proofs.Growing.{half-within}
 
 -- ---- what stands in front
 written-front : (new l : List ℤ) (k : ℕ) → k ≤ length new → take k (written new l) ≡ take k new

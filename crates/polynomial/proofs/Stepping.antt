@@ -1,6 +1,6 @@
 -- r > 1: after all divisors the kept half is the lower half of the polynomial of r; its height is the polynomial's, and
 -- its peak t times as far up; and what each outcome tells and leaves (`Halfway`). r = 1: no step is taken (`laid-one`).
-use Prim.Native.Nat.{ℕ, suc, _+_, _*_, _-_, _<_, _≤_}
+use Prim.Native.Nat.{ℕ, suc, _+_, _<_, _≤_}
 use mathlib.Core.Path.{_≡_, sym, _∙_, ap, ap₂}
 use mathlib.Core.Bool.{Bool, true, false, cond}
 use mathlib.Core.Logic.{_≢_}
@@ -21,7 +21,7 @@ use Rattle.definitions.specs.Polynomials.{polynomial, degree}
 use Rattle.definitions.specs.Steps.{entries, largest}
 use Rattle.definitions.specs.KeptHalf.{halfDegree, additions, sumOf}
 use Rattle.definitions.specs.Requests.{divisorsDue, overAmong, zeros}
-use Rattle.definitions.specs.Answer.{coefficients, heightOf, height, peakOf, peak, additionsFor}
+use Rattle.definitions.specs.Answer.{coefficients, height, peak, additionsFor}
 use Rattle.numbers.specs.Apart.{r-odd-squarefree}
 use Rattle.numbers.specs.Below.{additions-all}
 use Rattle.cyclotomic.specs.Kept.{kept-all}

@@ -35,8 +35,14 @@ module _ (kind n : ℕ) (h : ℤ) (room scratch : ℕ) (enough : 2 * n + 16 ≤ 
       go : (b : Bool) → goodIndex n ≡ b → Second.code kind n h room scratch ≡ Plain.code kind n h (pos largest) room
       go true e =
           let (above, small) = index-good n e in
-          rw (second-never kind n above small, never n above small kind, le-ltb scratch (2 * n + 16) enough,
-          or-none (leb room (degree kind n)), large, or-none (belowOne h)) refl
+          rw (
+            second-never kind n above small,
+            never n above small kind,
+            le-ltb scratch (2 * n + 16) enough,
+            or-none (leb room (degree kind n)),
+            large,
+            or-none (belowOne h),
+          ) refl
       go false e = rw e refl
 
   -- the plain request's answer, with no additions

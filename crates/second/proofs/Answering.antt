@@ -1,13 +1,13 @@
 -- The outcomes of the second engine's request: which code each test leads to, and what is then told and left.
 use Prim.Native.Nat.{ℕ, suc, _+_, _*_, _<_, _≤_}
 use mathlib.Core.Path.{_≡_, refl, sym, _∙_, ap, ap₂}
-use mathlib.Core.Bool.{Bool, true, false, cond, _||_}
+use mathlib.Core.Bool.{Bool, true, false, cond}
 use mathlib.Core.List.{List, _++_}
 use native.Mathlib.Omega.{arith}
 use native.Mathlib.Numerals.{add-one}
 use borrow.Author.Tests.{lt-ltb, le-ltb, le-leb, lt-leb}
 use lib.ListN.{length, drop, length-replicate}
-use lib.Dec.{ltb, leb}
+use lib.Dec.{ltb}
 use lib.IntN.{ℤ, pos}
 use Rattle.definitions.specs.Integers.{0ℤ}
 use Rattle.definitions.specs.Codes.{DONE, KIND, INDEX, LIMIT, SHORT, TALL}
@@ -15,7 +15,6 @@ use Rattle.definitions.specs.Polynomials.{degree, polynomial}
 use Rattle.definitions.specs.Steps.{belowOne}
 use Rattle.definitions.specs.Requests.{knownKind, goodIndex, written, zeros}
 use Rattle.definitions.specs.Answer.{coefficients, height, peak, gain}
-use Rattle.definitions.specs.Second.{secondOver}
 use Rattle.step_laws.specs.Firsts.{length-firsts}
 use Rattle.never_over.specs.Second.{second-never}
 use Rattle.index.proofs.Laws.{index-good}
@@ -55,8 +54,14 @@ module _ (kind n h room scratch : ℕ) (e : knownKind kind ≡ true) (f : goodIn
       → code kind n (pos h) room scratch ≡ cond (ltb h (height kind n)) TALL DONE
   unfolding code
   ask-last b c =
-      rw (e, f, limit, lt-leb room (degree kind n) b, le-ltb scratch (2 * n + 16) c,
-      second-never kind n (index-good n f .0) (index-good n f .1)) refl
+      rw (
+        e,
+        f,
+        limit,
+        lt-leb room (degree kind n) b,
+        le-ltb scratch (2 * n + 16) c,
+        second-never kind n (index-good n f .0) (index-good n f .1),
+      ) refl
 
 -- ---- outcomes
 abbrev pub Answers : (kind n : ℕ) (h : ℤ) → Answer → List ℤ → List ℤ → List ℤ → List ℤ → Type 0
@@ -134,8 +139,11 @@ module _
     refuses q =
         let y = at-tall kind n (pos h) l s (by-height true q) in (
           ap (told-only TALL) ed ∙ y .0,
-          (in-front (zeros (suc (degree kind n))) (length-replicate (suc (degree kind n)) 0ℤ) (left-by true q) ∙ y .1 .0,
-          clear ∙ y .1 .1),
+          (
+            in-front (zeros (suc (degree kind n))) (length-replicate (suc (degree kind n)) 0ℤ) (left-by true q)
+                ∙ y .1 .0,
+            clear ∙ y .1 .1,
+          ),
         )
 
     pub delivers : r .tall ≡ false → (x : ℤ) → x ≡ gain kind n
@@ -146,9 +154,11 @@ module _
     delivers q x is =
         let y = at-done kind n (pos h) l s (by-height false q) in (
           same ed (laid .height q) (laid .peak q) is ∙ y .0,
-          (in-front (coefficients kind n) (length-firsts (suc (degree kind n)) (polynomial kind n)) (left-by false q)
-          ∙ y .1 .0,
-          clear ∙ y .1 .1),
+          (
+            in-front (coefficients kind n) (length-firsts (suc (degree kind n)) (polynomial kind n)) (left-by false q)
+                ∙ y .1 .0,
+            clear ∙ y .1 .1,
+          ),
         )
       where
         same : {x z v x′ z′ v′ : ℕ} {u u′ : ℤ} → x ≡ x′ → z ≡ z′ → v ≡ v′ → u ≡ u′

@@ -1,20 +1,19 @@
 -- What the engine is asked for is in order (`asked`); the lower half that it leaves is known to be in range (`lower`,
 -- `bounded`); and where r is 1 nothing is asked (`laid-one`).
-use Prim.Native.Nat.{ℕ, zero, suc, _+_, _*_, _-_, _<_, _≤_}
-use mathlib.Core.Path.{_≡_, refl, sym, _∙_, ap, ap₂, subst}
-use mathlib.Core.Bool.{false, cond}
+use Prim.Native.Nat.{ℕ, _+_, _*_, _<_, _≤_}
+use mathlib.Core.Path.{_≡_, refl, sym, _∙_, ap}
+use mathlib.Core.Bool.{false}
 use mathlib.Core.Logic.{_≢_}
 use mathlib.Core.List.{List}
 use native.Mathlib.Nat as NatL
 use native.Mathlib.Omega.{arith}
 use borrow.Author.Tests.{le-ltb}
 use lib.Dec.{ltb}
-use lib.ListN.{length, take, getD, length-take, List·getD-eq-default}
+use lib.ListN.{length, take, length-take, List·getD-eq-default}
 use lib.Seq.{getD-take}
-use lib.IntN.{ℤ, natAbs}
+use lib.IntN.{ℤ}
 use Rattle.definitions.specs.Integers.{0ℤ}
-use Rattle.definitions.specs.Numbers.{listTo, rowTo, oddPrimeOf, phi, rOf, kOf}
-use Rattle.definitions.specs.Polynomials.{polynomial, degree}
+use Rattle.definitions.specs.Numbers.{listTo, oddPrimeOf, rOf, kOf}
 use Rattle.definitions.specs.KeptHalf.{halfDegree}
 use Rattle.definitions.specs.Steps.{entries}
 use Rattle.definitions.specs.Answer.{coefficients, height, peak}
@@ -25,7 +24,7 @@ use Rattle.step_laws.specs.Bound.{Bounded}
 use Rattle.step_laws.specs.Tests.{by-order}
 use Rattle.cyclotomic.specs.Heights.{told-one}
 use Rattle.never_over.specs.Heights.{coefficient-fits, twice-fits}
-use Rattle.index.proofs.Laws.{index-good, r-small, parts-r, parts-free, parts-k}
+use Rattle.index.proofs.Laws.{index-good, r-small, parts-k}
 use Rattle.index.proofs.Rows.{entry-new, entry-odd, row-r}
 use Rattle.index.specs.Parts.{padded, partsOf}
 use Rattle.index.specs.declared.Parts.{Parts}

@@ -2,13 +2,23 @@
 -- codes.
 use Prim.Native.Nat.{ℕ}
 use mathlib.Core.Path.{_≡_, refl}
-use mathlib.Core.Bool.{false}
-use mathlib.Core.List.{List, [], _∷_, map}
+use mathlib.Core.List.{List, [], _∷_}
 use lib.IntN.{ℤ, pos, negsuc}
-use Rattle.definitions.specs.Codes.{DONE, KIND, INDEX, LIMIT, SHORT, TALL}
+use Rattle.definitions.specs.Codes.{DONE, KIND, INDEX, LIMIT, SHORT}
 use Rattle.definitions.specs.Integers.{_⊕_, _⊗_, ⊖}
 use Rattle.definitions.specs.Series.{constant, _+ˢ_, -ˢ, _·_, _÷_, z^, spread, firsts}
-use Rattle.definitions.specs.Numbers.{someTo, countTo, listTo, rowTo, divides, shareFactor, phi, isPrime, oddPrimeOf, kOf}
+use Rattle.definitions.specs.Numbers.{
+  someTo,
+  countTo,
+  listTo,
+  rowTo,
+  divides,
+  shareFactor,
+  phi,
+  isPrime,
+  oddPrimeOf,
+  kOf,
+}
 use Rattle.definitions.specs.Polynomials.{z^-1, productTo, atDivisors, familyTo, F, I, polynomial, degree}
 use Rattle.definitions.specs.Steps.{inRange, someOutside, belowOne}
 use Rattle.definitions.specs.Requests.{knownKind, goodIndex}

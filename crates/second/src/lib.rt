@@ -1,4 +1,5 @@
-// The request of the second engine (`second`): the polynomial request from another road. Nothing is asked of the caller.
+// The request of the second engine (`second`): the polynomial request from another road. Nothing is asked of the
+// caller.
 mod making;
 
 use answers::Answer;

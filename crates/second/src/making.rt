@@ -35,7 +35,14 @@ fn make(b: &mut [i64], scratch: &mut [i64], kind: u64, n: u64, parts: Parts, h: 
 }
 
 // SHORT, or what the making came to.
-pub(crate) fn answer_in(kind: u64, n: u64, parts: Parts, h: u64, buf: &mut [i64], scratch: &mut [i64]) -> Answer
+pub(crate) fn answer_in(
+    kind: u64,
+    n: u64,
+    parts: Parts,
+    h: u64,
+    buf: &mut [i64],
+    scratch: &mut [i64],
+) -> Answer
     requires { ⌜ (parts ≡ partsOf n) × (knownKind kind ≡ true) × (goodIndex n ≡ true) × (1 ≤ h) ⌝ }
     ensures { λ r.
         ⌜ r ≡ Second.answer kind n (pos h) (length (now (buf .entry))) (length (now (scratch .entry))) ⌝ }

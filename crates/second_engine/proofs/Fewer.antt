@@ -4,7 +4,7 @@
 use Prim.Native.Nat.{ℕ, suc, _+_, _*_, _-_, _/_, _<_, _≤_, _∣_}
 use mathlib.Core.Path.{_≡_, refl, sym, _∙_, ap, ap₂, subst}
 use mathlib.Core.Bool.{Bool, true, false, cond}
-use mathlib.Core.List.{List, _++_}
+use mathlib.Core.List.{List}
 use native.Mathlib.Nat as NatL
 use native.Mathlib.Omega.{arith}
 use lib.Dec.{eqb}
@@ -223,7 +223,8 @@ module _ {kind : ℕ} {primes : List ℕ} {k r m below p : ℕ} {a b : List ℤ}
         → halfDegree kind m + 1 ≤ length (take (length q - w) (drop w q))
     rest-room q w e f = rw (rest-length q w e f) (rest-half e f)
 
-    pub join : {c q a′ : List ℤ} (x : List ℤ) (w : ℕ) → w ≡ degree (otherKind kind) m + 1 → Filled 0 w (otherKind kind) m c q
+    pub join : {c q a′ : List ℤ} (x : List ℤ) (w : ℕ) → w ≡ degree (otherKind kind) m + 1
+        → Filled 0 w (otherKind kind) m c q
         → length q ≡ length b → length x ≡ length q - w → length a′ ≡ length a → Half kind m x
         → Joining kind m below p a′ (putMid w (length q - w) q x)
     unfolding entries

@@ -1,7 +1,7 @@
 -- The mirror fills in a polynomial: its upper half is the lower, with the sign that `negates` tells; and what stands
 -- before the part is as it was.
 use Prim.Native.Nat.{ℕ, _+_, _-_, _/_, _<_, _≤_}
-use mathlib.Core.Path.{_≡_, refl, sym, _∙_, ap}
+use mathlib.Core.Path.{_≡_, sym, _∙_, ap}
 use mathlib.Core.Bool.{Bool, cond}
 use mathlib.Core.List.{List}
 use native.Mathlib.Omega.{arith}
@@ -22,7 +22,7 @@ use Rattle.never_over.specs.Heights.{coefficient-fits}
 use Rattle.shapes.specs.Shapes.{mirroredUp}
 use Rattle.shapes.proofs.Shaping.{mirrored-low, mirrored-high}
 use Rattle.shapes.proofs.Stretches.{put-before, put-in}
-use Rattle.second_engine.specs.Halves.{Half, HalfFrom, Part, Filled}
+use Rattle.second_engine.specs.Halves.{Half, HalfFrom, Filled}
 
 half-number : (kind m : ℕ) → (degree kind m + 1 + 1) / 2 ≡ halfDegree kind m + 1
 unfolding halfDegree

@@ -1,13 +1,12 @@
--- Parts of a slice as series; that the product of both polynomials of m, and its quotient, is that of m p; and that 64-bit
+-- Parts of a slice as series; that the product of both polynomials of m, and its quotient, is that of m p; and that
+-- 64-bit
 -- numbers which are so modulo 2^64 are it. The sizes, as they are computed.
-use Prim.Native.Nat.{ℕ, _+_, _*_, _-_, _/_, _<_, _≤_, _∣_}
-use mathlib.Core.Path.{_≡_, refl, sym, _∙_, ap, fun-ext}
-use mathlib.Core.Bool.{Bool, true, false, cond}
+use Prim.Native.Nat.{ℕ, _+_, _*_, _-_, _/_, _<_, _≤_}
+use mathlib.Core.Path.{_≡_, sym, _∙_, ap, fun-ext}
 use mathlib.Core.List.{List, _++_}
 use native.Mathlib.Omega.{arith}
 use native.Mathlib.Nat as NatL
-use lib.Dec.{eqb}
-use lib.ListN.{length, take, drop, getD, length-take, length-drop, List·getD-append, List·getD-eq-default}
+use lib.ListN.{length, take, drop, getD, length-take, List·getD-append, List·getD-eq-default}
 use lib.Seq.{getD-take, getD-drop}
 use lib.IntN.{ℤ}
 use Rattle.definitions.specs.Integers.{0ℤ}
@@ -18,7 +17,7 @@ use Rattle.definitions.specs.Steps.{entries}
 use Rattle.definitions.specs.KeptHalf.{halfDegree}
 use Rattle.definitions.specs.Second.{otherKind}
 use Rattle.numbers.specs.Phi.{phi-times, phi-le}
-use Rattle.numbers.specs.Primes.{Prime, prime-pos}
+use Rattle.numbers.specs.Primes.{prime-pos}
 use Rattle.step_laws.specs.Tests.{by-order}
 use Rattle.step_laws.specs.Firsts.{firsts-here}
 use Rattle.cyclotomic.specs.Second.{divided-first, product-inverse}
@@ -48,7 +47,8 @@ front-series {f} {e} {l} P =
     List·getD-eq-default (take e l) 0ℤ far ∙ sym (P .past i (omega arith))))
 
 -- what stands before the part that was filled in
-pub still : {from to kind m : ℕ} {f : Series} {l q : List ℤ} → Filled from to kind m l q → Part f 0 from l → Part f 0 from q
+pub still : {from to kind m : ℕ} {f : Series} {l q : List ℤ} → Filled from to kind m l q → Part f 0 from l
+    → Part f 0 from q
 still {from} F P =
     record {
       inside = λ i b. F .before (0 + i) (omega arith) ∙ P .inside i b;
@@ -56,7 +56,8 @@ still {from} F P =
     }
 
 -- ---- exact
-pub made-half : (kind r : ℕ) → 0 < r → r ≤ 65535 → {s : Series} {x : List ℤ} (y : List ℤ) → Made s x → s ≡ polynomial kind r
+pub made-half : (kind r : ℕ) → 0 < r → r ≤ 65535 → {s : Series} {x : List ℤ} (y : List ℤ) → Made s x
+    → s ≡ polynomial kind r
     → length x ≡ halfDegree kind r + 1 → Half kind r (x ++ y)
 unfolding entries
 made-half kind r pos small {s} {x} y made e len i b =
@@ -90,7 +91,8 @@ module _ {kind m below p : ℕ} {a b : List ℤ} (J : Joining kind m below p a b
   pub free-r : below * (p - 1) ≤ m * p
   free-r = rw phi-r (phi-le (m * p))
 
-pub size-first : {m below p : ℕ} {a b : List ℤ} → Joining 1 m below p a b → below * (p - 1) / 2 + 1 ≡ halfDegree 1 (m * p) + 1
+pub size-first : {m below p : ℕ} {a b : List ℤ} → Joining 1 m below p a b
+    → below * (p - 1) / 2 + 1 ≡ halfDegree 1 (m * p) + 1
 unfolding halfDegree degree
 size-first J = ap (λ x. x / 2 + 1) (phi-r J)
 

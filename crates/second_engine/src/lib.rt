@@ -20,7 +20,8 @@ fn largest(primes: [u64; 5], k: usize) -> u64
     primes[k - 1]
 }
 
-// F(r), of the first k primes, in a: with p the last of them and m = r / p, from I(m) and F(m), which are made in b; a is
+// F(r), of the first k primes, in a: with p the last of them and m = r / p, from I(m) and F(m), which are made in b; a
+// is
 // the scratch there.
 fn first(a: &mut [i64], b: &mut [i64], primes: [u64; 5], k: usize, r: u64, free: u64)
     requires { ⌜ Asked 1 primes k r free (now a) (now b) ⌝ }
@@ -62,7 +63,15 @@ fn inverse(a: &mut [i64], b: &mut [i64], primes: [u64; 5], k: usize, r: u64, fre
 }
 
 // The lower half of the polynomial of r, of either kind.
-pub fn lower_half(a: &mut [i64], b: &mut [i64], kind: u64, primes: [u64; 5], k: usize, r: u64, free: u64)
+pub fn lower_half(
+    a: &mut [i64],
+    b: &mut [i64],
+    kind: u64,
+    primes: [u64; 5],
+    k: usize,
+    r: u64,
+    free: u64,
+)
     requires { ⌜ Asked kind primes k r free (now a) (now b) × (knownKind kind ≡ true) ⌝ }
     ensures { λ _. ⌜ Half kind r (now (a .exit)) ⌝ }
 {

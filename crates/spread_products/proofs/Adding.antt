@@ -1,6 +1,6 @@
 -- A row that is added from a place on, entry by entry; rows one after the other; and one row c times.
-use Prim.Native.Nat.{ℕ, zero, suc, _+_, _-_, _<_, _≤_, min}
-use mathlib.Core.Path.{_≡_, refl, sym, _∙_, ap, ap₂, fun-ext}
+use Prim.Native.Nat.{ℕ, _+_, _-_, _<_, _≤_, min}
+use mathlib.Core.Path.{_≡_, refl, sym, _∙_, ap, fun-ext}
 use mathlib.Core.Bool.{Bool, true, false, cond}
 use mathlib.Core.List.{List, [], _∷_}
 use native.Mathlib.Omega.{arith}
@@ -15,7 +15,7 @@ use Rattle.definitions.specs.Integers.{_⊕_, _⊗_, ⊖, 0ℤ, 1ℤ}
 use Rattle.definitions.specs.Series.{Series, constant, 𝟘, _+ˢ_, _·_, z^}
 use Rattle.definitions.specs.Steps.{entries}
 use Rattle.integers.specs.Solver.{:0, :1, _:+_, _:*_, :-, x, y, z}
-use Rattle.integers.specs.Whole.{⊕-zero, ⊖-zero, ⊗-one, ringℤ}
+use Rattle.integers.specs.Whole.{⊕-zero, ⊖-zero, ringℤ}
 use Rattle.series.specs.Laws.{constant-mul, constants-add, at-+ˢ, +ˢ-zero, ringˢ}
 use Rattle.series.specs.Maps.{shift-below, shift-from}
 use Rattle.step_laws.specs.Tests.{by-order}

@@ -9,8 +9,8 @@ use lib.ListN.{length, set}
 use lib.IntN.{ℤ}
 use mir.Syntax.{w64}
 use mir.Val.{SFits}
-use Rattle.definitions.specs.Integers.{_⊕_, _⊝_, ⊖, 0ℤ}
-use Rattle.definitions.specs.Series.{Series, _·_, _÷_, z^, firsts}
+use Rattle.definitions.specs.Integers.{_⊝_, ⊖, 0ℤ}
+use Rattle.definitions.specs.Series.{Series, _·_, _÷_, z^}
 use Rattle.definitions.specs.Polynomials.{z^-1}
 use Rattle.definitions.specs.Steps.{entries}
 use Rattle.integers.specs.Solver.{_:+_, :-, x, y}

@@ -135,7 +135,8 @@ module _ (p : ℕ) (one : 0 < p) (f g : List ℤ) where
         like = λ k b.
             t .made .like k b
             ∙ ap wrap (ap (λ s. s k) (·-comm (spread p (terms f i)) (entries g))
-            ∙ agree-mul k (entries g) (spread p (terms f i)) (spread p (entries f)) (λ j c. few i j (reach j c b enough))
+            ∙ agree-mul k (entries g) (spread p (terms f i)) (spread p (entries f)) (λ j c. few i j
+            (reach j c b enough))
             ∙ ap (λ s. s k) (·-comm (entries g) (spread p (entries f))));
       }
     where

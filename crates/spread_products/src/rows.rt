@@ -2,9 +2,7 @@
 
 ghost use Prim.Native.Nat.{_+_, _<_, _≤_};
 ghost use mathlib.Core.Path.{_≡_};
-ghost use mathlib.Core.List.{List};
 ghost use lib.ListN.{length, set};
-ghost use lib.IntN.{ℤ};
 ghost use Rattle.definitions.specs.Integers.{_⊕_};
 ghost use Rattle.definitions.specs.Series.{_·_, constant, spread, z^};
 ghost use Rattle.definitions.specs.Steps.{entries};

@@ -1,5 +1,5 @@
 -- `lay_out` meets its contract: the height and the peak are those of the lower half, and by them the outcome.
-use Prim.Native.Nat.{ℕ, _+_, _*_, _≤_}
+use Prim.Native.Nat.{_+_, _*_, _≤_}
 use mathlib.Core.Path.{_≡_, sym, _∙_, ap}
 use native.Mathlib.Omega.{arith}
 use borrow.Author.Tests.{lt-ltb, le-ltb}
@@ -19,7 +19,8 @@ module _ (q : tie.After-half-degree) where
   start = q .before
 
   d-is : q .half-degree .result ≡ halfDegree (start .args .kind) (rOf (start .args .n))
-  d-is = parts-half (start .args .n) (start .args .parts) (start .pre .0 .parts) (start .args .kind) _ (q .half-degree .ensures)
+  d-is = parts-half (start .args .n) (start .args .parts) (start .pre .0 .parts) (start .args .kind) _
+      (q .half-degree .ensures)
 
   room : q .half-degree .result + 1 ≤ length (start .args .b .now)
   room = half-room _ _ _ _ (start .pre .0) _ d-is
@@ -89,7 +90,8 @@ returns-2 c =
     let t = c .before .before .before .before .before in
     let s = begin t in
     laid-done (s .args .kind) (s .args .n) (s .args .parts) (s .args .b .now) (s .pre .0) _ _ _ _
-    (sym (told t) ∙ le-ltb _ _ (c .before .before .before .before .if1 .left)) (c .before .before .from-lower-half .ensures)
+    (sym (told t) ∙ le-ltb _ _ (c .before .before .before .before .if1 .left))
+    (c .before .before .from-lower-half .ensures)
     (high t .0) (high t .1)
 
 pub lay-out-spec : {M : Type 1} → statement M

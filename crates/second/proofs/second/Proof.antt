@@ -1,4 +1,5 @@
--- `second` meets its contract: each test's code (Answering), and then `answer_in`'s. What each test showed is named once.
+-- `second` meets its contract: each test's code (Answering), and then `answer_in`'s. What each test showed is named
+-- once.
 use mathlib.Core.Path.{_≡_, sym, _∙_}
 use mathlib.Core.Bool.{true, false}
 use borrow.Author.Tests.{not-true, not-false}
@@ -35,7 +36,8 @@ returns : tie.Need-returns
 returns c =
     let p = c .before .before .before in
     let k = sym (c .before .before .known-kind .ensures) ∙ not-true _ (c .before .if1 .taken) in
-    let s = at-kind (p .args .kind) (p .args .n) (p .args .h) (p .args .buf .now) (p .args .scratch .now) (ask-kind _ _ _ _ _ k) in
+    let s = at-kind (p .args .kind) (p .args .n) (p .args .h) (p .args .buf .now) (p .args .scratch .now)
+    (ask-kind _ _ _ _ _ k) in
     (c .refused .ensures ∙ s .0, s .1)
 
 good-index-requires : tie.Need-good-index-requires
@@ -93,7 +95,8 @@ returns-4 : tie.Need-returns-4
 returns-4 c =
     let e = c .before .before .before .before .before .before .before in
     let p = start (e .before) in
-    rw (read-limit (p .args .h) (p .fits .h) (good-h e) (c .before .before .before .before .before .magnitude .ensures) .1) at (c .before .before .answer-in .ensures)
+    rw (read-limit (p .args .h) (p .fits .h) (good-h e)
+    (c .before .before .before .before .before .magnitude .ensures) .1) at (c .before .before .answer-in .ensures)
 
 pub second-spec : {M : Type 1} → statement M
 second-spec =

@@ -1,4 +1,5 @@
--- `second_engine::first` and `inverse` meet their contracts, by recursion on the number of primes: of none the lower half
+-- `second_engine::first` and `inverse` meet their contracts, by recursion on the number of primes: of none the lower
+-- half
 -- is one entry, else both polynomials of one prime fewer are made and joined.
 use Prim.Native.Nat.{ℕ, _<_}
 use borrow.Fn.Kinds.{In}
@@ -230,8 +231,7 @@ first-fill-requires : (t : ℕ) → first-lts.Need-fill-requires (
 first-fill-requires t c κs =
     let l = c .before .before .before .before .before .before in
     let O = one-fewer (l .before .before .pre .1) (l .before .if1 .left) (l .largest .ensures) in
-    let i = c .before .before .before .inverse in
-    (
+    let i = c .before .before .before .inverse in (
       (O .pos, O .small, first-whole O ∙ sym (NatL.zero-add _), rw (first-whole O, i .kept .0) (front-room O 2)),
       half-front 2 _ _ (i .ensures),
     )
@@ -268,7 +268,8 @@ first-sub-first : (t : ℕ) → first-lts.Need-sub-first (
 first-sub-first t c =
     let l = c .before .before .before .before .before .before .before .before in
     let O = one-fewer (l .before .before .pre .1) (l .before .if1 .left) (l .largest .ensures) in
-    rw (first-whole O, c .before .fill .kept .0, c .before .before .before .before .before .inverse .kept .0) (front-room O 2)
+    rw (first-whole O, c .before .fill .kept .0, c .before .before .before .before .before .inverse .kept .0)
+    (front-room O 2)
 
 first-part-first-start : (t : ℕ) → first-lts.Need-part-first-start (
   largest-reads.Asked,
@@ -285,7 +286,8 @@ first-part-first-start : (t : ℕ) → first-lts.Need-part-first-start (
 first-part-first-start t c =
     let l = c .before .before .before .before .before .before .before .before in
     let O = one-fewer (l .before .before .pre .1) (l .before .if1 .left) (l .largest .ensures) in
-    rw (first-whole O, c .before .fill .kept .0, c .before .before .before .before .before .inverse .kept .0) (front-room O 2)
+    rw (first-whole O, c .before .fill .kept .0, c .before .before .before .before .before .inverse .kept .0)
+    (front-room O 2)
 
 first-part-first-end : (t : ℕ) → first-lts.Need-part-first-end (
   largest-reads.Asked,
@@ -318,8 +320,7 @@ first-first-requires t c κs =
     let l = c .before .before .before .before .before .before .before .before .before .before in
     let O = one-fewer (l .before .before .pre .1) (l .before .if1 .left) (l .largest .ensures) in
     let i = c .before .before .before .before .before .before .before .inverse in
-    let f = c .before .before .before .fill in
-    (
+    let f = c .before .before .before .fill in (
       omega (arith, l .before .before .pre .0),
       O .ask 1 _ _ (i .kept .1 .0) (rest-room O (f .last .0) _ (f .kept .0 ∙ i .kept .0) (first-whole O)),
     )
@@ -338,9 +339,11 @@ first-join-first-requires : (t : ℕ) → first-lts.Need-join-first-requires (
 ) (first-at t) first.Post
 unfolding otherKind
 first-join-first-requires t c κs =
-    let l = c .before .before .before .before .before .before .before .before .before .before .before .before .before .before .before in
+    let l = c .before .before .before .before .before .before .before .before .before .before .before .before .before
+    .before .before in
     let O = one-fewer (l .before .before .pre .1) (l .before .if1 .left) (l .largest .ensures) in
-    let i = c .before .before .before .before .before .before .before .before .before .before .before .before .inverse in
+    let i = c .before .before .before .before .before .before .before .before .before .before .before .before .inverse
+    in
     let f = c .before .before .before .before .before .before .before .before .fill in
     let q = c .before .before .before .before .first in
     let same = f .kept .0 ∙ i .kept .0 in
@@ -388,7 +391,8 @@ first-returns-2 : (t : ℕ) → first-lts.Need-returns-2 (
   join-first-reads.Learnt,
 ) (first-at t) first.Post
 first-returns-2 t c =
-    let l = c .before .before .before .before .before .before .before .before .before .before .before .before .before .before .before .before .before .before in
+    let l = c .before .before .before .before .before .before .before .before .before .before .before .before .before
+    .before .before .before .before .before in
     let O = one-fewer (l .before .before .pre .1) (l .before .if1 .left) (l .largest .ensures) in
     rw (O .is-r) (c .before .before .join-first .ensures)
 
@@ -564,8 +568,7 @@ inverse-fill-requires : (t : ℕ) → inverse-lts.Need-fill-requires (
 inverse-fill-requires t c κs =
     let l = c .before .before .before .before .before .before in
     let O = one-fewer (l .before .before .pre .1) (l .before .if1 .left) (l .largest .ensures) in
-    let i = c .before .before .before .first in
-    (
+    let i = c .before .before .before .first in (
       (O .pos, O .small, inverse-whole O ∙ sym (NatL.zero-add _), rw (inverse-whole O, i .kept .0) (front-room O 1)),
       half-front 1 _ _ (i .ensures),
     )
@@ -602,7 +605,8 @@ inverse-sub-inverse : (t : ℕ) → inverse-lts.Need-sub-inverse (
 inverse-sub-inverse t c =
     let l = c .before .before .before .before .before .before .before .before in
     let O = one-fewer (l .before .before .pre .1) (l .before .if1 .left) (l .largest .ensures) in
-    rw (inverse-whole O, c .before .fill .kept .0, c .before .before .before .before .before .first .kept .0) (front-room O 1)
+    rw (inverse-whole O, c .before .fill .kept .0, c .before .before .before .before .before .first .kept .0)
+    (front-room O 1)
 
 inverse-part-inverse-start : (t : ℕ) → inverse-lts.Need-part-inverse-start (
   largest-reads.Asked,
@@ -619,7 +623,8 @@ inverse-part-inverse-start : (t : ℕ) → inverse-lts.Need-part-inverse-start (
 inverse-part-inverse-start t c =
     let l = c .before .before .before .before .before .before .before .before in
     let O = one-fewer (l .before .before .pre .1) (l .before .if1 .left) (l .largest .ensures) in
-    rw (inverse-whole O, c .before .fill .kept .0, c .before .before .before .before .before .first .kept .0) (front-room O 1)
+    rw (inverse-whole O, c .before .fill .kept .0, c .before .before .before .before .before .first .kept .0)
+    (front-room O 1)
 
 inverse-part-inverse-end : (t : ℕ) → inverse-lts.Need-part-inverse-end (
   largest-reads.Asked,
@@ -652,8 +657,7 @@ inverse-inverse-requires t c κs =
     let l = c .before .before .before .before .before .before .before .before .before .before in
     let O = one-fewer (l .before .before .pre .1) (l .before .if1 .left) (l .largest .ensures) in
     let i = c .before .before .before .before .before .before .before .first in
-    let f = c .before .before .before .fill in
-    (
+    let f = c .before .before .before .fill in (
       omega (arith, l .before .before .pre .0),
       O .ask 2 _ _ (i .kept .1 .0) (rest-room O (f .last .0) _ (f .kept .0 ∙ i .kept .0) (inverse-whole O)),
     )
@@ -672,7 +676,8 @@ inverse-join-inverse-requires : (t : ℕ) → inverse-lts.Need-join-inverse-requ
 ) (inverse-at t) inverse.Post
 unfolding otherKind
 inverse-join-inverse-requires t c κs =
-    let l = c .before .before .before .before .before .before .before .before .before .before .before .before .before .before .before in
+    let l = c .before .before .before .before .before .before .before .before .before .before .before .before .before
+    .before .before in
     let O = one-fewer (l .before .before .pre .1) (l .before .if1 .left) (l .largest .ensures) in
     let i = c .before .before .before .before .before .before .before .before .before .before .before .before .first in
     let f = c .before .before .before .before .before .before .before .before .fill in
@@ -722,7 +727,8 @@ inverse-returns-2 : (t : ℕ) → inverse-lts.Need-returns-2 (
   join-inverse-reads.Learnt,
 ) (inverse-at t) inverse.Post
 inverse-returns-2 t c =
-    let l = c .before .before .before .before .before .before .before .before .before .before .before .before .before .before .before .before .before .before in
+    let l = c .before .before .before .before .before .before .before .before .before .before .before .before .before
+    .before .before .before .before .before in
     let O = one-fewer (l .before .before .pre .1) (l .before .if1 .left) (l .largest .ensures) in
     rw (O .is-r) (c .before .before .join-inverse .ensures)
 

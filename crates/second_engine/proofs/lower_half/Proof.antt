@@ -34,7 +34,8 @@ same-length-4 c = search needs
 returns-2 : tie.Need-returns-2
 returns-2 c =
     let s = c .before .before .before .before .before .before in
-    rw (kind-two _ (s .pre .1) (c .before .before .before .before .before .if1 .left)) (c .before .before .inverse .ensures)
+    rw (kind-two _ (s .pre .1) (c .before .before .before .before .before .if1 .left))
+    (c .before .before .inverse .ensures)
 
 pub lower-half-spec : {M : Type 1} → statement M
 lower-half-spec =

@@ -1,18 +1,14 @@
 -- `make_by_steps` meets its contract: the kept half after all divisors, its height and peak, and the outcome
 -- (`Halfway`). What is known after `half_degree`, after the steps and after the peak is named once each.
-use Prim.Native.Nat.{ℕ, _+_, _*_, _≤_}
+use Prim.Native.Nat.{ℕ, _+_, _≤_}
 use mathlib.Core.Path.{_≡_, sym, _∙_, ap}
-use mathlib.Core.Bool.{false}
 use mathlib.Core.List.{List, _++_}
 use native.Mathlib.Omega.{arith}
-use borrow.Author.Tests.{lt-ltb, le-ltb}
-use lib.Dec.{ltb}
 use lib.IntN.{ℤ}
 use lib.ListN.{length, take, drop}
 use lib.Seq.{length-take-le}
 use Rattle.definitions.specs.Numbers.{rOf}
 use Rattle.definitions.specs.KeptHalf.{halfDegree}
-use Rattle.definitions.specs.Answer.{height, peak}
 use Rattle.kept_half.proofs.Walked.{half-is}
 use Rattle.polynomial.proofs.Stepping.{steps-due, half-room, Halfway, halfway}
 use borrow.Author.Needs.{needs}

@@ -7,7 +7,7 @@ use lib.Seq.{length-take-le}
 use mir.Syntax.{w64}
 use mir.Val.{SFits}
 use mir.Facts.{toZ-ofZ}
-use Rattle.definitions.specs.Codes.{SHORT, TALL}
+use Rattle.definitions.specs.Codes.{SHORT}
 use Rattle.definitions.specs.Polynomials.{degree}
 use Rattle.step_laws.specs.Signed.{mag-abs}
 use Rattle.index.proofs.Laws.{index-good, parts-degree}
@@ -66,7 +66,8 @@ slice-relend-prefix-make : tie.Need-slice-relend-prefix-make
 slice-relend-prefix-make c = search needs
 
 slice-aggregate-make : tie.Need-slice-aggregate-make
-slice-aggregate-make c = let p = start (c .before .before .before) in sym (length-take-le _ (p .args .buf .now) (omega arith))
+slice-aggregate-make c =
+    let p = start (c .before .before .before) in sym (length-take-le _ (p .args .buf .now) (omega arith))
 
 make-requires : tie.Need-make-requires
 make-requires c κs =

@@ -1,5 +1,5 @@
 -- `make` meets its contract: where r is 1 nothing is asked, else the lower half is laid out.
-use mathlib.Core.Path.{_≡_, sym, _∙_}
+use mathlib.Core.Path.{sym, _∙_}
 use mathlib.Core.Logic.{_≢_}
 use Rattle.definitions.specs.Numbers.{rOf}
 use Rattle.whole_from_half.proofs.Laying.{above-zero, r-is}
@@ -20,7 +20,8 @@ returns : tie.Need-returns
 returns c =
     let p = c .before .before .before .before .before in
     laid-one (p .args .kind) (p .args .n) (p .args .h) _ (above-zero _ _ _ _ (p .pre .0))
-    (sym (r-is _ _ _ _ (p .pre .0)) ∙ c .before .before .before .if1 .taken) (p .pre .1) (c .before .without-steps .ensures)
+    (sym (r-is _ _ _ _ (p .pre .0))
+    ∙ c .before .before .before .if1 .taken) (p .pre .1) (c .before .without-steps .ensures)
 
 lower-half-requires : tie.Need-lower-half-requires
 lower-half-requires c κs =
@@ -31,8 +32,13 @@ lay-out-requires : tie.Need-lay-out-requires
 lay-out-requires c κs =
     let p = c .before .before .before .before .before .before .before .before .before in
     let l = c .before .before .before .lower-half in
-    let above : rOf (p .args .n) ≢ 1 = λ e. c .before .before .before .before .before .before .before .if1 .left (r-is _ _ _ _ (p .pre .0) ∙ e) in
-    (still-ready (p .pre .0) (l .kept .0), lower _ _ _ _ (p .pre .0) above _ (l .ensures), bounded _ _ _ _ (p .pre .0) above _ (l .ensures))
+    let above : rOf (p .args .n) ≢ 1 =
+    λ e. c .before .before .before .before .before .before .before .if1 .left (r-is _ _ _ _ (p .pre .0) ∙ e) in (
+      still-ready (p .pre .0) (l .kept .0),
+      lower _ _ _ _ (p .pre .0) above _ (l .ensures),
+      bounded _ _ _ _
+          (p .pre .0) above _ (l .ensures),
+    )
 
 same-length-2 : tie.Need-same-length-2
 same-length-2 c = search needs

@@ -16,7 +16,8 @@ same-length c = search needs
 returns : tie.Need-returns
 returns c =
     let q = c .before .before .before .before .before .before in
-    λ f g F G. made-quotient (q .args .m) (q .pre .4) (c .before .before .before .before .times-parts .ensures f g F G) (c .before .divide .ensures)
+    λ f g F G. made-quotient (q .args .m) (q .pre .4)
+    (c .before .before .before .before .times-parts .ensures f g F G) (c .before .divide .ensures)
 
 pub divided-parts-spec : {M : Type 1} → statement M
 divided-parts-spec = tie.close (tie.spec times-parts-requires divide-requires same-length returns)

@@ -23,7 +23,8 @@ mirror-requires : tie.Need-mirror-requires
 mirror-requires c κs =
     let q = c .before .before in
     let (pos, small, size, room) = q .pre .0 in
-    part-inside (q .args .kind) (q .args .m) (q .args .from) (q .args .to) (q .args .b .now) pos small size room (q .pre .1)
+    part-inside (q .args .kind) (q .args .m) (q .args .from) (q .args .to) (q .args .b .now) pos small size room
+    (q .pre .1)
 
 same-length : tie.Need-same-length
 same-length c = search needs

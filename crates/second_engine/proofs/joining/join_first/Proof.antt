@@ -1,9 +1,8 @@
--- `joining::join_first` meets its contract: what is filled in, multiplied and, of F, divided is the polynomial of m p modulo
+-- `joining::join_first` meets its contract: what is filled in, multiplied and, of F, divided is the polynomial of m p
+-- modulo
 -- 2^64, and so exact.
-use mathlib.Core.Path.{_≡_, sym, _∙_}
-use Prim.Native.Nat.{_+_, _*_, _≤_}
+use mathlib.Core.Path.{sym, _∙_}
 use native.Mathlib.Omega.{arith}
-use lib.ListN.{length}
 use lib.Seq.{length-take-le}
 use Rattle.definitions.specs.Second.{otherKind}
 use Rattle.second_engine.proofs.Joined.{p-pos, r-pos, m-small, p-small, below-m, free-r, still, made-half}
@@ -36,7 +35,8 @@ add-size : tie.Need-add-size
 add-size c = omega (arith, free-r (c .before .before .before .pre), c .before .before .before .pre .small)
 
 slice-relend-prefix-divided-parts : tie.Need-slice-relend-prefix-divided-parts
-slice-relend-prefix-divided-parts c = rw (size-first (c .before .before .before .pre)) (c .before .before .before .pre .room)
+slice-relend-prefix-divided-parts c =
+    rw (size-first (c .before .before .before .pre)) (c .before .before .before .pre .room)
 
 slice-aggregate-divided-parts : tie.Need-slice-aggregate-divided-parts
 slice-aggregate-divided-parts c =
@@ -62,7 +62,8 @@ returns c =
     let f = c .before .before .before .before .before in
     let J = f .before .before .pre in
     made-half 1 _ (r-pos J) (J .small) _
-    (c .before .divided-parts .ensures _ _ (f .fill .ensures .whole) (still (f .fill .ensures) (rw (whole-first J) (J .other)))) (is-first J)
+    (c .before .divided-parts .ensures _ _ (f .fill .ensures .whole) (still (f .fill .ensures) (rw (whole-first J)
+    (J .other)))) (is-first J)
     (c .before .divided-parts .kept .0 ∙ length-take-le _ _ (rw (size-first J) (J .room)) ∙ size-first J)
 
 pub join-first-spec : {M : Type 1} → statement M

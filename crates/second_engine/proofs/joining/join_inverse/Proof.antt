@@ -1,9 +1,8 @@
--- `joining::join_inverse` meets its contract: what is filled in, multiplied and, of F, divided is the polynomial of m p modulo
+-- `joining::join_inverse` meets its contract: what is filled in, multiplied and, of F, divided is the polynomial of m p
+-- modulo
 -- 2^64, and so exact.
-use mathlib.Core.Path.{_≡_, sym, _∙_}
-use Prim.Native.Nat.{_+_, _*_, _≤_}
+use mathlib.Core.Path.{sym, _∙_}
 use native.Mathlib.Omega.{arith}
-use lib.ListN.{length}
 use lib.Seq.{length-take-le}
 use Rattle.definitions.specs.Second.{otherKind}
 use Rattle.second_engine.proofs.Joined.{p-pos, r-pos, m-small, p-small, below-m, free-r, still, made-half}
@@ -39,7 +38,8 @@ add-size : tie.Need-add-size
 add-size c = omega (arith, free-r (c .before .before .before .pre), c .before .before .before .pre .small)
 
 slice-relend-prefix-times-parts : tie.Need-slice-relend-prefix-times-parts
-slice-relend-prefix-times-parts c = rw (size-inverse (c .before .before .before .pre)) (c .before .before .before .pre .room)
+slice-relend-prefix-times-parts c =
+    rw (size-inverse (c .before .before .before .pre)) (c .before .before .before .pre .room)
 
 slice-aggregate-times-parts : tie.Need-slice-aggregate-times-parts
 slice-aggregate-times-parts c =
@@ -65,7 +65,8 @@ returns c =
     let f = c .before .before .before .before .before in
     let J = f .before .before .pre in
     made-half 2 _ (r-pos J) (J .small) _
-    (c .before .times-parts .ensures _ _ (f .fill .ensures .whole) (still (f .fill .ensures) (rw (whole-inverse J) (J .other)))) (is-inverse J)
+    (c .before .times-parts .ensures _ _ (f .fill .ensures .whole) (still (f .fill .ensures) (rw (whole-inverse J)
+    (J .other)))) (is-inverse J)
     (c .before .times-parts .kept .0 ∙ length-take-le _ _ (rw (size-inverse J) (J .room)) ∙ size-inverse J)
 
 pub join-inverse-spec : {M : Type 1} → statement M

@@ -2,7 +2,6 @@
 use mathlib.Core.Path.{refl}
 use borrow.Author.Tests.{eq-eqb, ne-eqb}
 use Rattle.cyclotomic.specs.Mirrors.{negates}
-use borrow.Author.Needs.{needs}
 use Rattle.second_engine.proofs.joining.negates.Statement.{statement}
 use Rattle.second_engine.proofs.joining.negates.Tie as tie
 

@@ -1,9 +1,7 @@
 -- `joining::times_parts` meets its contract: both parts are lent as they stand.
-use mathlib.Core.Path.{sym, ap₂}
+use mathlib.Core.Path.{sym}
 use native.Mathlib.Omega.{arith}
 use lib.Seq.{length-take-le}
-use Rattle.definitions.specs.Series.{_·_, spread}
-use Rattle.spread_products.specs.Rows.{Made}
 use Rattle.second_engine.proofs.Joined.{part-series, front-series}
 use borrow.Author.Needs.{needs}
 use Rattle.second_engine.proofs.joining.times_parts.Statement.{statement}

@@ -1,6 +1,6 @@
 -- `divide` meets its contract. The invariant: the division of what came in has got to i.
 use Prim.Native.Nat.{_-_}
-use mathlib.Core.Path.{_≡_, sym, _∙_, ap}
+use mathlib.Core.Path.{_∙_, ap}
 use native.Mathlib.Omega.{arith}
 use lib.ListN.{length, set}
 use Rattle.spread_products.specs.Quotients.{DividedTo}
@@ -9,7 +9,6 @@ use lib.IntN.{ℤ}
 use Rattle.step_laws.specs.Machine.{handed}
 use Rattle.wrapped_sums.specs.Residues.{wrap-fits}
 use Rattle.spread_products.proofs.Dividing.{next-one, ended}
-use borrow.Author.Needs.{needs}
 use Rattle.spread_products.proofs.division.divide.Statement.{statement}
 use Rattle.spread_products.proofs.division.divide.Tie as tie
 
@@ -31,8 +30,12 @@ loop-holds : tie.Need-loop-holds Inv-loop μ-loop
 loop-holds c = λ l p. p
 
 -- of the list that came in
-known : (c : tie.At-loop Inv-loop μ-loop) → DividedTo (c .before .before .before .before .before .before .before .args .m) (c .before .before .before .before .before .before .before .args .a .now) (c .loop .a) (c .loop .i)
-known c = c .loop .inv _ (c .before .before .divide-fours .ensures _ (c .before .before .before .before .before .divide-low .ensures))
+known : (c : tie.At-loop Inv-loop μ-loop)
+    → DividedTo (c .before .before .before .before .before .before .before .args .m)
+    (c .before .before .before .before .before .before .before .args .a .now) (c .loop .a) (c .loop .i)
+known c =
+    c .loop .inv _ (c .before .before .divide-fours .ensures _
+    (c .before .before .before .before .before .divide-low .ensures))
 
 next-quotient-requires : tie.Need-next-quotient-requires Inv-loop μ-loop
 next-quotient-requires c κs =
@@ -54,7 +57,8 @@ loop-again c =
     let s = c .before .before .before .before .before .before in
     let d = s .loop .inv l p in
     next-one _ (s .before .before .before .before .before .before .before .pre) l d (omega (arith, d .split .len))
-    (c .before .put .ensures ∙ ap (set (s .loop .a) (s .loop .i)) (handed (wrap-fits _) (c .before .before .before .next-quotient .ensures)))
+    (c .before .put .ensures
+    ∙ ap (set (s .loop .a) (s .loop .i)) (handed (wrap-fits _) (c .before .before .before .next-quotient .ensures)))
 
 same-length : tie.Need-same-length Inv-loop μ-loop
 same-length c = known (c .before) .split .len

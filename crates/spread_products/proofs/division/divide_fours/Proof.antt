@@ -6,7 +6,6 @@ use native.Mathlib.Omega.{arith}
 use lib.ListN.{length}
 use lib.IntN.{ℤ}
 use Rattle.spread_products.specs.Quotients.{DividedTo}
-use borrow.Author.Needs.{needs}
 use Rattle.spread_products.proofs.Dividing.{next-four}
 use Rattle.spread_products.proofs.division.divide_fours.Statement.{statement}
 use Rattle.spread_products.proofs.division.divide_fours.Tie as tie
@@ -47,7 +46,8 @@ loop-again c =
     λ l p.
     let s = c .before .before .before .before in
     let d = s .loop .inv l p in
-    next-four _ (s .before .before .pre .0) l d (omega arith) (omega (arith, d .split .len)) (c .before .divide-four .ensures)
+    next-four _ (s .before .before .pre .0) l d (omega arith) (omega (arith, d .split .len))
+    (c .before .divide-four .ensures)
 
 same-length : tie.Need-same-length Inv-loop μ-loop
 same-length c = known (c .before) .split .len ∙ sym (c .before .before .before .pre .1 .done .split .len)

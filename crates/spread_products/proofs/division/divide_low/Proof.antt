@@ -1,12 +1,12 @@
 -- `division::divide_low` meets its contract. The invariant: the division has got to i, and each entry from there on is
 -- the old one.
 use Prim.Native.Nat.{_-_, _≤_}
-use mathlib.Core.Path.{_≡_, sym, _∙_, ap}
+use mathlib.Core.Path.{_∙_, ap}
 use native.Mathlib.Omega.{arith}
-use lib.ListN.{length, set}
+use lib.ListN.{set}
 use Rattle.definitions.specs.Integers.{_⊝_, 0ℤ}
 use Rattle.definitions.specs.Steps.{entries}
-use Rattle.step_laws.specs.Machine.{handed, seen}
+use Rattle.step_laws.specs.Machine.{handed}
 use Rattle.wrapped_sums.specs.Wrapped.{wrap}
 use Rattle.wrapped_sums.specs.Residues.{wrap-fits}
 use mir.Facts.{toZ-ofZ}
@@ -53,11 +53,16 @@ loop-again c =
     let p = c .before .before .before .before .before .before in
     let b = p .before .before in
     let n = p .loop .inv .0 .len in
-    let f : SFits w64 (entries (p .loop .a) (p .loop .i)) = record { sfits = c .before .before .before .before .minus-arg .given } in
-    (low-next (b .args .m) (b .pre) (b .args .a .now) (p .loop .inv .0) (omega (arith, p .before .smaller .ensures))
-    (omega (arith, p .before .smaller .ensures))
-    (c .before .put .ensures ∙ ap (set (p .loop .a) (p .loop .i))
-    (handed (wrap-fits _) (c .before .before .before .minus .ensures ∙ ap (λ v. wrap (0ℤ ⊝ v)) (toZ-ofZ f)))), omega arith)
+    let f : SFits w64 (entries (p .loop .a) (p .loop .i)) = record {
+      sfits =
+          c .before .before .before .before .minus-arg .given;
+    } in (
+      low-next (b .args .m) (b .pre) (b .args .a .now) (p .loop .inv .0) (omega (arith, p .before .smaller .ensures))
+          (omega (arith, p .before .smaller .ensures))
+          (c .before .put .ensures ∙ ap (set (p .loop .a) (p .loop .i))
+          (handed (wrap-fits _) (c .before .before .before .minus .ensures ∙ ap (λ v. wrap (0ℤ ⊝ v)) (toZ-ofZ f)))),
+      omega arith,
+    )
 
 same-length : tie.Need-same-length Inv-loop μ-loop
 same-length c = c .before .loop .inv .0 .len

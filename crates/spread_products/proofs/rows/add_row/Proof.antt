@@ -1,8 +1,7 @@
 -- `rows::add_row` meets its contract. The invariant: the row has got to the place j of g.
 use Prim.Native.Nat.{_+_, _-_, _≤_}
-use mathlib.Core.Path.{_≡_, sym, _∙_, ap}
+use mathlib.Core.Path.{_∙_, ap}
 use native.Mathlib.Omega.{arith}
-use lib.ListN.{length}
 use Rattle.definitions.specs.Integers.{_⊕_}
 use Rattle.definitions.specs.Steps.{entries}
 use Rattle.wrapped_sums.specs.Wrapped.{wrap}
@@ -51,10 +50,14 @@ loop-again c =
     let s = c .before .before .before .before .before in
     let p = s .before .before .args in
     let n = s .loop .inv .0 .split .len in
-    let r = c .before .before .before .read-entry .ensures in
-    (row-next (p .away) (p .at) (p .g .now) (p .a .now) (s .loop .inv .0) (omega (arith, s .before .smaller .ensures, s .before .before .pre))
-    (c .before .add-at .ensures
-    ∙ ap (λ v. set (s .loop .a) (p .at + s .loop .j) (wrap (entries (s .loop .a) (p .at + s .loop .j) ⊕ signed (p .away) v))) (handed (r .1) (r .0))), omega arith)
+    let r = c .before .before .before .read-entry .ensures in (
+      row-next (p .away) (p .at) (p .g .now) (p .a .now) (s .loop .inv .0) (omega
+          (arith, s .before .smaller .ensures, s .before .before .pre))
+          (c .before .add-at .ensures
+          ∙ ap (λ v. set (s .loop .a) (p .at + s .loop .j) (wrap (entries (s .loop .a) (p .at + s .loop .j) ⊕ signed
+          (p .away) v))) (handed (r .1) (r .0))),
+      omega arith,
+    )
 
 same-length : tie.Need-same-length Inv-loop μ-loop
 same-length c = c .before .loop .inv .0 .split .len

@@ -1,6 +1,6 @@
 -- `rows::add_times` meets its contract. The invariant: q rows were added.
 use Prim.Native.Nat.{_-_, _≤_}
-use mathlib.Core.Path.{_≡_, sym, _∙_, ap}
+use mathlib.Core.Path.{ap}
 use native.Mathlib.Omega.{arith}
 use lib.IntN.{pos, natAbs}
 use lib.Signed.{ltZ}
@@ -25,7 +25,8 @@ loop-holds : tie.Need-loop-holds Inv-loop μ-loop
 loop-holds c = (no-rows _ _ _ _, omega arith)
 
 add-row-requires : tie.Need-add-row-requires Inv-loop μ-loop
-add-row-requires c κs = omega (arith, c .before .before .loop .inv .0 .rows .len, c .before .before .before .before .pre)
+add-row-requires c κs =
+    omega (arith, c .before .before .loop .inv .0 .rows .len, c .before .before .before .before .pre)
 
 add-q : tie.Need-add-q Inv-loop μ-loop
 add-q c = omega arith
@@ -43,7 +44,8 @@ returns : tie.Need-returns Inv-loop μ-loop
 returns c =
     let s = c .before .before .before in
     let e = toZ-ofZ (s .fits .c) in
-    all-rows (s .args .c) (rw e at (c .before .loop .inv .0)) (omega (arith, c .before .loop .inv .1, c .before .before .magnitude .ensures, ap natAbs e))
+    all-rows (s .args .c) (rw e at (c .before .loop .inv .0)) (omega
+    (arith, c .before .loop .inv .1, c .before .before .magnitude .ensures, ap natAbs e))
 
 pub add-times-spec : {M : Type 1} → statement M
 add-times-spec =

@@ -16,7 +16,8 @@ returns : tie.Need-returns
 unfolding signed
 returns c =
     let q = c .before .before in
-    rw (c .before .if1 .taken) (handed (wrap-fits _) (c .minus .ensures ∙ ap wrap (seen-both (q .fits .x) (q .fits .y) _⊝_)))
+    rw (c .before .if1 .taken) (handed (wrap-fits _) (c .minus .ensures
+    ∙ ap wrap (seen-both (q .fits .x) (q .fits .y) _⊝_)))
 
 plus-requires : tie.Need-plus-requires
 plus-requires c κs = search needs
@@ -25,7 +26,8 @@ returns-2 : tie.Need-returns-2
 unfolding signed
 returns-2 c =
     let q = c .before .before in
-    rw (c .before .if1 .left) (handed (wrap-fits _) (c .plus .ensures ∙ ap wrap (seen-both (q .fits .x) (q .fits .y) _⊕_)))
+    rw (c .before .if1 .left) (handed (wrap-fits _) (c .plus .ensures
+    ∙ ap wrap (seen-both (q .fits .x) (q .fits .y) _⊕_)))
 
 pub signed-sum-spec : {M : Type 1} → statement M
 signed-sum-spec = tie.close (tie.spec minus-requires returns plus-requires returns-2)

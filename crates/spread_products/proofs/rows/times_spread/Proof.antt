@@ -1,15 +1,12 @@
 -- `times_spread` meets its contract. The invariant: the product has got to the term i, whose place is i p.
-use Prim.Native.Nat.{_+_, _*_, _-_, _<_, _≤_}
-use mathlib.Core.Path.{_≡_, refl, sym, _∙_, ap}
+use Prim.Native.Nat.{_*_, _-_, _<_, _≤_}
+use mathlib.Core.Path.{_≡_, refl, _∙_}
 use native.Mathlib.Nat as NatL
 use native.Mathlib.Omega.{arith}
 use lib.ListN.{length}
 use Rattle.step_laws.specs.Machine.{handed}
-use lib.ListN.{length-replicate}
-use Rattle.definitions.specs.Requests.{zeros}
 use Rattle.spread_products.proofs.Spreading.{within, beyond}
 use Rattle.spread_products.proofs.Spreading.{ProductTo, product-start, product-next, product-ends}
-use borrow.Author.Needs.{needs}
 use Rattle.spread_products.proofs.rows.times_spread.Statement.{statement}
 use Rattle.spread_products.proofs.rows.times_spread.Tie as tie
 
@@ -36,9 +33,12 @@ smaller-requires c κs = tt
 
 loop-holds : tie.Need-loop-holds Inv-loop μ-loop
 loop-holds c =
-    let s = c .before .before .before .before in
-    (product-start (s .args .p) (s .pre .0) (s .args .f .now) (s .args .g .now) _ (c .before .before .clear .ensures),
-    omega arith, omega arith, refl)
+    let s = c .before .before .before .before in (
+      product-start (s .args .p) (s .pre .0) (s .args .f .now) (s .args .g .now) _ (c .before .before .clear .ensures),
+      omega arith,
+      omega arith,
+      refl,
+    )
 
 -- the terms that are taken
 taken : (c : tie.At-loop Inv-loop μ-loop) → c .loop .i < c .before .smaller .result
@@ -62,7 +62,13 @@ add-i c = omega arith
 add-at : tie.Need-add-at Inv-loop μ-loop
 add-at c =
     let at = c .before .before .before .before .before in
-    omega (arith, at .loop .inv .1, taken at (c .before .before .before .before .loop-test .taken) .1, at .before .before .before .before .before .pre .1)
+    omega (
+      arith,
+      at .loop .inv .1,
+      taken at
+          (c .before .before .before .before .loop-test .taken) .1,
+      at .before .before .before .before .before .pre .1,
+    )
 
 loop-less : tie.Need-loop-less Inv-loop μ-loop
 loop-less c = omega arith
@@ -72,9 +78,13 @@ loop-again c =
     let at = c .before .before .before .before .before in
     let s = at .before .before .before .before .before in
     let (p, e, few, n) = at .loop .inv in
-    let r = c .before .before .before .read-entry .ensures in
-    (product-next (s .args .p) (s .pre .0) (s .args .f .now) (s .args .g .now) p e (handed (r .1) (r .0)) (c .before .add-times .ensures),
-    omega (arith, e, NatL.add-mul (at .loop .i) 1 (s .args .p)), omega arith, c .before .add-times .ensures .len ∙ n)
+    let r = c .before .before .before .read-entry .ensures in (
+      product-next (s .args .p) (s .pre .0) (s .args .f .now) (s .args .g .now) p e (handed (r .1) (r .0))
+          (c .before .add-times .ensures),
+      omega (arith, e, NatL.add-mul (at .loop .i) 1 (s .args .p)),
+      omega arith,
+      c .before .add-times .ensures .len ∙ n,
+    )
 
 same-length : tie.Need-same-length Inv-loop μ-loop
 same-length c = c .before .loop .inv .3 ∙ c .before .before .before .before .clear .kept .0
