@@ -47,7 +47,7 @@ extern "C" {
  * PATCH moves for everything else.
  */
 #define BV_VERSION_MAJOR 1
-#define BV_VERSION_MINOR 1
+#define BV_VERSION_MINOR 2
 #define BV_VERSION_PATCH 0
 
 /* The two kinds of polynomial. */
@@ -78,9 +78,10 @@ extern "C" {
 #define BV_REFUSED_KIND UINT64_C(1)    /* kind is not 1 or 2 */
 #define BV_REFUSED_INDEX UINT64_C(2)   /* n is 0 or above 65535; bv_partial: also where n has no odd prime factor */
 #define BV_REFUSED_LIMIT UINT64_C(3)   /* the height limit h or the working limit w is below 1 */
-#define BV_REFUSED_SHORT UINT64_C(4)   /* the slice to be filled is too short; bv_cascade: or the scratch is */
+#define BV_REFUSED_SHORT UINT64_C(4)   /* the slice to be filled is too short; bv_cascade, bv_second: or the scratch */
 #define BV_REFUSED_OVER UINT64_C(5)    /* a step would pass w in magnitude; bv_write: a coefficient is -2^63;
-                                          bv_cascade: a product of first factors is out of range */
+                                          bv_cascade: a product of first factors is out of range;
+                                          bv_second: never */
 #define BV_REFUSED_TALL UINT64_C(6)    /* a coefficient is larger in magnitude than h */
 #define BV_REFUSED_STEP UINT64_C(7)    /* size is 0 or above 65535; bv_partial: there are fewer than j divisors */
 #define BV_REFUSED_CUT UINT64_C(8)     /* bv_read: the record ends early */
@@ -122,7 +123,7 @@ typedef struct bv_answer {
     uint64_t code;
     uint64_t degree;    /* of the polynomial: degree + 1 entries are needed, and filled */
     uint64_t additions; /* the count of its steps: for each, the entries of the kept half from its size on; of a
-                           cascade 0 */
+                           cascade, and by bv_second, 0 */
     uint64_t height;    /* the largest magnitude among its coefficients */
     uint64_t peak;      /* the lowest degree at which that magnitude occurs */
     int64_t gain;       /* the sum of its coefficients */

@@ -157,7 +157,18 @@ static const polynomial_case POLYNOMIALS[] = {
     {2, 105, 57, 122, 1, 0, 0, 1},
     {1, 420, 96, 98, 2, 14, 1, 2},
     {2, 4004, 2564, 646, 2, 92, 0, 2},
+    {1, 385, 240, 656, 3, 119, 1, 3},
+    {2, 385, 145, 324, 1, 0, 0, 1},
+    {2, 770, 530, 324, 1, 0, 0, 1},
+    {1, 11025, 5040, 98, 2, 735, 1, 2},
+    {2, 15015, 9255, 126604, 11, 583, 0, 1113164},
+    {1, 30030, 5760, 74316, 23, 2294, 1, 210},
     {1, 32768, 16384, 0, 1, 0, 2, 1},
+    {2, 32768, 16384, 0, 1, 0, 0, 1},
+    {1, 65498, 32748, 16374, 1, 0, 1, 1},
+    {1, 65521, 65520, 32760, 1, 0, 65521, 1},
+    {2, 65521, 1, 0, 1, 0, 0, 1},
+    {2, 65522, 32942, 0, 1, 0, 0, 1},
     {1, 65535, 32768, 205314, 4, 13384, 1, 4},
     {2, 65535, 32767, 205300, 2, 53, 0, 2},
 };
@@ -380,19 +391,18 @@ static void record(void) {
     lowest();
 }
 
-/* a second slice, likewise */
-static int64_t scratch[65536 + 8];
-static const size_t BOTH = sizeof buf / sizeof *buf;
+/* a second slice, likewise; with room for the second engine at every index, and more */
+static int64_t scratch[131086 + 50];
 
 static int fresh_scratch(void) {
-    for (size_t i = 0; i < BOTH; i++)
+    for (size_t i = 0; i < COUNT(scratch); i++)
         scratch[i] = 77;
     return fresh();
 }
 
 /* all of its first so many are what is told, and the others stand as they were */
 static int scratch_holds(size_t room, int64_t told) {
-    for (size_t i = 0; i < BOTH; i++)
+    for (size_t i = 0; i < COUNT(scratch); i++)
         if (scratch[i] != (i < room ? told : 77))
             return 0;
     return 1;
@@ -484,6 +494,67 @@ static void no_cascades(void) {
     }
 }
 
+/* A request to the second engine that is refused before any length counts. */
+static int refused_second(uint64_t kind, uint64_t n, int64_t h, size_t len, size_t room, uint64_t code) {
+    bv_answer a = bv_second(kind, n, h, len == 0 ? NULL : buf, len, room == 0 ? NULL : scratch, room);
+    return answers(a, code, 0, 0, 0, 0, 0) && untouched_from(0) && scratch_holds(0, 0);
+}
+
+/* KIND, then INDEX, then LIMIT come first, whatever follows. */
+static void no_seconds(void) {
+    static const size_t lens[] = {0, 65536}, rooms[] = {0, 131086};
+    fresh_scratch();
+    for (size_t k = 0; k < COUNT(LIMITS); k++)
+        for (size_t at = 0; at < 4; at++) {
+            int64_t h = LIMITS[k];
+            size_t len = lens[at / 2], room = rooms[at % 2];
+            for (size_t i = 0; i < COUNT(NO_KIND); i++) {
+                HOLD(refused_second(NO_KIND[i], NO_INDEX[i], h, len, room, BV_REFUSED_KIND));
+                HOLD(refused_second(NO_KIND[i], 105, h, len, room, BV_REFUSED_KIND));
+                HOLD(refused_second(1, NO_INDEX[i], h, len, room, BV_REFUSED_INDEX));
+                HOLD(refused_second(2, NO_INDEX[i], h, len, room, BV_REFUSED_INDEX));
+            }
+            if (h < 1) {
+                HOLD(refused_second(1, 1, h, len, room, BV_REFUSED_LIMIT));
+                HOLD(refused_second(2, 65535, h, len, room, BV_REFUSED_LIMIT));
+            }
+        }
+}
+
+/* The second engine at an h and with rooms of any sort. */
+static void asked_second(const polynomial_case *p, int64_t h, size_t len, size_t room) {
+    fresh_scratch();
+    bv_answer a = bv_second(p->kind, p->n, h, len == 0 ? NULL : buf, len, room == 0 ? NULL : scratch, room);
+    if (h < 1)
+        HOLD(answers(a, BV_REFUSED_LIMIT, 0, 0, 0, 0, 0) && untouched_from(0) && scratch_holds(0, 0));
+    else if (len <= p->degree || room < 2 * p->n + 16)
+        HOLD(answers(a, BV_REFUSED_SHORT, p->degree, 0, 0, 0, 0) && untouched_from(0) && scratch_holds(0, 0));
+    else if (p->height > (uint64_t)h)
+        HOLD(answers(a, BV_REFUSED_TALL, p->degree, 0, 0, 0, 0) && zero_to(p->degree) &&
+             untouched_from(p->degree + 1) && scratch_holds(room, 0));
+    else {
+        static int64_t plain[65536];
+        HOLD(answers(a, BV_DONE, p->degree, 0, p->height, p->peak, p->gain) && buf[p->degree] == 1 &&
+             untouched_from(p->degree + 1) && scratch_holds(room, 0));
+        HOLD(bv_polynomial(p->kind, p->n, h, NONE, plain, len).code == BV_DONE &&
+             memcmp(plain, buf, (p->degree + 1) * sizeof *buf) == 0);
+    }
+}
+
+/* Every edge of h with every edge of both lengths; then h at the height and one less. */
+static void seconds(void) {
+    for (size_t i = 0; i < COUNT(POLYNOMIALS); i++) {
+        const polynomial_case *p = &POLYNOMIALS[i];
+        const size_t enough = p->degree + 1, needed = 2 * p->n + 16;
+        const size_t lens[] = {0, enough - 1, enough, enough + 2}, rooms[] = {0, needed - 1, needed, needed + 40};
+        for (size_t k = 0; k < 16; k++)
+            for (size_t at = 0; at < COUNT(LIMITS); at++)
+                asked_second(p, LIMITS[at], lens[k / 4], rooms[k % 4]);
+        asked_second(p, (int64_t)p->height, enough, needed);
+        asked_second(p, (int64_t)p->height - 1, enough, needed);
+    }
+}
+
 /* Each code has its name, and no other number has one. */
 static void names(void) {
     static const char *const of[] = {"DONE",   "KIND",   "INDEX", "LIMIT", "SHORT", "OVER",  "TALL",
@@ -505,6 +576,8 @@ int main(void) {
     record();
     no_cascades();
     cascades();
+    no_seconds();
+    seconds();
     names();
     printf("%d outcomes, all as told in bonvedrick.h\n", calls);
     return 0;

@@ -22,6 +22,7 @@ from typing import Iterable, NamedTuple, SupportsIndex
 F, I = 1, 2
 NO_LIMIT = 2**63 - 1  # as h or w
 MOST_ENTRIES = 65536  # no polynomial has more
+MOST_SCRATCH = 131086  # the second engine needs no more
 SIZE_MAX = 2 ** (8 * ctypes.sizeof(c_size_t)) - 1
 
 # Every code; 10 is given no more.
@@ -55,7 +56,7 @@ FIELDS = {
 
 
 class Answer(NamedTuple):
-    """What is told of a polynomial, or of a cascade: then additions is 0."""
+    """What is told of a polynomial, or of a cascade; then, and by the second engine, additions is 0."""
 
     code: int
     degree: int
@@ -106,6 +107,7 @@ FUNCTIONS = {  # what each answers and takes
     "bv_write": (Written, c_uint64, c_uint64, *WORDS, *BYTES),
     "bv_read": (Record, *BYTES, *WORDS),
     "bv_cascade": (Answer, *INDICES, c_int64, *WORDS, *WORDS),
+    "bv_second": (Answer, c_uint64, c_uint64, c_int64, *WORDS, *WORDS),
 }
 
 
@@ -222,6 +224,20 @@ class Bonvedrick:
         a = self._ask("bv_cascade", _indices(indices), _i64("h", h), buf, _room("scratch", scratch))
         return buf[: a.degree + 1], a
 
+    def second(
+        self,
+        kind: SupportsIndex,
+        n: SupportsIndex,
+        h: SupportsIndex = NO_LIMIT,
+        room: SupportsIndex = MOST_ENTRIES,
+        scratch: SupportsIndex = MOST_SCRATCH,
+    ) -> tuple[list[int], Answer]:
+        """The polynomial from another road, for reviewers: what `polynomial` gives without w, but for additions, which
+        are 0. `scratch` is how many entries are lent to work in: 2 n + 16 are needed."""
+        buf, work = _room("room", room), _room("scratch", scratch, MOST_SCRATCH)
+        a = self._ask("bv_second", _u64("kind", kind), _u64("n", n), _i64("h", h), buf, work)
+        return buf[: a.degree + 1], a
+
     def _ask(self, function, *arguments):
         """The answer of a C function, or Refused. An array goes over with its length."""
         passed = []
@@ -283,10 +299,10 @@ def _indices(values):
     return (c_uint64 * len(numbers))(*numbers)
 
 
-def _room(name, room):
-    """The entries to lend. No more than any polynomial has: the others would stand there untouched, and memory may not
-    have so many."""
-    return (c_int64 * min(_within(name, room, 0, SIZE_MAX), MOST_ENTRIES))()
+def _room(name, room, most=MOST_ENTRIES):
+    """The entries to lend. No more than any request needs: the others would stand there unused, and memory may not have
+    so many."""
+    return (c_int64 * min(_within(name, room, 0, SIZE_MAX), most))()
 
 
 def _bytes(data):

@@ -47,6 +47,7 @@ for hz in 0, 50, 100, 150, 200:
     print(f"{hz:4} Hz: {response(f, hz):.3f}")
 i, _ = bv.polynomial(I, N)
 print(f"F({N}) I({N}) = z^{N} - 1:", product(f, i) == [-1] + [0] * (N - 1) + [1])
+print(f"F({N}) by the second engine, the same:", bv.second(F, N)[0] == f)
 nine, b = bv.polynomial(F, 9)
 print(f"F(9): {' '.join(map(str, nine))}, gain {b.gain}")
 tall, c = bv.polynomial(F, 105)

@@ -121,6 +121,7 @@ F15_DONE, I15_DONE = (F15, Answer(0, 8, 6, 1, 0, 1)), (I15, Answer(0, 7, 4, 1, 0
 F15_STOPS = {0: ([1, 0, 0, 0, 0], Stop(0, 4, 0, 3)), 1: ([1, -1, 0, 0, 0], Stop(0, 4, 4, 2))}
 I15_STOP = ([-1, -1, -1, -1], Stop(0, 3, 3, 2))
 BY_8 = ([1] * 8, Answer(0, 7, 0, 1, 0, 8))
+F15_SECOND, I15_SECOND = (F15, Answer(0, 8, 0, 1, 0, 1)), (I15, Answer(0, 7, 0, 1, 0, 0))
 
 # For each function good arguments, and for each number among them what fits its C type and what the rules give then.
 REQUESTS = {
@@ -163,6 +164,16 @@ REQUESTS = {
     "cascade": (
         dict(indices=[2, 4, 8], h=1, room=8, scratch=5),
         dict(h=limit(BY_8), room=entries(8, BY_8, 7), scratch=entries(5, BY_8, 7)),
+    ),
+    "second": (
+        dict(kind=F, n=15, h=1, room=9, scratch=46),
+        dict(
+            kind=kinds(F15_SECOND, I15_SECOND),
+            n=only(15, F15_SECOND, "INDEX"),
+            h=limit(F15_SECOND),
+            room=entries(9, F15_SECOND, 8),
+            scratch=entries(46, F15_SECOND, 8),
+        ),
     ),
 }
 # The lists among the arguments, what fits their C type, and what the rules give for any numbers of 64 bits in them.
@@ -223,6 +234,8 @@ class Numbers(Wrapper):
             self.bv.cascade([2, 4, -1])
         with self.assertRaisesRegex(OverflowError, r"^scratch is not from 0 to "):
             self.bv.cascade([2, 4, 8], scratch=-1)
+        with self.assertRaisesRegex(OverflowError, r"^scratch is not from 0 to "):
+            self.bv.second(F, 15, scratch=2**64)
 
     def test_what_is_no_whole_number(self):
         for function, (good, rules) in REQUESTS.items():
@@ -324,6 +337,21 @@ class Lists(Wrapper):
         for indices in [3] * 9, [65521, 17], [65521] * 8:
             self.assertEqual(self.outcome("cascade", indices=indices, h=0), (refused("LIST"), 1))
 
+    def test_both_engines(self):
+        """In as many entries as are needed, and in one less of each."""
+        for n in 1, 2, 9, 105, 210, 1155, 15015, 32768, 65521, 65535:
+            for kind in F, I:
+                coeffs, answer = self.bv.polynomial(kind, n)
+                told, rooms = (coeffs, answer._replace(additions=0)), dict(room=len(coeffs), scratch=2 * n + 16)
+                self.assertEqual(self.bv.second(kind, n), told)
+                self.assertEqual(self.bv.second(kind, n, answer.height, **rooms), told)
+                for name, enough in rooms.items():
+                    asked = dict(kind=kind, n=n, h=1, **{**rooms, name: enough - 1})
+                    self.assertEqual(self.outcome("second", **asked), (refused("SHORT", answer.degree), 1))
+                if answer.height > 1:
+                    asked = dict(kind=kind, n=n, h=answer.height - 1, **rooms)
+                    self.assertEqual(self.outcome("second", **asked), (refused("TALL", answer.degree), 1))
+
     def test_there_and_back(self):
         for kind, n in (F, 1), (I, 1), (F, 105), (I, 105), (F, 65535), (I, 30030), (F, 65521):
             coeffs, answer = self.bv.polynomial(kind, n)
@@ -353,6 +381,7 @@ class Refusals(Wrapper):
             ("SHORT", lambda: self.bv.polynomial(I, 1, room=0)),
             ("LIST", lambda: self.bv.cascade([])),
             ("TALL", lambda: self.bv.cascade([2, 2], 1)),
+            ("SHORT", lambda: self.bv.second(F, 15, scratch=45)),
         ]
         for at, byte, name in [(0, 0, "MARK"), *fields, (10, 128, "WIDTH")]:
             damaged = F6_RECORD[:at] + bytes([byte]) + F6_RECORD[at + 1 :]
@@ -384,6 +413,7 @@ class Refusals(Wrapper):
                 "SHORT (4), degree 0",
                 "LIST (16)",
                 "TALL (6), degree 2",
+                "SHORT (4), degree 8",
                 "MARK (9)",
                 "RKIND (12), the record's kind, at byte 2, is wrong: right is 1 or 2",
                 "RWIDTH (13), the record's width, at byte 3, is wrong: right is 1, 2, 4 or 8",

@@ -67,6 +67,15 @@ mod c {
             scratch: *mut i64,
             room: usize,
         ) -> Answer;
+        pub fn bv_second(
+            kind: u64,
+            n: u64,
+            h: i64,
+            buf: *mut i64,
+            len: usize,
+            scratch: *mut i64,
+            room: usize,
+        ) -> Answer;
     }
 }
 
@@ -311,5 +320,19 @@ pub fn cascade<'a>(
 ) -> Result<Polynomial<'a>, Refusal> {
     let (work, room) = (scratch.as_mut_ptr(), scratch.len());
     let a = unsafe { c::bv_cascade(indices.as_ptr(), indices.len(), h, buf.as_mut_ptr(), buf.len(), work, room) };
+    delivered(a, buf)
+}
+
+/// The polynomial from another road, for reviewers: what `polynomial` delivers with `NO_LIMIT` as w, but for additions,
+/// which are 0. The scratch is to work in, and needs 2 n + 16 entries.
+pub fn second<'a>(
+    kind: Kind,
+    n: u64,
+    h: i64,
+    buf: &'a mut [i64],
+    scratch: &mut [i64],
+) -> Result<Polynomial<'a>, Refusal> {
+    let (work, room) = (scratch.as_mut_ptr(), scratch.len());
+    let a = unsafe { c::bv_second(kind as u64, n, h, buf.as_mut_ptr(), buf.len(), work, room) };
     delivered(a, buf)
 }

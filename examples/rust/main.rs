@@ -1,9 +1,11 @@
 //! A mains notch in Rust, over the safe wrapper. At 750 samples a second 50 Hz is one turn in 15 samples, so F(15)
 //! stops it. It asks, grows the buffer as the refusal tells, shows how the polynomial grows divisor by divisor, and
-//! stores it. Then it asks which registers of a chip the steps of a larger one fit, and for a cascade.
+//! stores it. Then it asks which registers of a chip the steps of a larger one fit, for a cascade, and both engines.
 mod bonvedrick;
 
-use bonvedrick::{Kind, NO_LIMIT, Refusal, accumulate, cascade, comb, partial, polynomial, read, registers, write};
+use bonvedrick::{
+    Kind, NO_LIMIT, Refusal, accumulate, cascade, comb, partial, polynomial, read, registers, second, write,
+};
 
 const RATE: u64 = 750;
 const MAINS: u64 = 50;
@@ -75,5 +77,10 @@ fn main() -> Result<(), Refusal> {
     println!("F(2) F(4) F(8) F(30): {:?}, gain {}", by_8.coeffs, by_8.gain);
     println!("of height 1: {:?}", cascade(&[2, 4, 8, 30], 1, &mut buf, &mut scratch));
     println!("no factor: {:?}", cascade(&[], 1, &mut buf, &mut scratch));
+
+    let mut scratch = [0; 2 * N as usize + 16];
+    println!("F({N}) by the second engine, no scratch: {:?}", second(Kind::F, N, 1, &mut buf, &mut []));
+    let other = second(Kind::F, N, 1, &mut buf, &mut scratch)?;
+    println!("in {} entries of scratch: the same coefficients: {}", scratch.len(), other.coeffs == f.coeffs);
     Ok(())
 }

@@ -3,7 +3,7 @@
 mod bonvedrick;
 
 use bonvedrick::{
-    Field, Kind, NO_LIMIT, Refusal, accumulate, cascade, comb, partial, polynomial, read, registers, write,
+    Field, Kind, NO_LIMIT, Refusal, accumulate, cascade, comb, partial, polynomial, read, registers, second, write,
 };
 
 /// F(6) and its record.
@@ -207,4 +207,46 @@ fn a_cascade_is_refused_by_what_its_first_factors_make() {
     assert_eq!(ask(&tall, 9184446742301304166), Err(Refusal::Tall { degree: Some(41988) }));
     // no coefficient passes 2^63 - 1, but their sum does
     assert_eq!(ask(&[239; 8], 1), Err(Refusal::Over { degree: Some(1904) }));
+}
+
+#[test]
+fn the_second_engine_delivers_or_refuses_with_the_degree() {
+    let (mut buf, mut scratch) = ([77; 60], [77; 240]);
+    let ask = |n, h, buf: &mut [i64], scratch: &mut [i64]| {
+        second(Kind::F, n, h, buf, scratch).map(|p| (p.coeffs.len(), p.additions, p.height, p.peak, p.gain))
+    };
+    for n in [0, 65536, u64::MAX] {
+        assert_eq!(ask(n, 0, &mut [], &mut scratch), Err(Refusal::Index));
+        assert_eq!(ask(n, 1, &mut buf, &mut []), Err(Refusal::Index));
+    }
+    for limit in [i64::MIN, -1, 0] {
+        assert_eq!(ask(105, limit, &mut buf, &mut []), Err(Refusal::Limit));
+    }
+    let short = Err(Refusal::Short { degree: Some(48) });
+    assert_eq!(ask(105, 1, &mut [], &mut []), short);
+    assert_eq!(ask(105, 1, &mut buf[..48], &mut scratch), short);
+    assert_eq!(ask(105, 1, &mut buf, &mut scratch[..225]), short);
+    assert_eq!((buf, scratch), ([77; 60], [77; 240]));
+    assert_eq!(ask(105, 1, &mut buf, &mut scratch[..226]), Err(Refusal::Tall { degree: Some(48) }));
+    assert!(buf[..49].iter().all(|&entry| entry == 0) && buf[49..].iter().all(|&entry| entry == 77));
+    assert!(scratch[..226].iter().all(|&entry| entry == 0) && scratch[226..].iter().all(|&entry| entry == 77));
+    assert_eq!(ask(105, 2, &mut buf, &mut scratch), Ok((49, 0, 2, 7, 1)));
+    assert_eq!((buf[7], buf[48], buf[49], scratch), (-2, 1, 77, [0; 240]));
+}
+
+#[test]
+fn both_engines_deliver_the_same() {
+    let (mut first, mut other, mut scratch) = (vec![77; 65536], vec![-77; 65536], vec![77; 131086]);
+    for n in [1, 2, 9, 105, 210, 1155, 15015, 32768, 65521, 65535] {
+        for kind in [Kind::F, Kind::I] {
+            let room = 2 * n as usize + 16;
+            scratch.fill(77);
+            let a = polynomial(kind, n, NO_LIMIT, NO_LIMIT, &mut first).unwrap();
+            let b = second(kind, n, NO_LIMIT, &mut other, &mut scratch[..room]).unwrap();
+            assert_eq!((a.coeffs, a.height, a.peak, a.gain), (b.coeffs, b.height, b.peak, b.gain));
+            assert_eq!(b.additions, 0);
+            assert!(scratch[..room].iter().all(|&entry| entry == 0));
+            assert!(scratch[room..].iter().all(|&entry| entry == 77));
+        }
+    }
 }

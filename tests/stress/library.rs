@@ -65,6 +65,7 @@ extern "C" {
         scratch: *mut i64,
         room: usize,
     ) -> Answer;
+    fn bv_second(kind: u64, n: u64, h: i64, buf: *mut i64, len: usize, scratch: *mut i64, room: usize) -> Answer;
 }
 
 fn lent<T>(a: &mut [T]) -> *mut T {
@@ -97,4 +98,8 @@ pub fn read(bytes: &[u8], coeffs: &mut [i64]) -> Record {
 
 pub fn cascade(indices: &[u64], h: i64, buf: &mut [i64], scratch: &mut [i64]) -> Answer {
     unsafe { bv_cascade(shown(indices), indices.len(), h, lent(buf), buf.len(), lent(scratch), scratch.len()) }
+}
+
+pub fn second(kind: u64, n: u64, h: i64, buf: &mut [i64], scratch: &mut [i64]) -> Answer {
+    unsafe { bv_second(kind, n, h, lent(buf), buf.len(), lent(scratch), scratch.len()) }
 }

@@ -9,6 +9,7 @@ mod random;
 mod records;
 mod reference;
 mod requests;
+mod seconds;
 mod steps;
 
 use random::Random;
@@ -33,14 +34,17 @@ fn main() {
     all += tell("partial requests", (0..500 * share).map(|_| requests::stop(&mut random, &mut of)).sum());
     all += tell("polynomials, any request", (0..2_000 * share).map(|_| requests::any(&mut random, &mut of)).sum());
     let last = LARGEST * share.min(100) / 100;
-    // together, since both need the reference for n
-    let (mut stops, mut polynomials) = (0, 0);
+    // together, since all need the reference for n
+    let (mut stops, mut polynomials, mut seconds) = (0, 0, 0);
     for n in 1..=last {
         polynomials += requests::index(&mut random, &mut of, n);
         stops += requests::stops(&mut random, &mut of, n);
+        seconds += seconds::index(&mut random, &mut of, n);
     }
     all += tell("polynomials, every index", polynomials);
     all += tell("partial requests, every r", stops);
+    all += tell("second engine, every index", seconds);
+    all += tell("second engine, any request", (0..5_000 * share).map(|_| seconds::any(&mut random, &mut of)).sum());
     all += tell("cascades", (0..100 * share).map(|_| cascades::any(&mut random, &mut of)).sum());
     all += tell("cascades of any indices", (0..share / 10).map(|_| cascades::large(&mut random, &mut of)).sum());
     println!("{all} inputs tried, no difference");

@@ -11,7 +11,7 @@ fn additions(half: usize, divisors: &[(usize, i32)]) -> u64 {
 }
 
 /// What must come back, and what must stand in the buffer.
-fn expected(of: &mut Reference, kind: u64, n: u64, h: i64, w: i64, before: &[i64]) -> (Answer, Vec<i64>) {
+pub fn expected(of: &mut Reference, kind: u64, n: u64, h: i64, w: i64, before: &[i64]) -> (Answer, Vec<i64>) {
     let mut buf = before.to_vec();
     let refused = |code, degree| Answer { code, degree, ..Answer::default() };
     if kind != 1 && kind != 2 {
