@@ -1,6 +1,5 @@
 -- For each input the contract of `second` leaves one outcome: two that meet it, as the checker reads it off the
--- clauses,
--- have the same answer and leave the same in both lent buffers.
+-- clauses, have the same answer and leave the same in both lent buffers.
 use mathlib.Core.Path.{_≡_, sym, _∙_}
 use contract.Lifetimes.{Lfts}
 use borrow.Fn.Kinds.{endedOf}

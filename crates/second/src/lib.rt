@@ -1,5 +1,4 @@
-// The request of the second engine (`second`): the polynomial request from another road. Nothing is asked of the
-// caller.
+// The request of the second engine (`second`): the polynomial from another road. Nothing is asked of the caller.
 mod making;
 
 use answers::Answer;

@@ -1,6 +1,5 @@
 -- Parts of a slice as series; that the product of both polynomials of m, and its quotient, is that of m p; and that
--- 64-bit
--- numbers which are so modulo 2^64 are it. The sizes, as they are computed.
+-- 64-bit numbers which are so modulo 2^64 are it. The sizes, as they are computed.
 use Prim.Native.Nat.{ℕ, _+_, _*_, _-_, _/_, _<_, _≤_}
 use mathlib.Core.Path.{_≡_, sym, _∙_, ap, fun-ext}
 use mathlib.Core.List.{List, _++_}

@@ -20,9 +20,8 @@ fn largest(primes: [u64; 5], k: usize) -> u64
     primes[k - 1]
 }
 
-// F(r), of the first k primes, in a: with p the last of them and m = r / p, from I(m) and F(m), which are made in b; a
-// is
-// the scratch there.
+// F(r), of the first k primes, in a: with p the last of them and m = r / p, from I(m) and F(m), which are made in b
+// while a is the scratch.
 fn first(a: &mut [i64], b: &mut [i64], primes: [u64; 5], k: usize, r: u64, free: u64)
     requires { ⌜ Asked 1 primes k r free (now a) (now b) ⌝ }
     ensures { λ _. ⌜ Half 1 r (now (a .exit)) ⌝ }

@@ -1,6 +1,5 @@
--- `joining::join_first` meets its contract: what is filled in, multiplied and, of F, divided is the polynomial of m p
--- modulo
--- 2^64, and so exact.
+-- `joining::join_first` meets its contract: what is filled in, multiplied and divided is F(m p) modulo 2^64, and so
+-- exact.
 use mathlib.Core.Path.{sym, _∙_}
 use native.Mathlib.Omega.{arith}
 use lib.Seq.{length-take-le}

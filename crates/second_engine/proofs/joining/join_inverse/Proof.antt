@@ -1,6 +1,4 @@
--- `joining::join_inverse` meets its contract: what is filled in, multiplied and, of F, divided is the polynomial of m p
--- modulo
--- 2^64, and so exact.
+-- `joining::join_inverse` meets its contract: what is filled in and multiplied is I(m p) modulo 2^64, and so exact.
 use mathlib.Core.Path.{sym, _∙_}
 use native.Mathlib.Omega.{arith}
 use lib.Seq.{length-take-le}
