@@ -1,24 +1,28 @@
 -- What the second engine makes is F and I (`made-is`), from the law of one prime more: F(mp) F(m) is F(m) with z^p for
 -- z, and F(m) I(m) is z^m - 1. So its product before the division is F(mp) times z^m - 1 (`product-first`), and that of
--- I is I(mp) itself (`product-inverse`).
-use Prim.Native.Nat.{ℕ, zero, suc, _*_, _<_, _∣_}
+-- I is I(mp) itself (`product-inverse`). None has a degree above mp (`made-degree`, `product-degree`).
+use Prim.Native.Nat.{ℕ, zero, suc, _+_, _*_, _-_, _<_, _≤_, _∣_}
+use native.Mathlib.Nat as NatL
 use mathlib.Core.Path.{_≡_, refl, sym, _∙_, ap, ap₂}
 use mathlib.Core.Bool.{Bool, true, false, cond}
 use mathlib.Core.List.{List, [], _∷_}
 use native.Mathlib.Omega.{arith}
 use lib.Dec.{eqb}
 use lib.ListN.{getD}
-use Rattle.definitions.specs.Integers.{_⊕_, _⊝_}
+use Rattle.definitions.specs.Integers.{_⊕_, _⊝_, 0ℤ}
 use Rattle.definitions.specs.Series.{Series, -ˢ, _·_, _÷_, z^, spread}
-use Rattle.definitions.specs.Numbers.{rowTo}
-use Rattle.definitions.specs.Polynomials.{z^-1, F, I, polynomial}
+use Rattle.definitions.specs.Numbers.{rowTo, phi}
+use Rattle.definitions.specs.Polynomials.{z^-1, F, I, polynomial, degree}
 use Rattle.definitions.specs.Second.{otherKind, made, beforeDivision}
-use Rattle.integers.specs.Solver.{:1, _:+_, _:*_, :-, x, y, z}
+use Rattle.integers.specs.Solver.{:0, :1, _:+_, _:*_, :-, x, y, z}
 use Rattle.series.specs.Laws.{at-+ˢ, at--ˢ, div-unique, ·-assoc, ringˢ}
-use Rattle.series.specs.Maps.{spread-mul}
+use Rattle.integers.specs.Whole.{ringℤ}
+use Rattle.series.specs.Maps.{spread-mul, shift-from}
 use Rattle.numbers.specs.Primes.{Prime, prime-pos}
-use Rattle.numbers.specs.PrimeRows.{New, fewer, row-pos}
+use Rattle.numbers.specs.Phi.{phi-le}
+use Rattle.numbers.specs.PrimeRows.{New, fewer, last-pos, row-pos, row-phi}
 use Rattle.cyclotomic.specs.Family.{F-one, unit-z^-1, pair-law, only-inverse}
+use Rattle.cyclotomic.specs.Degrees.{monic, monic-F, monic-I}
 use Rattle.cyclotomic.specs.OnePrime.{prime-new, spread-z^-1}
 use Rattle.cyclotomic.specs.Apart.{I-one}
 
@@ -89,3 +93,42 @@ module _ (ps : List ℕ) where
   product-is kind j h =
       ap₂ (λ f g. spread (p j h) f · g) (made-is kind j (fewer ps h)) (made-is (cond (eqb kind 1) 2 1) j (fewer ps h))
       ∙ product j h (eqb kind 1)
+
+  -- ---- nothing that is made for r has a degree above r: so `definitions/Second: outside` passes nothing over
+  pub made-degree : (kind j : ℕ) → New ps j → (i : ℕ) → rowTo ps j < i → made kind ps j i ≡ 0ℤ
+  unfolding degree
+  made-degree kind j h i b =
+      ap (λ f. f i) (made-is kind j h)
+      ∙ monic kind (rowTo ps j) (row-pos ps j h) .above i (low (eqb kind 1))
+    where
+      low : (c : Bool) → suc (cond c (phi (rowTo ps j)) (rowTo ps j - phi (rowTo ps j))) ≤ i
+      low true = omega (arith, phi-le (rowTo ps j))
+      low false = omega arith
+
+  pub product-degree : (kind j : ℕ) → New ps (suc j) → (i : ℕ) → rowTo ps (suc j) < i → beforeDivision kind ps j i ≡ 0ℤ
+  unfolding polynomial rowTo
+  product-degree kind j h i b = ap (λ f. f i) (product-is kind j h) ∙ go (eqb kind 1)
+    where
+      r : ℕ
+      r = rowTo ps (suc j)
+
+      pos : 0 < r
+      pos = row-pos ps (suc j) h
+
+      -- phi(mp) + m is at most mp
+      fits : phi r + m j h ≤ r
+      fits =
+          let one : p j h ≡ p j h - 1 + 1 = omega (arith, last-pos ps h) in
+          let whole : m j h * p j h ≡ m j h * (p j h - 1) + m j h =
+          ap (λ x. m j h * x) one ∙ NatL.mul-add (m j h) (p j h - 1) 1
+          ∙ ap (λ x. m j h * (p j h - 1) + x) (NatL.mul-one (m j h)) in
+          omega (arith, row-phi ps j h, NatL.mul-le-mul-right (p j h - 1) (phi-le (m j h)), whole)
+
+      go : (c : Bool) → cond c (F r · z^-1 (m j h)) (I r) i ≡ 0ℤ
+      go true =
+          times-z^-1 (m j h) (F r) i
+          ∙ ap₂ _⊝_ (shift-from (m j h) (F r) i (omega (arith, fits))
+          ∙ monic-F r pos .above (i - m j h) (omega (arith, fits)))
+          (monic-F r pos .above i (omega (arith, fits)))
+          ∙ ringℤ [] (:0 :+ :- :0) :0 refl
+      go false = monic-I r pos .above i (omega arith)

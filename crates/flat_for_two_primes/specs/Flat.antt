@@ -6,12 +6,14 @@ use mathlib.Core.Path.{_≡_, sym}
 use native.Mathlib.Nat.{mul-le-mul}
 use native.Mathlib.Omega.{arith}
 use lib.IntN.{natAbs}
+use Rattle.definitions.specs.Numbers.{kOf}
 use Rattle.definitions.specs.Polynomials.{F, polynomial}
 use Rattle.definitions.specs.Steps.{entries}
 use Rattle.definitions.specs.KeptHalf.{halfDegree, keptHalf}
 use Rattle.definitions.specs.Requests.{divisorsDue}
 use Rattle.numbers.specs.Primes.{prime-pos, prime-coprime, coprime-swap}
 use Rattle.numbers.specs.Apart.{OddSquarefree}
+use Rattle.numbers.specs.Below.{divisors-below}
 use Rattle.step_laws.specs.Bound.{Bounded, firsts-bounded}
 use Rattle.cyclotomic.specs.Degrees.{half-below}
 use Rattle.cyclotomic.specs.Kept.{kept-all}
@@ -36,3 +38,8 @@ two-flat r O three =
     rw (kept-all 1 r O (λ (e : r ≡ 1). omega arith))
     (firsts-bounded 1 (halfDegree 1 r + 1) (F r)
     (λ i l. F-flat r t i (omega (arith, half-below 1 r above))))
+
+-- of F itself, by the number of primes
+pub flat-of-two : (r : ℕ) → OddSquarefree r → kOf r ≡ 2 → (i : ℕ) → i < r → natAbs (F r i) ≤ 1
+unfolding divisorsDue
+flat-of-two r O two = F-flat r (in-two r O (omega (arith, rw two at (divisors-below r O))))

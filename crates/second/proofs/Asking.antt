@@ -11,9 +11,10 @@ use borrow.Author.Tests.{le-ltb}
 use lib.Dec.{ltb}
 use lib.ListN.{length, take, length-take, List·getD-eq-default}
 use lib.Seq.{getD-take}
-use lib.IntN.{ℤ}
+use lib.IntN.{ℤ, natAbs}
 use Rattle.definitions.specs.Integers.{0ℤ}
 use Rattle.definitions.specs.Numbers.{listTo, oddPrimeOf, rOf, kOf}
+use Rattle.definitions.specs.Polynomials.{polynomial}
 use Rattle.definitions.specs.KeptHalf.{halfDegree}
 use Rattle.definitions.specs.Steps.{entries}
 use Rattle.definitions.specs.Answer.{coefficients, height, peak}
@@ -22,8 +23,9 @@ use Rattle.numbers.specs.AtMostFive.{k-at-most-5}
 use Rattle.numbers.specs.PrimeRows.{row-le}
 use Rattle.step_laws.specs.Bound.{Bounded}
 use Rattle.step_laws.specs.Tests.{by-order}
+use Rattle.cyclotomic.specs.Degrees.{half-below}
 use Rattle.cyclotomic.specs.Heights.{told-one}
-use Rattle.never_over.specs.Heights.{coefficient-fits, twice-fits}
+use Rattle.never_over.specs.Heights.{coefficient-fits}
 use Rattle.index.proofs.Laws.{index-good, r-small, parts-k}
 use Rattle.index.proofs.Rows.{entry-new, entry-odd, row-r}
 use Rattle.index.specs.Parts.{padded, partsOf}
@@ -34,6 +36,8 @@ use Rattle.whole_from_half.specs.Ready.{Ready}
 use Rattle.whole_from_half.proofs.Laying.{above-zero, r-is, free-is, r-fits}
 use Rattle.laying_out.specs.Laid.{LaidIs}
 use Rattle.second_engine.specs.Halves.{Asked, Half}
+use Rattle.second.specs.Bounds.{boundFor}
+use Rattle.second.proofs.Bounded.{within}
 
 module _ (kind n : ℕ) (a : Parts) (l : List ℤ) (R : Ready kind n a l) where
   primes-are : a .primes ≡ padded (listTo n (oddPrimeOf n))
@@ -76,12 +80,19 @@ module _ (kind n : ℕ) (a : Parts) (l : List ℤ) (R : Ready kind n a l) where
           inside = λ i b. coefficient-fits (rOf n) r-pos (r-small n (R .good)) kind i;
         }
 
-    pub bounded : Bounded 4611686018427387903 (entries (take (halfDegree kind (rOf n) + 1) m))
+    -- an entry of the lower half
+    lower-bound : (i : ℕ) → i < halfDegree kind (rOf n) + 1
+        → natAbs (polynomial kind (rOf n) i) ≤ boundFor kind (a .count)
+    lower-bound i b =
+        rw (k-is)
+        (within kind n pos (index-good n (R .good) .1) above i
+        (omega (arith, half-below kind (rOf n) (omega (arith, r-pos)))))
+
+    pub bounded : Bounded (boundFor kind (a .count)) (entries (take (halfDegree kind (rOf n) + 1) m))
     unfolding entries
     bounded i =
         by-order i (halfDegree kind (rOf n) + 1)
-        (λ b. rw (getD-take (halfDegree kind (rOf n) + 1) m i 0ℤ b ∙ there i b)
-        (omega (arith, twice-fits (rOf n) r-pos (r-small n (R .good)) kind i)))
+        (λ b. rw (getD-take (halfDegree kind (rOf n) + 1) m i 0ℤ b ∙ there i b) (lower-bound i b))
         (λ b.
         let far : length (take (halfDegree kind (rOf n) + 1) m) ≤ i =
         omega (arith, length-take (halfDegree kind (rOf n) + 1) m) in

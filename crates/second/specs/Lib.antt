@@ -1,2 +1,3 @@
--- Vectors: the definitions of the second engine, run.
+-- What an inner contract cites; and vectors: the definitions of the second engine, run.
+pub mod Bounds
 mod Vectors

@@ -12,9 +12,22 @@ ghost use Rattle.answers.specs.Second as Second;
 ghost use Rattle.index.specs.Parts.{partsOf};
 ghost use Rattle.laying_out.specs.Laid.{LaidIs};
 ghost use Rattle.whole_from_half.specs.Ready.{Ready};
+ghost use Rattle.second.specs.Bounds.{boundFor};
 
 // No coefficient is larger (crate `never_over`), so that two can be added.
 const BOUND: u64 = 4611686018427387903;
+
+// F of one or two primes has no magnitude above 1 (crate `flat_for_two_primes`), which spares the look for its height.
+fn bound_of(kind: u64, count: usize) -> u64
+    ensures { λ r. ⌜ r ≡ boundFor kind count ⌝ }
+{
+    if kind == 1 {
+        if count <= 2 {
+            return 1;
+        }
+    }
+    BOUND
+}
 
 // The polynomial of n, or zeros where it is too tall.
 fn make(b: &mut [i64], scratch: &mut [i64], kind: u64, n: u64, parts: Parts, h: u64) -> Laid
@@ -30,8 +43,9 @@ fn make(b: &mut [i64], scratch: &mut [i64], kind: u64, n: u64, parts: Parts, h: 
         };
     }
     let primes = parts.primes;
-    second_engine::lower_half(b, scratch, kind, primes, parts.count, parts.r, parts.free);
-    laying_out::lay_out(b, kind, n, parts, h, BOUND)
+    let count = parts.count;
+    second_engine::lower_half(b, scratch, kind, primes, count, parts.r, parts.free);
+    laying_out::lay_out(b, kind, n, parts, h, bound_of(kind, count))
 }
 
 // SHORT, or what the making came to.

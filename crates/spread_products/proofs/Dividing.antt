@@ -1,7 +1,7 @@
 -- A division by z^m - 1: what the quotient is at a place, from the one m before; that of series equal modulo 2^64 it is
 -- equal so; and one that has got to some place.
 use Prim.Native.Nat.{ℕ, _+_, _-_, _<_, _≤_, min}
-use mathlib.Core.Path.{_≡_, refl, sym, _∙_, ap}
+use mathlib.Core.Path.{_≡_, refl, sym, _∙_, ap, ap₂}
 use mathlib.Core.List.{List, [], _∷_}
 use native.Mathlib.Nat.{not-suc-le-zero}
 use native.Mathlib.Omega.{arith}
@@ -26,7 +26,7 @@ use Rattle.entry_steps.specs.Passes.{Split, setFour}
 use Rattle.entry_steps.proofs.Split.{moved-up, all-firsts, all-below}
 use Rattle.entry_steps.proofs.FourEntries.{moved-four-up}
 use Rattle.wrapped_sums.specs.Wrapped.{wrap, Like}
-use Rattle.wrapped_sums.specs.Residues.{wrap-fits, wrap-wrap, like-⊖, like-⊝}
+use Rattle.wrapped_sums.specs.Residues.{wrap-fits, wrap-fit, wrap-wrap, like-⊖, like-⊝}
 use Rattle.spread_products.specs.Rows.{Made}
 use Rattle.spread_products.specs.Quotients.{quotient, quotientList, nextQuotient, DividedTo}
 
@@ -56,6 +56,29 @@ module _ (m : ℕ) (one : 1 ≤ m) (f : Series) where
   next-value i b =
       like-⊝ (wrap (Q (i - m))) (Q (i - m)) (f i) (f i) (wrap-wrap (Q (i - m))) refl
       ∙ ap wrap (sym (quotient-next i b))
+
+-- the quotient's entry before i, where m is 1, and 0 before the first
+pub carriedAt : Series → ℕ → ℤ
+carriedAt f i = wrap ((z^ 1 · (f ÷ z^-1 1)) i)
+
+module _ (f : Series) where
+  pub carried-first : 0ℤ ≡ carriedAt f 0
+  unfolding carriedAt
+  carried-first = sym (ap wrap (shift-below 1 (f ÷ z^-1 1) 0 (omega arith)) ∙ wrap-fit (record { sfits = omega arith }))
+
+  pub carried-next : (i : ℕ) → quotient 1 f i ≡ carriedAt f (i + 1)
+  unfolding quotient carriedAt
+  carried-next i =
+      let back : i + 1 - 1 ≡ i = omega arith in
+      sym (ap wrap (shift-from 1 (f ÷ z^-1 1) (i + 1) (omega arith) ∙ ap (f ÷ z^-1 1) back))
+
+  carried-value : (i : ℕ) → wrap (carriedAt f i ⊝ f i) ≡ quotient 1 f i
+  unfolding quotient carriedAt
+  carried-value i =
+      let Q : Series = f ÷ z^-1 1 in
+      like-⊝ (wrap ((z^ 1 · Q) i)) ((z^ 1 · Q) i) (f i) (f i) (wrap-wrap ((z^ 1 · Q) i)) refl
+      ∙ ap (λ v. wrap ((z^ 1 · Q) i ⊝ v)) (sym (difference 1 (omega arith) f i))
+      ∙ ap wrap (ringℤ ((z^ 1 · Q) i ∷ Q i ∷ []) (x :+ :- (x :+ :- y)) y refl)
 
 -- equal modulo 2^64
 quotient-like : (n m : ℕ) → 1 ≤ m → (f g : Series) → Like n f g → Like n (f ÷ z^-1 m) (g ÷ z^-1 m)
@@ -146,3 +169,22 @@ module _ (m : ℕ) (one : 1 ≤ m) (l : List ℤ) where
     pub ended : length l ≤ i → q ≡ quotientList m l
     unfolding quotientList
     ended h = all-firsts (all-below (p .split) h)
+
+-- by z - 1, with what is carried
+pub running-next : (l : List ℤ) {q : List ℤ} {i : ℕ} {v w : ℤ} → Lower 1 l q i → v ≡ carriedAt (entries l) i
+    → i < length l → w ≡ wrap (v ⊝ entries q i)
+    → (w ≡ carriedAt (entries l) (i + 1)) × Lower 1 l (set q i w) (i + 1)
+unfolding entries
+running-next l {q} {i} {v} {w} p e c s = (
+  value ∙ carried-next (entries l) i,
+  moved-up p i (i + 1) c refl refl w value,
+)
+  where
+    value : w ≡ quotient 1 (entries l) i
+    value =
+        s ∙ ap₂ (λ x y. wrap (x ⊝ y)) e (p .above i (omega arith) c)
+        ∙ carried-value (entries l) i
+
+pub running-ends : (l : List ℤ) {q : List ℤ} {i : ℕ} → Lower 1 l q i → length l ≤ i → q ≡ quotientList 1 l
+unfolding quotientList
+running-ends l p h = all-firsts (all-below p h)

@@ -64,10 +64,27 @@ fn divide_fours(a: &mut [i64], m: usize, from: usize) -> usize
     i
 }
 
+// By z - 1: each entry needs the one before it, which is carried, since what was stored a moment ago is read slowly.
+fn divide_running(a: &mut [i64])
+    ensures { λ _. ⌜ now (a .exit) ≡ quotientList 1 (now (a .entry)) ⌝ }
+{
+    let mut carried: i64 = 0;
+    let mut i = 0;
+    while i < a.len() {
+        carried = minus(carried, a[i]);
+        put(a, i, carried);
+        i += 1;
+    }
+}
+
 pub fn divide(a: &mut [i64], m: usize)
     requires { ⌜ 1 ≤ m ⌝ }
     ensures { λ _. ⌜ now (a .exit) ≡ quotientList m (now (a .entry)) ⌝ }
 {
+    if m == 1 {
+        divide_running(a);
+        return;
+    }
     let low = divide_low(a, m);
     let mut i = divide_fours(a, m, low);
     while i < a.len() {

@@ -20,24 +20,26 @@ returns : tie.Need-returns
 returns c =
     let p = c .before .before .before .before .before in
     laid-one (p .args .kind) (p .args .n) (p .args .h) _ (above-zero _ _ _ _ (p .pre .0))
-    (sym (r-is _ _ _ _ (p .pre .0))
-    ∙ c .before .before .before .if1 .taken) (p .pre .1) (c .before .without-steps .ensures)
+    (sym (r-is _ _ _ _ (p .pre .0)) ∙ c .before .before .before .if1 .taken) (p .pre .1)
+    (c .before .without-steps .ensures)
 
 lower-half-requires : tie.Need-lower-half-requires
 lower-half-requires c κs =
     let p = c .before .before .before .before .before in
     (asked _ _ _ _ (p .pre .0) _ (p .pre .2), p .pre .0 .known)
 
+bound-of-requires : tie.Need-bound-of-requires
+bound-of-requires c κs = search needs
+
 lay-out-requires : tie.Need-lay-out-requires
 lay-out-requires c κs =
-    let p = c .before .before .before .before .before .before .before .before .before in
-    let l = c .before .before .before .lower-half in
-    let above : rOf (p .args .n) ≢ 1 =
-    λ e. c .before .before .before .before .before .before .before .if1 .left (r-is _ _ _ _ (p .pre .0) ∙ e) in (
+    let e = c .before .before .before .before .before .before .before .before in
+    let p = e .before .before in
+    let l = c .before .before .before .before .lower-half in
+    let above : rOf (p .args .n) ≢ 1 = λ q. e .if1 .left (r-is _ _ _ _ (p .pre .0) ∙ q) in (
       still-ready (p .pre .0) (l .kept .0),
       lower _ _ _ _ (p .pre .0) above _ (l .ensures),
-      bounded _ _ _ _
-          (p .pre .0) above _ (l .ensures),
+      rw (c .bound-of .ensures) (bounded _ _ _ _ (p .pre .0) above _ (l .ensures)),
     )
 
 same-length-2 : tie.Need-same-length-2
@@ -57,6 +59,7 @@ make-spec =
     same-length
     returns
     lower-half-requires
+    bound-of-requires
     lay-out-requires
     same-length-2
     same-length-3
