@@ -17,7 +17,7 @@ ghost use Rattle.second.specs.Bounds.{boundFor};
 // No coefficient is larger (crate `never_over`), so that two can be added.
 const BOUND: u64 = 4611686018427387903;
 
-// F of one or two primes has no magnitude above 1 (crates `never_over` and `flat_for_two_primes`), which spares the look
+// F of one or two primes has no magnitude above 1 (crates `never_over` and `flat_for_two_primes`): that spares the look
 // for its height.
 fn bound_of(kind: u64, count: usize) -> u64
     ensures { λ r. ⌜ r ≡ boundFor kind count ⌝ }
