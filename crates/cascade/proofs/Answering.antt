@@ -19,13 +19,10 @@ use Rattle.step_laws.specs.Tests.{neither}
 use Rattle.step_laws.specs.Firsts.{length-firsts}
 use Rattle.answers.specs.Cascade.{code, answered, answer, left, leaves, scratched, scratches}
 use Rattle.answers.specs.declared.Answer.{Answer}
+use Rattle.answers.proofs.Told.{told-only, same-done}
 use Rattle.next_factor.specs.declared.SoFar.{SoFar}
 use Rattle.cascade.specs.Making.{Ready, ProductIs, makingCode, laid}
 use Rattle.cascade.proofs.Lists.{over-by-firsts}
-
--- nothing is told but a code and a degree
-abbrev pub told-only : ℕ → ℕ → Answer
-told-only c d = record { code = c; degree = d; additions = 0; height = 0; peak = 0; gain = 0ℤ }
 
 -- ---- after the making
 -- what the making comes to: its answer, what stands in the product's entries and in the scratch
@@ -71,12 +68,7 @@ module _ {ns : List ℕ} {m : List ℤ} {r : SoFar} (good : allGood ns ≡ true)
       unfolding answered laid
       made-done l read =
           by-code DONE (by-height false (le-ltb h (r .height) l))
-          (same is (P .height o) (P .peak o) (read ∙ P .gain o)) (P .leaves o)
-        where
-          same : {x z v x′ z′ v′ : ℕ} {u u′ : ℤ} → x ≡ x′ → z ≡ z′ → v ≡ v′ → u ≡ u′
-              → _≡_ {A = Answer} (record { code = DONE; degree = x; additions = 0; height = z; peak = v; gain = u })
-              (record { code = DONE; degree = x′; additions = 0; height = z′; peak = v′; gain = u′ })
-          same p r t s i = record { code = DONE; degree = p i; additions = 0; height = r i; peak = t i; gain = s i }
+          (same-done is refl (P .height o) (P .peak o) (read ∙ P .gain o)) (P .leaves o)
 
 -- ---- the whole request
 abbrev pub Answers : List ℕ → ℤ → Answer → List ℤ → List ℤ → List ℤ → List ℤ → Type 0

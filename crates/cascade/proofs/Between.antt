@@ -29,8 +29,9 @@ use Rattle.series.specs.AtOne.{AtOne, at-one-constant, at-one-mul, only}
 use Rattle.numbers.specs.Tests.{test-true, test-and}
 use Rattle.numbers.specs.Phi.{phi-le}
 use Rattle.step_laws.specs.Tests.{by-test}
+use Rattle.step_laws.specs.WorkingLimit.{no-limit}
 use Rattle.cyclotomic.specs.Gain.{gain-at-one}
-use Rattle.answers.specs.declared.Answer.{Answer}
+use Rattle.answers.proofs.Told.{uncounted}
 use Rattle.answers.specs.Cascade as Cascade
 use Rattle.answers.specs.Polynomial as Polynomial
 use Rattle.index.proofs.Laws.{index-good}
@@ -43,22 +44,6 @@ use Rattle.cascade.proofs.OneFactor.{one-degree, one-coefficients, one-
 one-not-over : (n : ℕ) → goodIndex n ≡ true → cascadeOver (n ∷ []) ≡ false
 unfolding firstsOver allGood
 one-not-over n good = over-by-firsts (n ∷ []) (rw good) ∙ rw (one-fine n good)
-
-no-limit : belowOne (pos largest) ≡ false
-unfolding belowOne
-no-limit = refl
-
--- an answer with the additions put to 0: a cascade counts none
-unfoldable pub uncounted : Answer → Answer
-uncounted a =
-    record {
-      code = a .code;
-      degree = a .degree;
-      additions = 0;
-      height = a .height;
-      peak = a .peak;
-      gain = a .gain;
-    }
 
 module _ (n : ℕ) (h : ℤ) (scratch : ℕ) (enough : phi n < scratch) where
   -- where the index is good no test of the list's own holds, and neither request is OVER

@@ -9,7 +9,7 @@ use native.Mathlib.Decide.{ℕ-discrete}
 use lib.Dec.{eqb}
 use lib.IntN.{natAbs}
 use Rattle.definitions.specs.Integers.{⊖}
-use Rattle.definitions.specs.Series.{constant, 𝟙, -ˢ}
+use Rattle.definitions.specs.Series.{constant, 𝟙, -ˢ, firsts}
 use Rattle.definitions.specs.Numbers.{rOf, divides, divisorsBelow}
 use Rattle.definitions.specs.Polynomials.{polynomial}
 use Rattle.definitions.specs.Steps.{entries}
@@ -35,20 +35,23 @@ start-bound kind i = go (eqb kind 1) i
     go false zero = omega arith
     go false (suc i) = omega arith
 
-divisor-in : (r j : ℕ) → j < divisorsDue r → 0 < nextDivisor r j
+pub start-bounded : (kind n : ℕ) → Bounded 1 (entries (firsts n (start kind)))
+start-bounded kind n = firsts-bounded 1 n (start kind) (λ i b. start-bound kind i)
+
+-- the divisor at place j is from 1 to r - 1
+pub divisor-in : (r j : ℕ) → j < divisorsDue r → (0 < nextDivisor r j) × (nextDivisor r j ≤ r - 1)
 unfolding nextDivisor divisorsDue divisorsBelow
-divisor-in r j h = entry-has (λ d. divides d r) (r - 1) j h .0
+divisor-in r j h = let e = entry-has (λ d. divides d r) (r - 1) j h in (e .0, e .1)
 
 pub kept-inside : (w kind r j : ℕ) → 1 ≤ w → j ≤ divisorsDue r → overAmong w kind r j ≡ false
     → Bounded w (entries (keptHalf kind r j))
 unfolding overAmong overAt divisorsDue
 kept-inside w kind r zero one l e =
-    rw (kept-start kind r)
-    (firsts-bounded w (halfDegree kind r + 1) (start kind) (λ i b. omega (arith, start-bound kind i)))
+    rw (kept-start kind r) (λ i. NatL.le-trans (start-bounded kind (halfDegree kind r + 1) i) one)
 kept-inside w kind r (suc j) one l e =
     let below : j < divisorsDue r = l in
     let both = neither (overAmong w kind r j) (overAt w kind r j) e in
-    rw (sym (step-kept kind r j l (divisor-in r j below)))
+    rw (sym (step-kept kind r j l (divisor-in r j below .0)))
     (stays-inside w _ _ (keptHalf kind r j) (kept-inside w kind r j one (NatL.le-of-lt l) (both .0)) (both .1))
 
 pub height-inside : (w kind n : ℕ) → 0 < n → 1 ≤ w → overAmong w kind (rOf n) (divisorsDue (rOf n)) ≡ false

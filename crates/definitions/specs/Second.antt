@@ -19,8 +19,8 @@ otherKind kind = cond (eqb kind 1) 2 1
 unfoldable pub made : ℕ → List ℕ → ℕ → Series
 made kind ps zero = cond (eqb kind 1) (z^-1 1) 𝟙
 made kind ps (suc j) =
-    cond (eqb kind 1) (spread (getD ps j 0) (made kind ps j) · made (otherKind kind) ps j ÷ z^-1 (rowTo ps j))
-    (spread (getD ps j 0) (made kind ps j) · made (otherKind kind) ps j)
+    let product : Series = spread (getD ps j 0) (made kind ps j) · made (otherKind kind) ps j in
+    cond (eqb kind 1) (product ÷ z^-1 (rowTo ps j)) product
 
 -- the product for one prime more, before the division
 unfoldable pub beforeDivision : ℕ → List ℕ → ℕ → Series

@@ -10,7 +10,7 @@ use native.Mathlib.Nat as NatL
 use native.Mathlib.Numerals.{add-one}
 use lib.ListN.{length, getD, take, length-take, length-replicate}
 use lib.Seq.{take-suc}
-use lib.IntN.{ℤ, natAbs}
+use lib.IntN.{ℤ}
 use Rattle.definitions.specs.Integers.{0ℤ}
 use Rattle.definitions.specs.Series.{firsts}
 use Rattle.definitions.specs.Numbers.{divisorsBelow, kOf}
@@ -23,7 +23,8 @@ use Rattle.numbers.specs.Below.{divisors-below}
 use Rattle.numbers.specs.Lists.{sum-append, sum-at-most}
 use Rattle.cyclotomic.specs.Degrees.{half-below}
 use Rattle.cyclotomic.specs.Kept.{kept-start}
-use Rattle.step_laws.specs.Bound.{Bounded, firsts-bounded}
+use Rattle.cyclotomic.specs.Inside.{start-bounded}
+use Rattle.step_laws.specs.Bound.{Bounded}
 use Rattle.step_laws.specs.WorkingLimit.{Workable}
 use Rattle.divisors.specs.Walks.{taken, walkAt}
 use Rattle.divisors.proofs.Walking.{taken-at, stands-at}
@@ -36,7 +37,7 @@ use Rattle.divisors.specs.declared.Walk.{Walk}
 use Rattle.kept_half.specs.declared.run.DivisorOutcome.{DivisorOutcome}
 use Rattle.kept_half.specs.declared.RunOutcome.{RunOutcome}
 use Rattle.kept_half.proofs.Turning.{kept-length}
-use Rattle.kept_half.proofs.Starting.{start-first, start-later}
+use Rattle.kept_half.proofs.Starting.{start-later}
 
 -- ---- sums
 sum-next : (kind r i : ℕ) → i < divisorsDue r → additionsAfter kind r (suc i)
@@ -206,13 +207,6 @@ ran limit kind r j additions bound at o a m s e =
     small = rw e (s .bounded)
 
 -- ---- a walk that has taken nothing, and the start of the kept half
-start-at-most : (kind k : ℕ) → natAbs (start kind k) ≤ 1
-start-at-most kind zero = rw (start-first kind) (omega arith)
-start-at-most kind (suc k) = rw (start-later kind k) (omega arith)
-
-pub start-bounded : (kind n : ℕ) → Bounded 1 (entries (firsts n (start kind)))
-start-bounded kind n = firsts-bounded 1 n (start kind) (λ k h. start-at-most kind k)
-
 -- the first entry tells the start
 pub fresh-stands :
     (limit kind : ℕ) (w : Walk) (l : List ℤ) → Workable limit → WalkAtStart w → length l ≡ halfDegree kind (w .r) + 1

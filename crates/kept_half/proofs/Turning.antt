@@ -8,13 +8,13 @@ use native.Mathlib.Omega.{arith}
 use lib.ListN.{length}
 use lib.Dec.{eqb}
 use lib.IntN.{ℤ}
-use Rattle.definitions.specs.Numbers.{divides, divisorsBelow, muIsPlus}
+use Rattle.definitions.specs.Numbers.{divisorsBelow, muIsPlus}
 use Rattle.definitions.specs.Steps.{Sort, comb, accumulate, stepOver, stepList}
 use Rattle.definitions.specs.KeptHalf.{halfDegree, sortOf, keptSeries, keptHalf}
 use Rattle.definitions.specs.Requests.{divisorsDue, nextDivisor, overAt}
-use Rattle.numbers.specs.Lists.{entry-has}
 use Rattle.step_laws.specs.Firsts.{length-firsts}
 use Rattle.cyclotomic.specs.Kept.{step-kept}
+use Rattle.cyclotomic.specs.Inside.{divisor-in}
 use Rattle.divisors.specs.Walks.{taken, walkAt, nextOf, divisorAt}
 use Rattle.divisors.proofs.Walking.{next-more}
 use Rattle.outlined_steps.specs.Outlines.{outlined}
@@ -30,11 +30,6 @@ use Rattle.outlined_steps.specs.declared.OutlinedOutcome.{OutlinedOutcome}
 pub kept-length : (kind r j : ℕ) → length (keptHalf kind r j) ≡ halfDegree kind r + 1
 unfolding keptHalf
 kept-length kind r j = length-firsts (halfDegree kind r + 1) (keptSeries kind r j)
-
--- the divisor at place j is from 1 to r - 1
-pub divisor-in : (r j : ℕ) → j < divisorsDue r → (0 < nextDivisor r j) × (nextDivisor r j ≤ r - 1)
-unfolding nextDivisor divisorsDue divisorsBelow
-divisor-in r j h = let e = entry-has (λ d. divides d r) (r - 1) j h in (e .0, e .1)
 
 module _ (limit kind : ℕ) (w : Walk) (bound : ℕ) (o : Outline) (l : List ℤ) (st : KeptHalfAt limit kind w bound o l)
     (more : 0 < w .due) where

@@ -5,7 +5,6 @@ use mathlib.Core.Bool.{Bool, true, false, cond, _||_}
 use mathlib.Core.Logic.{_≢_, _⊎_, inl, inr, ⊎-elim}
 use mathlib.Core.List.{List, _++_}
 use native.Mathlib.Omega.{arith}
-use native.Mathlib.Numerals.{add-one}
 use borrow.Author.Tests.{le-ltb, le-leb, lt-leb, eq-eqb, ne-eqb}
 use lib.ListN.{length, drop, length-replicate}
 use lib.Dec.{ltb}
@@ -20,6 +19,7 @@ use Rattle.definitions.specs.Answer.{coefficients, height, peak, gain, addition
 use Rattle.step_laws.specs.Firsts.{length-firsts}
 use Rattle.answers.specs.Polynomial.{code, answered, answer, left, leaves}
 use Rattle.answers.specs.declared.Answer.{Answer}
+use Rattle.answers.proofs.Told.{told-only, same-done, in-front}
 use Rattle.polynomial.specs.Making.{MakingOutcomeIs, makingCode}
 use Rattle.polynomial.specs.declared.making.MakingOutcome.{MakingOutcome}
 
@@ -54,10 +54,6 @@ module _ (kind n h w room : ℕ) (e : knownKind kind ≡ true) (f : goodIndex n 
 -- ---- outcomes
 abbrev pub Answers : (kind n : ℕ) (h w : ℤ) → Answer → List ℤ → List ℤ → Type 0
 Answers kind n h w a m l = (a ≡ answer kind n h w (length l)) × (m ≡ leaves kind n h w l)
-
--- nothing is told but a code and a degree
-abbrev pub told-only : ℕ → ℕ → Answer
-told-only c d = record { code = c; degree = d; additions = 0; height = 0; peak = 0; gain = 0ℤ }
 
 module _ (kind n : ℕ) (h w : ℤ) (l : List ℤ) where
   by-code : (c : ℕ) (a : Answer) (m : List ℤ) → a ≡ answered kind n c → m ≡ left kind n c l → code kind n h w (length l)
@@ -114,10 +110,6 @@ module _
     last-code : code kind n (pos h) (pos w) (length l) ≡ r .code
     last-code = ask-last kind n h w (length l) e f g k (omega arith) ∙ sym (laid .code)
 
-    in-front : (new : List ℤ) → length new ≡ suc (degree kind n) → m ≡ new → m ++ drop (d + 1) l ≡ written new l
-    unfolding written
-    in-front new len q = ap₂ (λ x k. x ++ drop k l) q (ap (λ x. x + 1) ed ∙ add-one (degree kind n) ∙ sym len)
-
     two : (b t : Bool) → cond b OVER (cond t TALL DONE) ≢ DONE → (cond b OVER (cond t TALL DONE) ≡ OVER)
         ⊎ (cond b OVER (cond t TALL DONE) ≡ TALL)
     two true t q = inl refl
@@ -134,7 +126,7 @@ module _
     zeroed : r .code ≢ DONE → m ++ drop (d + 1) l ≡ written (zeros (suc (degree kind n))) l
     unfolding zeros
     zeroed q =
-        in-front (zeros (suc (degree kind n))) (length-replicate (suc (degree kind n)) 0ℤ)
+        in-front l (zeros (suc (degree kind n))) ed (length-replicate (suc (degree kind n)) 0ℤ)
         (laid .leaves ∙ ap (λ b. cond b (coefficients kind n) (zeros (suc (degree kind n))))
         (ne-eqb (r .code) DONE q))
 
@@ -156,14 +148,8 @@ module _
     unfolding coefficients
     delivers q x is =
         let y = at-done kind n (pos h) (pos w) l (last-code ∙ q) in (
-          same ed (laid .additions q) (laid .height q) (laid .peak q) is ∙ y .0,
-          in-front (coefficients kind n) (length-firsts (suc (degree kind n)) (polynomial kind n))
+          same-done ed (laid .additions q) (laid .height q) (laid .peak q) is ∙ y .0,
+          in-front l (coefficients kind n) ed (length-firsts (suc (degree kind n)) (polynomial kind n))
               (laid .leaves ∙ ap (λ b. cond b (coefficients kind n) (zeros (suc (degree kind n))))
               (eq-eqb (r .code) DONE q)) ∙ y .1,
         )
-      where
-        same : {x y z v x′ y′ z′ v′ : ℕ} {u u′ : ℤ} → x ≡ x′ → y ≡ y′ → z ≡ z′ → v ≡ v′ → u ≡ u′
-            → _≡_ {A = Answer} (record { code = DONE; degree = x; additions = y; height = z; peak = v; gain = u })
-            (record { code = DONE; degree = x′; additions = y′; height = z′; peak = v′; gain = u′ })
-        same p q r t s i =
-            record { code = DONE; degree = p i; additions = q i; height = r i; peak = t i; gain = s i }

@@ -3,7 +3,7 @@
 -- ever gives OVER (`never_over/Never`: `polynomial-never-over`, `second-never-over`), so that nothing more is asked.
 use Prim.Native.Nat.{ℕ, _+_, _*_, _≤_}
 use mathlib.Core.Path.{_≡_, refl, ap}
-use mathlib.Core.Bool.{Bool, true, false, _||_}
+use mathlib.Core.Bool.{Bool, true, false, or-false}
 use mathlib.Core.List.{List}
 use borrow.Author.Tests.{le-ltb}
 use lib.Dec.{leb}
@@ -12,20 +12,13 @@ use lib.IntN.{ℤ, pos}
 use Rattle.definitions.specs.Polynomials.{degree}
 use Rattle.definitions.specs.Steps.{largest, belowOne}
 use Rattle.definitions.specs.Requests.{goodIndex}
+use Rattle.step_laws.specs.WorkingLimit.{no-limit}
 use Rattle.never_over.specs.Heights.{never}
 use Rattle.never_over.specs.Second.{second-never}
 use Rattle.index.proofs.Laws.{index-good}
-use Rattle.answers.specs.declared.Answer.{Answer}
+use Rattle.answers.proofs.Told.{uncounted}
 use Rattle.answers.specs.Polynomial as Plain
 use Rattle.answers.specs.Second as Second
-
-or-none : (b : Bool) → (b || false) ≡ b
-or-none true = refl
-or-none false = refl
-
-large : belowOne (pos largest) ≡ false
-unfolding belowOne
-large = refl
 
 module _ (kind n : ℕ) (h : ℤ) (room scratch : ℕ) (enough : 2 * n + 16 ≤ scratch) where
   pub same-code : Second.code kind n h room scratch ≡ Plain.code kind n h (pos largest) room
@@ -39,25 +32,14 @@ module _ (kind n : ℕ) (h : ℤ) (room scratch : ℕ) (enough : 2 * n + 16 ≤ 
             second-never kind n above small,
             never n above small kind,
             le-ltb scratch (2 * n + 16) enough,
-            or-none (leb room (degree kind n)),
-            large,
-            or-none (belowOne h),
+            or-false (leb room (degree kind n)),
+            no-limit,
+            or-false (belowOne h),
           ) refl
       go false e = rw e refl
 
-  -- the plain request's answer, with no additions
-  abbrev pub withoutAdditions : Answer → Answer
-  withoutAdditions a = record {
-    code = a .code;
-    degree = a .degree;
-    additions = 0;
-    height = a .height;
-    peak = a .peak;
-    gain = a .gain;
-  }
-
-  pub agrees : Second.answer kind n h room scratch ≡ withoutAdditions (Plain.answer kind n h (pos largest) room)
-  unfolding Second.answer Second.answered Plain.answer Plain.answered
+  pub agrees : Second.answer kind n h room scratch ≡ uncounted (Plain.answer kind n h (pos largest) room)
+  unfolding Second.answer Second.answered Plain.answer Plain.answered uncounted
   agrees = ap (Second.answered kind n) same-code
 
 pub agrees-left : (kind n : ℕ) (h : ℤ) (l : List ℤ) (scratch : ℕ) → 2 * n + 16 ≤ scratch

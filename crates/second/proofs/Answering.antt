@@ -1,10 +1,9 @@
 -- The outcomes of the second engine's request: which code each test leads to, and what is then told and left.
 use Prim.Native.Nat.{ℕ, suc, _+_, _*_, _<_, _≤_}
-use mathlib.Core.Path.{_≡_, refl, sym, _∙_, ap, ap₂}
+use mathlib.Core.Path.{_≡_, refl, sym, _∙_, ap}
 use mathlib.Core.Bool.{Bool, true, false, cond}
 use mathlib.Core.List.{List, _++_}
 use native.Mathlib.Omega.{arith}
-use native.Mathlib.Numerals.{add-one}
 use borrow.Author.Tests.{lt-ltb, le-ltb, le-leb, lt-leb}
 use lib.ListN.{length, drop, length-replicate}
 use lib.Dec.{ltb}
@@ -20,6 +19,7 @@ use Rattle.never_over.specs.Second.{second-never}
 use Rattle.index.proofs.Laws.{index-good}
 use Rattle.answers.specs.Second.{code, answered, answer, left, leaves, scratched, scratches}
 use Rattle.answers.specs.declared.Answer.{Answer}
+use Rattle.answers.proofs.Told.{told-only, same-done, in-front}
 use Rattle.laying_out.specs.Laid.{LaidIs}
 use Rattle.laying_out.specs.declared.Laid.{Laid}
 
@@ -68,10 +68,6 @@ abbrev pub Answers : (kind n : ℕ) (h : ℤ) → Answer → List ℤ → List �
 Answers kind n h a m l t s =
     (a ≡ answer kind n h (length l) (length s))
     × ((m ≡ leaves kind n h l (length s)) × (t ≡ scratches kind n h (length l) s))
-
--- nothing is told but a code and a degree
-abbrev pub told-only : ℕ → ℕ → Answer
-told-only c d = record { code = c; degree = d; additions = 0; height = 0; peak = 0; gain = 0ℤ }
 
 module _ (kind n : ℕ) (h : ℤ) (l s : List ℤ) where
   by-code : (c : ℕ) {a : Answer} {m t : List ℤ} → a ≡ answered kind n c → m ≡ left kind n c l → t ≡ scratched c s
@@ -127,10 +123,6 @@ module _
         ask-last kind n h (length l) (length s) e f g (omega arith) enough
         ∙ ap (λ x. cond x TALL DONE) (sym (laid .tall) ∙ q)
 
-    in-front : (new : List ℤ) → length new ≡ suc (degree kind n) → m ≡ new → m ++ drop (d + 1) l ≡ written new l
-    unfolding written
-    in-front new len q = ap₂ (λ x k. x ++ drop k l) q (ap (λ x. x + 1) ed ∙ add-one (degree kind n) ∙ sym len)
-
     left-by : (b : Bool) → r .tall ≡ b → m ≡ cond b (zeros (suc (degree kind n))) (coefficients kind n)
     left-by b q = laid .leaves ∙ ap (λ x. cond x (zeros (suc (degree kind n))) (coefficients kind n)) q
 
@@ -140,7 +132,7 @@ module _
         let y = at-tall kind n (pos h) l s (by-height true q) in (
           ap (told-only TALL) ed ∙ y .0,
           (
-            in-front (zeros (suc (degree kind n))) (length-replicate (suc (degree kind n)) 0ℤ) (left-by true q)
+            in-front l (zeros (suc (degree kind n))) ed (length-replicate (suc (degree kind n)) 0ℤ) (left-by true q)
                 ∙ y .1 .0,
             clear ∙ y .1 .1,
           ),
@@ -153,16 +145,10 @@ module _
     unfolding coefficients
     delivers q x is =
         let y = at-done kind n (pos h) l s (by-height false q) in (
-          same ed (laid .height q) (laid .peak q) is ∙ y .0,
+          same-done ed refl (laid .height q) (laid .peak q) is ∙ y .0,
           (
-            in-front (coefficients kind n) (length-firsts (suc (degree kind n)) (polynomial kind n)) (left-by false q)
-                ∙ y .1 .0,
+            in-front l (coefficients kind n) ed (length-firsts (suc (degree kind n)) (polynomial kind n))
+                (left-by false q) ∙ y .1 .0,
             clear ∙ y .1 .1,
           ),
         )
-      where
-        same : {x z v x′ z′ v′ : ℕ} {u u′ : ℤ} → x ≡ x′ → z ≡ z′ → v ≡ v′ → u ≡ u′
-            → _≡_ {A = Answer} (record { code = DONE; degree = x; additions = 0; height = z; peak = v; gain = u })
-            (record { code = DONE; degree = x′; additions = 0; height = z′; peak = v′; gain = u′ })
-        same p r t s i =
-            record { code = DONE; degree = p i; additions = 0; height = r i; peak = t i; gain = s i }

@@ -1,6 +1,5 @@
--- No coefficient of the polynomial of r is larger than `boundFor`: F of one prime by what is promised of its steps, F
--- of
--- two since it is flat, and any other since twice it is in range.
+-- No coefficient of the polynomial of r is larger than `boundFor`: that of F of one prime by what is promised of its
+-- steps, of two since it is flat, and any other since twice it is in range.
 use Prim.Native.Nat.{ℕ, zero, suc, _<_, _≤_}
 use mathlib.Core.Path.{_≡_, refl, sym, _∙_, ap}
 use mathlib.Core.Bool.{Bool, true, false, cond}

@@ -175,18 +175,6 @@ module _ {kind : ℕ} {primes : List ℕ} {k r free : ℕ} {a b : List ℤ} (A :
 module _ {kind : ℕ} {primes : List ℕ} {k r m below p : ℕ} {a b : List ℤ}
     (O : OneFewer kind primes k r m below p a b)
   where
-    pub below-le : below ≤ m
-    below-le = rw (O .is-below) (phi-le m)
-
-    -- the other kind's stands in front, where F is asked for and where I is
-    pub first-whole : m - below + 1 ≡ degree 2 m + 1
-    unfolding degree
-    first-whole = ap (λ x. m - x + 1) (O .is-below)
-
-    pub inverse-whole : below + 1 ≡ degree 1 m + 1
-    unfolding degree
-    inverse-whole = ap (λ x. x + 1) (O .is-below)
-
     pub degree-le : (kind′ : ℕ) → degree kind′ m ≤ m
     unfolding degree
     degree-le kind′ = go (eqb kind′ 1)
@@ -202,7 +190,7 @@ module _ {kind : ℕ} {primes : List ℕ} {k r m below p : ℕ} {a b : List ℤ}
     unfolding halfDegree
     front-half kind′ = omega (arith, front-room kind′)
 
-    -- and this kind's after it
+    -- the other kind's stands in front, and this kind's after it
     both-degrees : degree (otherKind kind) m + degree kind m ≡ m
     unfolding degree otherKind
     both-degrees = go (eqb kind 1)

@@ -14,7 +14,6 @@ use Rattle.definitions.specs.Numbers.{phi}
 use Rattle.definitions.specs.Polynomials.{z^-1, polynomial, degree}
 use Rattle.definitions.specs.Steps.{entries}
 use Rattle.definitions.specs.KeptHalf.{halfDegree}
-use Rattle.definitions.specs.Second.{otherKind}
 use Rattle.numbers.specs.Phi.{phi-times, phi-le}
 use Rattle.numbers.specs.Primes.{prime-pos}
 use Rattle.step_laws.specs.Tests.{by-order}
@@ -37,13 +36,7 @@ part-series {f} {a} {e} {l} P =
     List·getD-eq-default (take (e - a) (drop a l)) 0ℤ far ∙ sym (P .past i b)))
 
 pub front-series : {f : Series} {e : ℕ} {l : List ℤ} → Part f 0 e l → entries (take e l) ≡ f
-unfolding entries
-front-series {f} {e} {l} P =
-    fun-ext (λ i. by-order i e
-    (λ b. getD-take e l i 0ℤ b ∙ ap (λ k. getD l k 0ℤ) (omega arith) ∙ P .inside i (omega arith))
-    (λ b.
-    let far : length (take e l) ≤ i = omega (arith, length-take e l) in
-    List·getD-eq-default (take e l) 0ℤ far ∙ sym (P .past i (omega arith))))
+front-series {e = e} {l = l} P = ap (λ k. entries (take k l)) (sym (NatL.sub-zero e)) ∙ part-series P
 
 -- what stands before the part that was filled in
 pub still : {from to kind m : ℕ} {f : Series} {l q : List ℤ} → Filled from to kind m l q → Part f 0 from l
@@ -81,9 +74,6 @@ module _ {kind m below p : ℕ} {a b : List ℤ} (J : Joining kind m below p a b
   pub p-small : p ≤ 65535
   p-small = NatL.le-trans (NatL.le-mul-of-pos-right p (J .pos)) (rw (NatL.mul-comm p m) (J .small))
 
-  pub below-m : below ≤ m
-  below-m = rw (J .is-below) (phi-le m)
-
   phi-r : below * (p - 1) ≡ phi (m * p)
   phi-r = ap (λ x. x * (p - 1)) (J .is-below) ∙ sym (phi-times m p (J .prime) (J .new))
 
@@ -100,23 +90,26 @@ pub size-inverse : {m below p : ℕ} {a b : List ℤ} → Joining 2 m below p a 
 unfolding halfDegree degree
 size-inverse {m} {below} {p} J = ap (λ x. (m * p - x) / 2 + 1) (phi-r J)
 
--- where F(m) ends and I(m) ends
-module _ {m below p : ℕ} {a b : List ℤ} where
-  pub whole-first : Joining 1 m below p a b → m - below + 1 ≡ degree (otherKind 1) m + 1
-  unfolding degree otherKind
-  whole-first J = ap (λ x. m - x + 1) (J .is-below)
+-- where I(m) ends, and F(m), if it stands in front; and where the other ends after it
+module _ (m : ℕ) {below : ℕ} (e : below ≡ phi m) where
+  pub below-le : below ≤ m
+  below-le = rw e (phi-le m)
 
-  pub end-first : Joining 1 m below p a b → m + 2 ≡ m - below + 1 + (degree 1 m + 1)
+  pub first-whole : m - below + 1 ≡ degree 2 m + 1
   unfolding degree
-  end-first J = omega (arith, J .is-below, phi-le m)
+  first-whole = ap (λ x. m - x + 1) e
 
-  pub whole-inverse : Joining 2 m below p a b → below + 1 ≡ degree (otherKind 2) m + 1
-  unfolding degree otherKind
-  whole-inverse J = ap (λ x. x + 1) (J .is-below)
-
-  pub end-inverse : Joining 2 m below p a b → m + 2 ≡ below + 1 + (degree 2 m + 1)
+  pub first-end : m + 2 ≡ m - below + 1 + (degree 1 m + 1)
   unfolding degree
-  end-inverse J = omega (arith, J .is-below, phi-le m)
+  first-end = omega (arith, phi-le m)
+
+  pub inverse-whole : below + 1 ≡ degree 1 m + 1
+  unfolding degree
+  inverse-whole = ap (λ x. x + 1) e
+
+  pub inverse-end : m + 2 ≡ below + 1 + (degree 2 m + 1)
+  unfolding degree
+  inverse-end = omega (arith, phi-le m)
 
 -- ---- products
 pub is-first : {m below p : ℕ} {a b : List ℤ} → Joining 1 m below p a b

@@ -33,6 +33,11 @@ unfolding belowOne
 good-limit (pos k) e = (refl, ltb-false k 1 e)
 good-limit (negsuc k) e = absurd (true≢false e)
 
+-- the largest is none
+pub no-limit : belowOne (pos largest) ≡ false
+unfolding belowOne
+no-limit = refl
+
 -- a limit that functions can hand on: not below 1, nor above the largest
 abbrev pub Workable : ℕ → Type 0
 Workable w = (1 ≤ w) × (w ≤ largest)

@@ -1,6 +1,5 @@
--- Series that are equal modulo 2^64 below some degree; and a list of 64-bit numbers that is so a series of numbers in
--- range is that series' first coefficients.
-use mathlib.Core.Path.{_≡_, refl, sym, _∙_, ap}
+-- A list of 64-bit numbers that is modulo 2^64 a series of numbers in range is that series' first coefficients.
+use mathlib.Core.Path.{_≡_, refl}
 use mathlib.Core.List.{List}
 use Prim.Native.Nat.{ℕ, _<_, _≤_}
 use lib.ListN.{length}
@@ -8,18 +7,8 @@ use lib.IntN.{ℤ, natAbs}
 use Rattle.definitions.specs.Series.{Series, firsts}
 use Rattle.definitions.specs.Steps.{entries, largest}
 use Rattle.step_laws.specs.Firsts.{is-firsts}
-use Rattle.wrapped_sums.specs.Wrapped.{wrap, Like, AllFit}
+use Rattle.wrapped_sums.specs.Wrapped.{Like, AllFit}
 use Rattle.wrapped_sums.specs.Residues.{like-equal}
-
-module _ (n : ℕ) (f g : Series) where
-  pub like-trans : (h : Series) → Like n f g → Like n g h → Like n f h
-  like-trans h p q i b = p i b ∙ q i b
-
-  pub like-sym : Like n f g → Like n g f
-  like-sym p i b = sym (p i b)
-
-  pub like-same : ((i : ℕ) → i < n → f i ≡ g i) → Like n f g
-  like-same p i b = ap wrap (p i b)
 
 -- 64-bit numbers that are modulo 2^64 those of f, none of which is larger than the largest, are f's
 pub like-exact : (l : List ℤ) (f : Series) → AllFit l → Like (length l) (entries l) f

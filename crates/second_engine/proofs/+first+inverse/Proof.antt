@@ -7,8 +7,9 @@ use mathlib.Core.Path.{refl, sym, _∙_}
 use native.Mathlib.Nat as NatL
 use native.Mathlib.Omega.{arith}
 use Rattle.definitions.specs.Second.{otherKind}
-use Rattle.second_engine.proofs.Fewer.{one-fewer, below-le, front-half, front-room, rest-room, rest-length}
-use Rattle.second_engine.proofs.Fewer.{half-front, join, first-whole, inverse-whole, first-one, inverse-one}
+use Rattle.second_engine.proofs.Joined.{below-le, first-whole, inverse-whole}
+use Rattle.second_engine.proofs.Fewer.{one-fewer, front-half, front-room, rest-room, rest-length}
+use Rattle.second_engine.proofs.Fewer.{half-front, join, first-one, inverse-one}
 use borrow.Author.Needs.{needs}
 use Rattle.second_engine.proofs.first.Reads as first
 use Rattle.second_engine.proofs.first.Kinds as first-kinds
@@ -109,13 +110,13 @@ first-sub-whole : (t : ℕ) → first-lts.Need-sub-whole (first-claims t) (first
 first-sub-whole t c =
     let l = c in
     let O = one-fewer (l .before .before .pre .1) (l .before .if1 .left) (l .largest .ensures) in
-    below-le O
+    below-le _ (O .is-below)
 
 first-add-whole : (t : ℕ) → first-lts.Need-add-whole (first-claims t) (first-at t) first.Post
 first-add-whole t c =
     let l = c in
     let O = one-fewer (l .before .before .pre .1) (l .before .if1 .left) (l .largest .ensures) in
-    omega (arith, O .small, below-le O)
+    omega (arith, O .small, below-le _ (O .is-below))
 
 first-inverse-requires : (t : ℕ) → first-lts.Need-inverse-requires (first-claims t) (first-at t) first.Post
 first-inverse-requires t c κs =
@@ -128,7 +129,12 @@ first-fill-requires t c κs =
     let l = c .before .before .before .before .before .before in
     let O = one-fewer (l .before .before .pre .1) (l .before .if1 .left) (l .largest .ensures) in
     let i = c .before .before .before .inverse in (
-      (O .pos, O .small, first-whole O ∙ sym (NatL.zero-add _), rw (first-whole O, i .kept .0) (front-room O 2)),
+      (
+        O .pos,
+        O .small,
+        first-whole _ (O .is-below) ∙ sym (NatL.zero-add _),
+        rw (first-whole _ (O .is-below), i .kept .0) (front-room O 2),
+      ),
       half-front 2 _ _ (i .ensures),
     )
 
@@ -136,21 +142,21 @@ first-mul-first : (t : ℕ) → first-lts.Need-mul-first (first-claims t) (first
 first-mul-first t c =
     let l = c .before .before .before .before .before .before .before .before in
     let O = one-fewer (l .before .before .pre .1) (l .before .if1 .left) (l .largest .ensures) in
-    omega (arith, O .small, below-le O)
+    omega (arith, O .small, below-le _ (O .is-below))
 
 first-sub-first : (t : ℕ) → first-lts.Need-sub-first (first-claims t) (first-at t) first.Post
 first-sub-first t c =
     let l = c .before .before .before .before .before .before .before .before in
     let O = one-fewer (l .before .before .pre .1) (l .before .if1 .left) (l .largest .ensures) in
-    rw (first-whole O, c .before .fill .kept .0, c .before .before .before .before .before .inverse .kept .0)
-    (front-room O 2)
+    let i = c .before .before .before .before .before .inverse in
+    rw (first-whole _ (O .is-below), c .before .fill .kept .0, i .kept .0) (front-room O 2)
 
 first-part-first-start : (t : ℕ) → first-lts.Need-part-first-start (first-claims t) (first-at t) first.Post
 first-part-first-start t c =
     let l = c .before .before .before .before .before .before .before .before in
     let O = one-fewer (l .before .before .pre .1) (l .before .if1 .left) (l .largest .ensures) in
-    rw (first-whole O, c .before .fill .kept .0, c .before .before .before .before .before .inverse .kept .0)
-    (front-room O 2)
+    let i = c .before .before .before .before .before .inverse in
+    rw (first-whole _ (O .is-below), c .before .fill .kept .0, i .kept .0) (front-room O 2)
 
 first-part-first-end : (t : ℕ) → first-lts.Need-part-first-end (first-claims t) (first-at t) first.Post
 first-part-first-end t c = search needs
@@ -163,7 +169,8 @@ first-first-requires t c κs =
     let i = c .before .before .before .before .before .before .before .inverse in
     let f = c .before .before .before .fill in (
       omega (arith, l .before .before .pre .0),
-      O .ask 1 _ _ (i .kept .1 .0) (rest-room O (f .last .0) _ (f .kept .0 ∙ i .kept .0) (first-whole O)),
+      O .ask 1 _ _ (i .kept .1 .0) (rest-room O (f .last .0) _ (f .kept .0 ∙ i .kept .0)
+          (first-whole _ (O .is-below))),
     )
 
 first-join-first-requires : (t : ℕ) → first-lts.Need-join-first-requires (first-claims t) (first-at t) first.Post
@@ -177,7 +184,8 @@ first-join-first-requires t c κs =
     let f = c .before .before .before .before .before .before .before .before .fill in
     let q = c .before .before .before .before .first in
     let same = f .kept .0 ∙ i .kept .0 in
-    join O _ _ (first-whole O) (f .ensures) same (q .kept .0 ∙ rest-length O (f .last .0) _ same (first-whole O))
+    let ends = first-whole _ (O .is-below) in
+    join O _ _ ends (f .ensures) same (q .kept .0 ∙ rest-length O (f .last .0) _ same ends)
     (q .kept .1 .0 ∙ i .kept .1 .0) (q .ensures)
 
 first-same-length-2 : (t : ℕ) → first-lts.Need-same-length-2 (first-claims t) (first-at t) first.Post
@@ -232,7 +240,7 @@ inverse-add-whole : (t : ℕ) → inverse-lts.Need-add-whole (inverse-claims t) 
 inverse-add-whole t c =
     let l = c in
     let O = one-fewer (l .before .before .pre .1) (l .before .if1 .left) (l .largest .ensures) in
-    omega (arith, O .small, below-le O)
+    omega (arith, O .small, below-le _ (O .is-below))
 
 inverse-first-requires : (t : ℕ) → inverse-lts.Need-first-requires (inverse-claims t) (inverse-at t) inverse.Post
 inverse-first-requires t c κs =
@@ -245,7 +253,12 @@ inverse-fill-requires t c κs =
     let l = c .before .before .before .before .before .before in
     let O = one-fewer (l .before .before .pre .1) (l .before .if1 .left) (l .largest .ensures) in
     let i = c .before .before .before .first in (
-      (O .pos, O .small, inverse-whole O ∙ sym (NatL.zero-add _), rw (inverse-whole O, i .kept .0) (front-room O 1)),
+      (
+        O .pos,
+        O .small,
+        inverse-whole _ (O .is-below) ∙ sym (NatL.zero-add _),
+        rw (inverse-whole _ (O .is-below), i .kept .0) (front-room O 1),
+      ),
       half-front 1 _ _ (i .ensures),
     )
 
@@ -253,22 +266,22 @@ inverse-mul-inverse : (t : ℕ) → inverse-lts.Need-mul-inverse (inverse-claims
 inverse-mul-inverse t c =
     let l = c .before .before .before .before .before .before .before .before in
     let O = one-fewer (l .before .before .pre .1) (l .before .if1 .left) (l .largest .ensures) in
-    omega (arith, O .small, below-le O)
+    omega (arith, O .small, below-le _ (O .is-below))
 
 inverse-sub-inverse : (t : ℕ) → inverse-lts.Need-sub-inverse (inverse-claims t) (inverse-at t) inverse.Post
 inverse-sub-inverse t c =
     let l = c .before .before .before .before .before .before .before .before in
     let O = one-fewer (l .before .before .pre .1) (l .before .if1 .left) (l .largest .ensures) in
-    rw (inverse-whole O, c .before .fill .kept .0, c .before .before .before .before .before .first .kept .0)
-    (front-room O 1)
+    let i = c .before .before .before .before .before .first in
+    rw (inverse-whole _ (O .is-below), c .before .fill .kept .0, i .kept .0) (front-room O 1)
 
 inverse-part-inverse-start :
     (t : ℕ) → inverse-lts.Need-part-inverse-start (inverse-claims t) (inverse-at t) inverse.Post
 inverse-part-inverse-start t c =
     let l = c .before .before .before .before .before .before .before .before in
     let O = one-fewer (l .before .before .pre .1) (l .before .if1 .left) (l .largest .ensures) in
-    rw (inverse-whole O, c .before .fill .kept .0, c .before .before .before .before .before .first .kept .0)
-    (front-room O 1)
+    let i = c .before .before .before .before .before .first in
+    rw (inverse-whole _ (O .is-below), c .before .fill .kept .0, i .kept .0) (front-room O 1)
 
 inverse-part-inverse-end : (t : ℕ) → inverse-lts.Need-part-inverse-end (inverse-claims t) (inverse-at t) inverse.Post
 inverse-part-inverse-end t c = search needs
@@ -281,7 +294,8 @@ inverse-inverse-requires t c κs =
     let i = c .before .before .before .before .before .before .before .first in
     let f = c .before .before .before .fill in (
       omega (arith, l .before .before .pre .0),
-      O .ask 2 _ _ (i .kept .1 .0) (rest-room O (f .last .0) _ (f .kept .0 ∙ i .kept .0) (inverse-whole O)),
+      O .ask 2 _ _ (i .kept .1 .0) (rest-room O (f .last .0) _ (f .kept .0 ∙ i .kept .0)
+          (inverse-whole _ (O .is-below))),
     )
 
 inverse-join-inverse-requires :
@@ -295,7 +309,8 @@ inverse-join-inverse-requires t c κs =
     let f = c .before .before .before .before .before .before .before .before .fill in
     let q = c .before .before .before .before .inverse in
     let same = f .kept .0 ∙ i .kept .0 in
-    join O _ _ (inverse-whole O) (f .ensures) same (q .kept .0 ∙ rest-length O (f .last .0) _ same (inverse-whole O))
+    let ends = inverse-whole _ (O .is-below) in
+    join O _ _ ends (f .ensures) same (q .kept .0 ∙ rest-length O (f .last .0) _ same ends)
     (q .kept .1 .0 ∙ i .kept .1 .0) (q .ensures)
 
 inverse-same-length-2 : (t : ℕ) → inverse-lts.Need-same-length-2 (inverse-claims t) (inverse-at t) inverse.Post

@@ -6,7 +6,8 @@ use native.Mathlib.Numerals.{add-one}
 use lib.Seq.{length-take-le}
 use Rattle.definitions.specs.Codes.{SHORT}
 use Rattle.definitions.specs.Cascades.{totalDegree, longest}
-use Rattle.cascade.proofs.Answering.{told-only, some-index, at-short, ask-short, ask-scratch, at-last}
+use Rattle.answers.proofs.Told.{told-only}
+use Rattle.cascade.proofs.Answering.{some-index, at-short, ask-short, ask-scratch, at-last}
 use borrow.Author.Needs.{needs}
 use Rattle.cascade.proofs.making.answer_in.Statement.{statement}
 use Rattle.cascade.proofs.making.answer_in.Tie as tie

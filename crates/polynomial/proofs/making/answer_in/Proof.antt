@@ -11,7 +11,8 @@ use Rattle.definitions.specs.Codes.{SHORT}
 use Rattle.definitions.specs.Polynomials.{degree}
 use Rattle.step_laws.specs.Signed.{mag-abs}
 use Rattle.index.proofs.Laws.{parts-degree}
-use Rattle.polynomial.proofs.Answering.{told-only, ask-short, at-short, refuses, delivers}
+use Rattle.answers.proofs.Told.{told-only}
+use Rattle.polynomial.proofs.Answering.{ask-short, at-short, refuses, delivers}
 use borrow.Author.Needs.{needs}
 use Rattle.polynomial.proofs.making.answer_in.Statement.{statement}
 use Rattle.polynomial.proofs.making.answer_in.Tie as tie

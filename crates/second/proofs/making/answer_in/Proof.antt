@@ -12,7 +12,8 @@ use Rattle.definitions.specs.Polynomials.{degree}
 use Rattle.step_laws.specs.Signed.{mag-abs}
 use Rattle.index.proofs.Laws.{index-good, parts-degree}
 use Rattle.definitions.specs.Requests.{zeros}
-use Rattle.second.proofs.Answering.{told-only, ask-short, ask-scratch, at-short, refuses, delivers}
+use Rattle.answers.proofs.Told.{told-only}
+use Rattle.second.proofs.Answering.{ask-short, ask-scratch, at-short, refuses, delivers}
 use borrow.Author.Needs.{needs}
 use Rattle.second.proofs.making.answer_in.Statement.{statement}
 use Rattle.second.proofs.making.answer_in.Tie as tie

@@ -4,25 +4,26 @@ use mathlib.Core.Path.{sym, _∙_}
 use native.Mathlib.Omega.{arith}
 use lib.Seq.{length-take-le}
 use Rattle.definitions.specs.Second.{otherKind}
-use Rattle.second_engine.proofs.Joined.{p-pos, r-pos, m-small, p-small, below-m, free-r, still, made-half}
-use Rattle.second_engine.proofs.Joined.{size-first, whole-first, end-first, is-first}
+use Rattle.second_engine.proofs.Joined.{p-pos, r-pos, m-small, p-small, below-le, free-r, still, made-half}
+use Rattle.second_engine.proofs.Joined.{size-first, first-whole, first-end, is-first}
 use borrow.Author.Needs.{needs}
 use Rattle.second_engine.proofs.joining.join_first.Statement.{statement}
 use Rattle.second_engine.proofs.joining.join_first.Tie as tie
 
 sub-whole : tie.Need-sub-whole
-sub-whole c = below-m (c .pre)
+sub-whole c = below-le _ (c .pre .is-below)
 
 add-whole : tie.Need-add-whole
-add-whole c = omega (arith, below-m (c .pre), m-small (c .pre))
+add-whole c = omega (arith, below-le _ (c .pre .is-below), m-small (c .pre))
 
 add-end : tie.Need-add-end
 add-end c = omega (arith, m-small (c .pre))
 
 fill-requires : tie.Need-fill-requires
+unfolding otherKind
 fill-requires c κs =
     let J = c .before .pre in
-    ((J .pos, m-small J, end-first J, J .both), rw (whole-first J) (J .own))
+    ((J .pos, m-small J, first-end _ (J .is-below), J .both), rw (first-whole _ (J .is-below)) (J .own))
 
 sub-size : tie.Need-sub-size
 sub-size c = p-pos (c .before .before .before .pre)
@@ -47,7 +48,7 @@ divided-parts-requires c κs =
     let q = c .before .before .before .before .before in
     let J = q .pre in
     let n = c .before .before .before .fill .kept .0 in
-    (omega (arith, below-m J), omega (arith, n, J .both), p-pos J, p-small J, J .pos)
+    (omega (arith, below-le _ (J .is-below)), omega (arith, n, J .both), p-pos J, p-small J, J .pos)
 
 same-length : tie.Need-same-length
 same-length c = search needs
@@ -61,8 +62,8 @@ returns c =
     let f = c .before .before .before .before .before in
     let J = f .before .before .pre in
     made-half 1 _ (r-pos J) (J .small) _
-    (c .before .divided-parts .ensures _ _ (f .fill .ensures .whole) (still (f .fill .ensures) (rw (whole-first J)
-    (J .other)))) (is-first J)
+    (c .before .divided-parts .ensures _ _ (f .fill .ensures .whole)
+    (still (f .fill .ensures) (rw (first-whole _ (J .is-below)) (J .other)))) (is-first J)
     (c .before .divided-parts .kept .0 ∙ length-take-le _ _ (rw (size-first J) (J .room)) ∙ size-first J)
 
 pub join-first-spec : {M : Type 1} → statement M

@@ -3,22 +3,23 @@ use mathlib.Core.Path.{sym, _∙_}
 use native.Mathlib.Omega.{arith}
 use lib.Seq.{length-take-le}
 use Rattle.definitions.specs.Second.{otherKind}
-use Rattle.second_engine.proofs.Joined.{p-pos, r-pos, m-small, p-small, below-m, free-r, still, made-half}
-use Rattle.second_engine.proofs.Joined.{size-inverse, whole-inverse, end-inverse, is-inverse}
+use Rattle.second_engine.proofs.Joined.{p-pos, r-pos, m-small, p-small, below-le, free-r, still, made-half}
+use Rattle.second_engine.proofs.Joined.{size-inverse, inverse-whole, inverse-end, is-inverse}
 use borrow.Author.Needs.{needs}
 use Rattle.second_engine.proofs.joining.join_inverse.Statement.{statement}
 use Rattle.second_engine.proofs.joining.join_inverse.Tie as tie
 
 add-whole : tie.Need-add-whole
-add-whole c = omega (arith, below-m (c .pre), m-small (c .pre))
+add-whole c = omega (arith, below-le _ (c .pre .is-below), m-small (c .pre))
 
 add-end : tie.Need-add-end
 add-end c = omega (arith, m-small (c .pre))
 
 fill-requires : tie.Need-fill-requires
+unfolding otherKind
 fill-requires c κs =
     let J = c .before .pre in
-    ((J .pos, m-small J, end-inverse J, J .both), rw (whole-inverse J) (J .own))
+    ((J .pos, m-small J, inverse-end _ (J .is-below), J .both), rw (inverse-whole _ (J .is-below)) (J .own))
 
 mul-size : tie.Need-mul-size
 mul-size c = omega (arith, free-r (c .before .before .before .pre), c .before .before .before .pre .small)
@@ -49,7 +50,7 @@ times-parts-requires c κs =
     let q = c .before .before .before .before .before in
     let J = q .pre in
     let n = c .before .before .before .fill .kept .0 in
-    (omega (arith, below-m J), omega (arith, n, J .both), p-pos J, p-small J)
+    (omega (arith, below-le _ (J .is-below)), omega (arith, n, J .both), p-pos J, p-small J)
 
 same-length : tie.Need-same-length
 same-length c = search needs
@@ -63,8 +64,8 @@ returns c =
     let f = c .before .before .before .before .before in
     let J = f .before .before .pre in
     made-half 2 _ (r-pos J) (J .small) _
-    (c .before .times-parts .ensures _ _ (f .fill .ensures .whole) (still (f .fill .ensures) (rw (whole-inverse J)
-    (J .other)))) (is-inverse J)
+    (c .before .times-parts .ensures _ _ (f .fill .ensures .whole)
+    (still (f .fill .ensures) (rw (inverse-whole _ (J .is-below)) (J .other)))) (is-inverse J)
     (c .before .times-parts .kept .0 ∙ length-take-le _ _ (rw (size-inverse J) (J .room)) ∙ size-inverse J)
 
 pub join-inverse-spec : {M : Type 1} → statement M
