@@ -14,6 +14,7 @@ use Rattle.record.specs.Header.{headerOf, marked, kindIn, widthIn, index
 use Rattle.widths.specs.Numbers.{bytesOf, number}
 use Rattle.widths.proofs.Digits.{Bytes, bytes-take, bytes-drop, number-bytes, number-less, bytes-number}
 use Rattle.record.proofs.Headers.{Right}
+use Rattle.record.proofs.Passes.{byte-in}
 
 -- what stands in a header, whatever comes after it
 module _ (kind w n count : ℕ) (rest : List ℕ) where
@@ -56,11 +57,6 @@ part-same : (w at : ℕ) (bs : List ℕ) → at + w ≤ length bs → Bytes bs �
 part-same w at bs h p =
     bytes-number w (take w (drop at bs)) (length-take-le w (drop at bs) (rw length-drop (omega arith)))
     (bytes-take w (drop at bs) (bytes-drop at bs p))
-
--- a field of one byte holds that byte
-byte-in : (bs : List ℕ) (at : ℕ) → at < length bs → number (take 1 (drop at bs)) ≡ getD bs at 0
-unfolding number
-byte-in bs at h = rw (drop-cons bs at 0 h) (add-zero (getD bs at 0))
 
 pub header-same : (bs : List ℕ) → Bytes bs → Right bs → headerOf (kindIn bs) (widthIn bs) (indexIn bs) (countIn bs)
     ≡ take 10 bs

@@ -2,17 +2,24 @@
 -- whole pass gives; so a turn is the definition's own step. A pass that looks has the same with the largest so far.
 use Prim.Native.Nat.{ℕ, zero, suc, _+_, _*_, _-_, _/_, _%_, _<_, _≤_, _^_, max}
 use mathlib.Core.Path.{_≡_, refl, sym, ap, _∙_}
+use mathlib.Core.Bool.{true}
 use mathlib.Core.List.{List, [], _∷_, _++_}
 use native.Mathlib.Omega.{arith}
 use native.Mathlib.Numerals.{add-one}
-use native.Mathlib.Nat.{add-zero, zero-mul, suc-mul}
-use lib.ListN.{length, getD, set, take, drop, length-append, drop-of-length-le}
-use lib.Seq.{sets, drop-cons, drop-drop}
+use native.Mathlib.Nat.{add-zero, zero-mul, one-mul, suc-mul, mul-suc, mul-add, mul-assoc, mul-le-mul-left}
+use native.Mathlib.Nat.{zero-max, max-zero}
+use lib.Bits.{bitOr}
+use lib.Pow.{pow-add}
+use lib.ListN.{length, getD, set, take, drop, length-append, length-drop, drop-of-length-le}
+use lib.Seq.{sets, drop-cons, drop-drop, take-add, length-take-le}
 use lib.IntN.{ℤ, pos, natAbs}
 use Rattle.definitions.specs.Answer.{heightOf}
-use Rattle.widths.specs.Numbers.{bytesOf, number, twos, signedOf, body, coefficientsAt}
-use Rattle.widths.proofs.Widths.{full-suc, full-mono}
+use Rattle.widths.specs.Numbers.{bytesOf, number, twos, signedOf, body, coefficientsAt, widths, oneOf}
+use Rattle.widths.specs.Classes.{class}
+use Rattle.widths.proofs.Widths.{full-suc}
+use Rattle.widths.proofs.Classes.{class-none, class-or, lesser-less}
 use Rattle.widths.proofs.Digits.{length-bytesOf}
+use Rattle.record.specs.Held.{numberAt, Held}
 
 -- a number put: the lowest byte first
 pub put-turn : (b : List ℕ) (i k v : ℕ) → 0 < k → sets (set b i (v % 256)) (i + 1) (bytesOf (k - 1) (v / 256))
@@ -28,39 +35,29 @@ unfolding bytesOf
 put-none b i zero v h = refl
 put-none b i (suc k) v h = absurd (omega arith)
 
--- a number got: the bytes from place `left` on are in v already
-abbrev pub Got : List ℕ → ℕ → ℕ → ℕ → ℕ → Type 0
-Got bs at w left v = (v ≡ number (take (w - left) (drop (at + left) bs))) × (v < 2 ^ (8 * (w - left)))
-
-pub got-none : (bs : List ℕ) (at w : ℕ) → Got bs at w w 0
+-- a number got: of one byte, and of two halves
+pub byte-in : (bs : List ℕ) (at : ℕ) → at < length bs → numberAt 1 at bs ≡ getD bs at 0
 unfolding number
-got-none bs at w =
-    let e : w - w ≡ 0 = omega arith in
-    rw e (refl, omega arith)
+byte-in bs at h = rw (drop-cons bs at 0 h) (add-zero (getD bs at 0))
 
-pub got-all : (bs : List ℕ) (at w v left : ℕ) → left ≡ 0 → Got bs at w left v → (v ≡ number (take w (drop at bs)))
-    × (v < 2 ^ (8 * w))
-got-all bs at w v left z g =
-    let e : w - 0 ≡ w = omega arith in
-    rw (z, e, add-zero) at g
+pub got-one : (bs : List ℕ) (at b : ℕ) → at + 1 ≤ length bs → b ≡ getD bs at 0 → b < 256 → Held 1 at bs b
+got-one bs at b h e small = (e ∙ sym (byte-in bs at (omega arith)), small)
 
--- in at most 8 bytes there is room for one more
-pub got-room : (bs : List ℕ) (at w left v : ℕ) → 0 < left → w ≤ 8 → Got bs at w left v → v < 2 ^ 56
-got-room bs at w left v h l (same, less) =
-    let few : w - left ≤ 7 = omega arith in
-    omega (arith, full-mono few)
-
-pub get-turn : (bs : List ℕ) (at w left v b : ℕ) → 0 < left → left ≤ w → at + w ≤ length bs
-    → b ≡ getD bs (at + (left - 1)) 0 → b < 256 →
-    Got bs at w left v → Got bs at w (left - 1) (v * 256 + b)
+number-append : (xs ys : List ℕ) → number (xs ++ ys) ≡ number xs + 2 ^ (8 * length xs) * number ys
 unfolding number
-get-turn bs at w left v b h l room e small (same, less) =
-    let more : w - (left - 1) ≡ suc (w - left) = omega arith in
-    let next : at + left ≡ suc (at + (left - 1)) = omega arith in
-    let inside : at + (left - 1) < length bs = omega arith in
-    rw more (
-      rw (drop-cons bs (at + (left - 1)) 0 inside, ← next, ← e, ← same) (omega arith),
-      omega (arith, full-suc (w - left)),
+number-append [] ys = omega (arith, one-mul (number ys))
+number-append (x ∷ xs) ys =
+    rw (number-append xs ys, full-suc (length xs), mul-assoc 256 (2 ^ (8 * length xs)) (number ys)) (omega arith)
+
+pub got-two : (w at : ℕ) (bs : List ℕ) (low high : ℕ) → at + (w + w) ≤ length bs → Held w at bs low
+    → Held w (at + w) bs high → Held (w + w) at bs (low + 2 ^ (8 * w) * high)
+got-two w at bs low high h (el, sl) (eh, sh) =
+    let p = 2 ^ (8 * w) in
+    let l = drop at bs in
+    let long : length (take w l) ≡ w = length-take-le w l (rw length-drop (omega arith)) in
+    let square : 2 ^ (8 * (w + w)) ≡ p * p = ap (λ (k : ℕ). 2 ^ k) (mul-add 8 w w) ∙ pow-add 2 (8 * w) (8 * w) in (
+      rw (take-add w w l, number-append (take w l) (take w (drop w l)), long, drop-drop w at bs, el, eh),
+      rw square (omega (arith, mul-le-mul-left p sh, mul-suc p high)),
     )
 
 -- the store, of a slice's coefficients
@@ -115,16 +112,28 @@ one-less (suc k) w h =
     let e : suc k - 1 ≡ k = omega arith in
     rw e (omega (arith, suc-mul k w))
 
-pub look-turn : (w k at h : ℕ) (bs : List ℕ) → 0 < k →
-    max (max h (natAbs (signedOf w (number (take w (drop at bs))))))
-    (heightOf (coefficientsAt w (k - 1) (drop (at + w) bs)))
-    ≡ max h (heightOf (coefficientsAt w k (drop at bs)))
-unfolding heightOf
-look-turn w k at h bs l = rw (next-in w k at bs l) (omega arith)
+-- the look: the class of some height, and what is left
+abbrev pub Looked : ℕ → ℕ → List ℕ → ℕ → ℕ → ℕ → Type 0
+Looked w k bs all left at = (h : ℕ) × (all ≡ class w h)
+    × (max h (heightOf (coefficientsAt w left (drop at bs))) ≡ heightOf (coefficientsAt w k (drop 10 bs)))
 
-pub look-none : (w k at h : ℕ) (bs : List ℕ) → k ≤ 0 → max h (heightOf (coefficientsAt w k (drop at bs))) ≡ h
+pub look-none : (w k : ℕ) (bs : List ℕ) → Looked w k bs 0 k 10
+look-none w k bs = (0, sym (class-none w), zero-max _)
+
+pub look-turn : (w k left at all c v : ℕ) (bs : List ℕ) → oneOf widths w ≡ true → 0 < left → v ≡ numberAt w at bs
+    → c ≡ class w (natAbs (signedOf w v)) → Looked w k bs all left at → Looked w k bs (bitOr all c) (left - 1) (at + w)
 unfolding heightOf
-look-none w k at h bs l = rw (none-in w k (drop at bs) l) (omega arith)
+look-turn w k left at all c v bs o l ev ec (h, ea, e) = (
+  max h (natAbs (signedOf w v)),
+  rw (ea, ec) (class-or w h (natAbs (signedOf w v)) (lesser-less w o)),
+  rw (ev, ← e, next-in w left at bs l) (omega arith),
+)
+
+pub look-all : (w k left at all : ℕ) (bs : List ℕ) → left ≤ 0 → Looked w k bs all left at
+    → all ≡ class w (heightOf (coefficientsAt w k (drop 10 bs)))
+unfolding heightOf
+look-all w k left at all bs l (h, ea, e) =
+    ea ∙ ap (class w) (sym (max-zero h) ∙ (rw (none-in w left (drop at bs) l) at e))
 
 pub fill-turn : (w k at i : ℕ) (bs : List ℕ) (cs : List ℤ) → 0 < k →
     sets (set cs i (signedOf w (number (take w (drop at bs))))) (i + 1) (coefficientsAt w (k - 1) (drop (at + w) bs))

@@ -1,2 +1,3 @@
--- The header of a record.
+-- The header of a record, and numbers in its bytes.
 pub mod Header
+pub mod Held

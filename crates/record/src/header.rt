@@ -1,6 +1,8 @@
 // The header: 10 bytes, the same in every form of a record.
-use super::bytes::get;
+use super::bytes::four;
+use super::bytes::one;
 use super::bytes::put;
+use super::bytes::two;
 use answers::known_kind;
 use index::degree_of;
 use widths::is_width;
@@ -36,28 +38,28 @@ pub fn kind_in(bytes: &[u8]) -> u64
     requires { ⌜ 10 ≤ length (now bytes) ⌝ }
     ensures { λ r. ⌜ r ≡ kindIn (now (bytes .entry)) ⌝ }
 {
-    get(bytes, 2, 1)
+    one(bytes, 2)
 }
 
 pub fn width_in(bytes: &[u8]) -> u64
     requires { ⌜ 10 ≤ length (now bytes) ⌝ }
     ensures { λ r. ⌜ r ≡ widthIn (now (bytes .entry)) ⌝ }
 {
-    get(bytes, 3, 1)
+    one(bytes, 3)
 }
 
 pub fn index_in(bytes: &[u8]) -> u64
     requires { ⌜ 10 ≤ length (now bytes) ⌝ }
     ensures { λ r. ⌜ (r ≡ indexIn (now (bytes .entry))) × (r ≤ 65535) ⌝ }
 {
-    get(bytes, 4, 2)
+    two(bytes, 4)
 }
 
 pub fn count_in(bytes: &[u8]) -> u64
     requires { ⌜ 10 ≤ length (now bytes) ⌝ }
     ensures { λ r. ⌜ r ≡ countIn (now (bytes .entry)) ⌝ }
 {
-    get(bytes, 6, 4)
+    four(bytes, 6)
 }
 
 // The first field that is wrong, by its code. The degree is worked out last: it takes n apart.

@@ -3,9 +3,9 @@
 
 mod bytes;
 mod header;
+mod look;
 
 pub use bytes::fill;
-pub use bytes::height_in;
 pub use bytes::put_body;
 pub use header::byte_of;
 pub use header::count_in;
@@ -14,3 +14,4 @@ pub use header::index_in;
 pub use header::kind_in;
 pub use header::put_header;
 pub use header::width_in;
+pub use look::right_width;

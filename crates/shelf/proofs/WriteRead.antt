@@ -8,13 +8,14 @@ use lib.ListN.{length, drop, length-append, length-drop}
 use lib.Seq.{drop-at}
 use lib.IntN.{ℤ}
 use lib.Dec.{ltb}
+use borrow.Author.Tests.{eq-eqb}
 use Rattle.definitions.specs.Answer.{heightOf}
 use Rattle.definitions.specs.Steps.{largest}
 use Rattle.definitions.specs.Codes.{DONE}
 use Rattle.definitions.specs.Polynomials.{degree}
 use Rattle.definitions.specs.Requests.{knownKind}
 use Rattle.widths.specs.Numbers.{body, widths, oneOf, width}
-use Rattle.record.specs.Header.{headerOf, countIn, degreeIn, byteOf}
+use Rattle.record.specs.Header.{headerOf, widthIn, countIn, degreeIn, byteOf}
 use Rattle.index.proofs.Laws.{index-good, degree-le}
 use Rattle.widths.proofs.Least.{Fitting, width-none, width-some}
 use Rattle.widths.proofs.Digits.{coefficients-body}
@@ -23,7 +24,7 @@ use Rattle.record.proofs.HeaderTrips.{marked-back, kind-back, width-back, index
 use Rattle.shelf.specs.Format.{recordOf, size, writeCode, writeLeaves, coefficientsIn, sizeIn}
 use Rattle.shelf.specs.Format.{readTells, readAnswer, readLeaves}
 use Rattle.shelf.proofs.Writing.{length-record}
-use Rattle.shelf.proofs.Reading.{filled}
+use Rattle.shelf.proofs.Reading.{code-done, by-code}
 use Rattle.shelf.proofs.Done.{written-right}
 
 -- such coefficients have a width
@@ -93,5 +94,6 @@ module _ (kind n : ℕ) (cs : List ℤ) (b : List ℕ) (done : writeCode kind n 
       ∙ fields-right bs (ap knownKind is-kind ∙ g .known) (ap (oneOf widths) wide ∙ f .one)
       (λ z. omega (arith, index, reach .0))
       (count ∙ g .count ∙ ap (λ (d : ℕ). d + 1) (sym true-degree)) in
-      let p = filled bs out head (omega (arith, g .fits)) (omega arith) (ap width back ∙ sym wide) in
+      let p = by-code bs out DONE (code-done bs (length out) head (omega (arith, g .fits)) (omega arith)
+      (eq-eqb (width (coefficientsIn bs)) (widthIn bs) (ap width back ∙ sym wide))) in
       (sym (p .0) ∙ rw (true-degree, whole, is-kind, index), sym (p .1) ∙ rw (back, count))

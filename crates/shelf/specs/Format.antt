@@ -66,6 +66,10 @@ readCode bytes room =
     (cond (ltb room (countIn bytes)) SHORT
     (cond (not (eqb (width (coefficientsIn bytes)) (widthIn bytes))) WIDTH DONE)))
 
+-- the look by itself, for a walk over records: the code where the room suffices
+unfoldable pub lookCode : List ℕ → ℕ
+lookCode bytes = readCode bytes (countIn bytes)
+
 -- the true degree is told on code 0 and SHORT; bytes used, kind and n are 0 on refusal; the byte is that of a wrong
 -- field
 unfoldable pub readTells : List ℕ → ℕ → Record

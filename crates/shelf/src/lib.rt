@@ -1,10 +1,13 @@
-// The shelf record: a writer and a reader that agree to the byte. Nothing is asked of the caller.
+// The shelf record: a writer and a reader that agree to the byte. Nothing is asked of the caller. `size_in` is inner:
+// the crate `browsing` uses it, and shows the `requires`.
 mod reader;
 mod writer;
 
+pub use reader::size_in;
+
 ghost use mathlib.Core.Path.{_≡_};
 ghost use lib.ListN.{length};
-ghost use Rattle.shelf.specs.Format.{writeAnswer, writeLeaves, readAnswer, readLeaves};
+ghost use Rattle.shelf.specs.Format.{writeAnswer, writeLeaves, readAnswer, readLeaves, lookCode};
 
 // What the writer answers: the code, the degree, the bytes used, and the byte at which a wrong field starts.
 #[repr(C)]
@@ -81,4 +84,16 @@ pub fn read(bytes: &[u8], coeffs: &mut [i64]) -> Record
         return Record::refused(code, 0, record::byte_of(code));
     }
     reader::read_with(bytes, coeffs)
+}
+
+// The code of the record that some bytes start with, by every test of the reader but that of the room. Nothing is
+// stored.
+pub fn look(bytes: &[u8]) -> u64
+    ensures { λ r. ⌜ r ≡ lookCode (now (bytes .entry)) ⌝ }
+{
+    let code = record::header_code(bytes);
+    if code != answers::DONE {
+        return code;
+    }
+    reader::look_with(bytes)
 }

@@ -1,14 +1,14 @@
 -- The least width: it takes its height and is one of the widths; there is none exactly where a height is above 2^63 -
 -- 1. Shown of any list of widths.
 use Prim.Native.Nat.{ℕ, _*_, _≤_, _<_, _^_}
-use mathlib.Core.Path.{_≡_, refl, sym, ap, _∙_}
+use mathlib.Core.Path.{_≡_, refl, sym, ap, _∙_, subst}
 use mathlib.Core.Bool.{Bool, true, false, cond, _||_, true≢false}
 use mathlib.Core.List.{List, [], _∷_}
 use mathlib.Core.Logic.{_⊎_, inl, inr, ⊎-elim}
 use native.Mathlib.Omega.{arith}
 use lib.IntN.{ℤ}
 use lib.Dec.{leb, ltb, eqb}
-use borrow.Author.Tests.{leb-true, eqb-true, eqb-false, eq-eqb, le-ltb, ltb-false, le-leb}
+use borrow.Author.Tests.{leb-true, leb-false, eqb-true, eqb-false, eq-eqb, le-ltb, ltb-false, le-leb}
 use Rattle.definitions.specs.Answer.{heightOf}
 use Rattle.definitions.specs.Steps.{largest}
 use Rattle.widths.specs.Numbers.{top, widths, oneOf, leastOf, width}
@@ -59,18 +59,43 @@ found (v ∷ ws) h w p o t z = go (leb h (top v)) refl (eqb 0 v) refl p z (or-ca
         true≢false (sym (le-leb h (top v) (rw same at t)) ∙ e)
     go false e false f q y (inr s) more = more q s t y
 
--- the widths are 1 to 8
-pub width-bounds : (w : ℕ) → oneOf widths w ≡ true → (0 < w) × (w ≤ 8)
+-- what holds of each of the widths holds of one that is among them
+pub width-cases : (P : ℕ → Type 0) → P 1 → P 2 → P 4 → P 8 → (w : ℕ) → oneOf widths w ≡ true → P w
 unfolding oneOf
-width-bounds w o =
-    ⊎-elim (λ e. let s : w ≡ 1 = eqb-true w 1 e in omega arith)
-    (λ o₂. ⊎-elim (λ e. let s : w ≡ 2 = eqb-true w 2 e in omega arith)
-    (λ o₄. ⊎-elim (λ e. let s : w ≡ 4 = eqb-true w 4 e in omega arith)
-    (λ o₈. ⊎-elim (λ e. let s : w ≡ 8 = eqb-true w 8 e in omega arith) (λ e. absurd (true≢false (sym e)))
-    (or-cases (eqb w 8) false o₈))
-    (or-cases (eqb w 4) (oneOf (8 ∷ []) w) o₄))
-    (or-cases (eqb w 2) (oneOf (4 ∷ 8 ∷ []) w) o₂))
-    (or-cases (eqb w 1) (oneOf (2 ∷ 4 ∷ 8 ∷ []) w) o)
+width-cases P one two four eight w o =
+    is 1 one (oneOf (2 ∷ 4 ∷ 8 ∷ []) w) (is 2 two (oneOf (4 ∷ 8 ∷ []) w)
+    (is 4 four (oneOf (8 ∷ []) w) (is 8 eight false (λ e. absurd (true≢false (sym e)))))) o
+  where
+    is : (v : ℕ) → P v → (others : Bool) → (others ≡ true → P w) → (eqb w v || others) ≡ true → P w
+    is v p others more o =
+        ⊎-elim (λ e. subst P (sym (eqb-true w v e)) p) more (or-cases (eqb w v) others o)
+
+pub width-bounds : (w : ℕ) → oneOf widths w ≡ true → (0 < w) × (w ≤ 8)
+width-bounds =
+    width-cases (λ w. (0 < w) × (w ≤ 8)) (omega arith, omega arith) (omega arith, omega arith)
+    (omega arith, omega arith) (omega arith, omega arith)
+
+-- the last of them
+pub width-last : (w : ℕ) → oneOf widths w ≡ true → (w ≡ 1 → ⊥) → (w ≡ 2 → ⊥) → (w ≡ 4 → ⊥) → w ≡ 8
+width-last =
+    width-cases (λ w. (w ≡ 1 → ⊥) → (w ≡ 2 → ⊥) → (w ≡ 4 → ⊥) → w ≡ 8) (λ a b c. absurd (a refl))
+    (λ a b c. absurd (b refl)) (λ a b c. absurd (c refl)) (λ a b c. refl)
+
+-- the least width of a height, by where it lies
+pub least-cases : (P : ℕ → Type 0) (h : ℕ) → (h ≤ 127 → P 1) → (127 < h → h ≤ 32767 → P 2)
+    → (32767 < h → h ≤ 2147483647 → P 4) → (2147483647 < h → h ≤ 9223372036854775807 → P 8)
+    → (9223372036854775807 < h → P 0) → P (leastOf widths h)
+unfolding leastOf top
+least-cases P h one two four eight none =
+    go (leb h 127) refl (leb h 32767) refl (leb h 2147483647) refl (leb h 9223372036854775807) refl
+  where
+    go : (a : Bool) → leb h 127 ≡ a → (b : Bool) → leb h 32767 ≡ b → (c : Bool) → leb h 2147483647 ≡ c
+        → (d : Bool) → leb h 9223372036854775807 ≡ d → P (cond a 1 (cond b 2 (cond c 4 (cond d 8 0))))
+    go true ea b eb c ec d ed = one (leb-true h _ ea)
+    go false ea true eb c ec d ed = two (leb-false h _ ea) (leb-true h _ eb)
+    go false ea false eb true ec d ed = four (leb-false h _ eb) (leb-true h _ ec)
+    go false ea false eb false ec true ed = eight (leb-false h _ ec) (leb-true h _ ed)
+    go false ea false eb false ec false ed = none (leb-false h _ ed)
 
 -- a height above 2^63 - 1 has no width
 pub width-none : (cs : List ℤ) → width cs ≡ 0 → ltb largest (heightOf cs) ≡ true

@@ -3,5 +3,6 @@ pub mod Signs
 pub mod Widths
 pub mod Least
 pub mod Lowest
+pub mod Classes
 pub mod Digits
 pub mod OneOutcome

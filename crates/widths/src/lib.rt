@@ -3,8 +3,10 @@
 ghost use mathlib.Core.Path.{_≡_};
 ghost use Prim.Native.Nat.{_*_, _<_, _≤_, _^_};
 ghost use mathlib.Core.Bool.{cond};
+ghost use mathlib.Core.Bool.{true};
 ghost use lib.IntN.{pos, negsuc, natAbs};
 ghost use Rattle.widths.specs.Numbers.{top, twos, signedOf, widths, oneOf, leastOf};
+ghost use Rattle.widths.specs.Classes.{lesser, class};
 
 // -(m + 1) or m.
 fn whole_of(below: bool, m: u64) -> i64
@@ -46,6 +48,39 @@ pub fn signed_of(v: u64, w: usize) -> i64
     } else {
         whole_of(true, most - (v - most - 1))
     }
+}
+
+// The largest height that half as many bytes take.
+fn lesser_top(w: usize) -> u64
+    requires { ⌜ oneOf widths w ≡ true ⌝ }
+    ensures { λ r. ⌜ r ≡ lesser w ⌝ }
+{
+    match w {
+        1 => 0,
+        2 => 127,
+        4 => 32767,
+        _ => 2147483647,
+    }
+}
+
+// What the number that v stands for in w bytes says of the width. A byte, so that a loop over the coefficients has
+// sixteen of them in a vector; and tests on v itself, so that nothing is wider than w bytes.
+pub fn class_of(v: u64, w: usize) -> u8
+    requires { ⌜ (oneOf widths w ≡ true) × (v < 2 ^ (8 * w)) ⌝ }
+    ensures { λ r. ⌜ r ≡ class w (natAbs (signedOf w v)) ⌝ }
+{
+    let most = top_of(w);
+    let less = lesser_top(w);
+    if v == most + 1 {
+        return 3;
+    }
+    if v <= less {
+        return 0;
+    }
+    if most + most + 1 - v < less {
+        return 0;
+    }
+    1
 }
 
 // The least width that takes a height; 0 where none does.

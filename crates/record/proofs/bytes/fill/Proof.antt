@@ -19,14 +19,13 @@ abbrev μ-loop : tie.MeasureT-loop
 μ-loop bytes w k coeffs₀ left₀ at₀ i₀ coeffs left at i = left
 
 loop-holds : tie.Need-loop-holds Inv-loop μ-loop
-loop-holds c = (refl, c .before .pre .2, omega arith, refl)
+loop-holds c = (refl, c .before .pre .1, omega arith, refl)
 
 coefficient-requires : tie.Need-coefficient-requires Inv-loop μ-loop
 coefficient-requires c κs =
     let start = c .before .before .before in (
-      omega (arith, one-less (c .before .loop .left) (start .args .w) (c .loop-test .taken)),
       start .pre .0,
-      start .pre .1,
+      omega (arith, one-less (c .before .loop .left) (start .args .w) (c .loop-test .taken)),
     )
 
 mul-c : tie.Need-mul-c Inv-loop μ-loop
