@@ -51,6 +51,22 @@ pub struct Browsed {
     pub degree: u64,
 }
 
+impl Browsed {
+    // A refusal, or the end: its code and its place; the rest is 0.
+    fn without_record(code: u64, start: u64) -> Browsed
+        ensures { λ r. ⌜ r ≡ record { code = code; start = start; length = 0; kind = 0; n = 0; degree = 0 } ⌝ }
+    {
+        Browsed {
+            code,
+            start,
+            length: 0,
+            kind: 0,
+            n: 0,
+            degree: 0,
+        }
+    }
+}
+
 // A record that reads well, at a place of a shelf.
 fn record_of(bytes: &[u8], at: usize) -> Shown
     requires { ⌜ (lookCode (now bytes) ≡ DONE) × (at + length (now bytes) < 2 ^ 64) ⌝ }
@@ -70,17 +86,12 @@ pub fn shown_at(shelf: &[u8], at: usize) -> Shown
     ensures { λ r. ⌜ r ≡ shownAt (now (shelf .entry)) at ⌝ }
 {
     if shelf.len() <= at {
-        return Shown::End {
-            start: shelf.len(),
-        };
+        return Shown::End { start: shelf.len() };
     }
     let bytes = &shelf[at..];
     let code = shelf::look(bytes);
     if code != answers::DONE {
-        return Shown::Refused {
-            code,
-            start: at,
-        };
+        return Shown::Refused { code, start: at };
     }
     record_of(bytes, at)
 }
@@ -90,7 +101,13 @@ fn place_after(shown: Shown) -> usize
     ensures { λ r. ⌜ r ≡ placeAfter shown ⌝ }
 {
     match shown {
-        Shown::Record { start: _, end, kind: _, n: _, degree: _ } => end,
+        Shown::Record {
+            start: _,
+            end,
+            kind: _,
+            n: _,
+            degree: _,
+        } => end,
         Shown::Refused { code: _, start } => start,
         Shown::End { start } => start,
     }
@@ -128,26 +145,52 @@ pub fn stretch_of<'a>(shelf: &'a [u8], shown: Shown) -> &'a [u8]
     ensures { λ r. ⌜ now r ≡ stretchOf (now (shelf .entry)) shown ⌝ }
 {
     match shown {
-        Shown::Record { start, end, kind: _, n: _, degree: _ } => part(shelf, start, end),
+        Shown::Record {
+            start,
+            end,
+            kind: _,
+            n: _,
+            degree: _,
+        } => part(shelf, start, end),
         Shown::Refused { code: _, start: _ } => &shelf[..0],
         Shown::End { start: _ } => &shelf[..0],
     }
 }
 
-// The numbers of what was shown.
-fn numbers(shown: Shown) -> Browsed
+// How many bytes a record has.
+fn length_of(start: usize, end: usize) -> u64
+    ensures { λ r. ⌜ r ≡ end - start ⌝ }
+{
+    if end < start { 0 } else { (end - start) as u64 }
+}
+
+// What was shown, in numbers.
+fn numbers_of(shown: Shown) -> Browsed
     ensures { λ r. ⌜ r ≡ told shown ⌝ }
 {
     match shown {
-        Shown::Record { start, end, kind, n, degree } => Browsed {
+        Shown::Record {
+            start,
+            end,
+            kind,
+            n,
+            degree,
+        } => Browsed {
             code: answers::DONE,
             start: start as u64,
-            length: less(end, start),
+            length: length_of(start, end),
             kind,
             n,
             degree,
         },
-        Shown::Refused { code, start } => nothing(code, start),
-        Shown::End { start } => nothing(answers::DONE, start),
+        Shown::Refused { code, start } => Browsed::without_record(code, start as u64),
+        Shown::End { start } => Browsed::without_record(answers::DONE, start as u64),
     }
+}
+
+// What stands at a place of a shelf, in numbers.
+pub fn browse(shelf: &[u8], at: u64) -> Browsed
+    ensures { λ r. ⌜ r ≡ told (shownAt (now (shelf .entry)) at) ⌝ }
+{
+    numbers_of(shown_at(shelf, at as usize))
 }

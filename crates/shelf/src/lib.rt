@@ -4,7 +4,6 @@ mod reader;
 mod writer;
 
 pub use reader::size_in;
-
 ghost use mathlib.Core.Path.{_≡_};
 ghost use lib.ListN.{length};
 ghost use Rattle.shelf.specs.Format.{writeAnswer, writeLeaves, readAnswer, readLeaves, lookCode};

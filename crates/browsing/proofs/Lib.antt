@@ -1,0 +1,3 @@
+-- What the functions' proofs share.
+pub mod Stretches
+pub mod Showing
