@@ -37,6 +37,8 @@ pub const RCOUNT: u64 = 15;
 
 pub const LIST: u64 = 16;
 
+pub const ABSENT: u64 = 17;
+
 // A polynomial request's answer.
 #[repr(C)]
 pub struct Answer {

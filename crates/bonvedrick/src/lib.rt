@@ -2,8 +2,10 @@
 // name: nothing is asked of the caller, and the contract is that of the request. Its answer is laid out as C's struct.
 use answers::Answer;
 use answers::Stop;
+use browsing::Browsed;
 use shelf::Record;
 use shelf::Written;
+use shelves::Found;
 use steps::Sort;
 use steps::Step;
 use steps::Stepped;
@@ -15,6 +17,8 @@ ghost use Rattle.answers.specs.Partial as Partial;
 ghost use Rattle.answers.specs.Cascade as Cascade;
 ghost use Rattle.answers.specs.Second as Second;
 ghost use Rattle.shelf.specs.Format.{writeAnswer, writeLeaves, readAnswer, readLeaves};
+ghost use Rattle.browsing.specs.Browse.{shownAt, told};
+ghost use Rattle.shelves.specs.Lookup.{found};
 
 // The polynomial of a kind and an index, no taller than h and made of steps within w.
 #[no_mangle]
@@ -118,4 +122,20 @@ pub extern "C" fn bv_read(bytes: &[u8], coeffs: &mut [i64]) -> Record
     ensures leaves { λ _. ⌜ now (coeffs .exit) ≡ readLeaves (now (bytes .entry)) (now (coeffs .entry)) ⌝ }
 {
     shelf::read(bytes, coeffs)
+}
+
+// The record of a kind and an index in two shelves, the own one first: where it stands.
+#[no_mangle]
+pub extern "C" fn bv_lookup(kind: u64, n: u64, own: &[u8], house: &[u8]) -> Found
+    ensures { λ r. ⌜ r ≡ found kind n (now (own .entry)) (now (house .entry)) ⌝ }
+{
+    shelves::find(kind, n, own, house)
+}
+
+// What stands at a place of a shelf: a record, a refusal or the end.
+#[no_mangle]
+pub extern "C" fn bv_browse(shelf: &[u8], at: u64) -> Browsed
+    ensures { λ r. ⌜ r ≡ told (shownAt (now (shelf .entry)) at) ⌝ }
+{
+    browsing::browse(shelf, at)
 }

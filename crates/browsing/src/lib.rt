@@ -124,20 +124,25 @@ pub fn turn_at(shelf: &[u8], at: usize) -> Turn
     }
 }
 
-// A part of a shelf, or what there is of it.
-fn part<'a>(shelf: &'a [u8], start: usize, end: usize) -> &'a [u8]
-    ensures { λ r. ⌜ now r ≡ take (end - start) (drop start (now (shelf .entry))) ⌝ }
+// So many bytes of a shelf from a place on, or what there is of them: no copy, a part of the shelf itself.
+pub fn part<'a>(shelf: &'a [u8], start: usize, length: usize) -> &'a [u8]
+    ensures { λ r. ⌜ now r ≡ take length (drop start (now (shelf .entry))) ⌝ }
 {
-    if end <= start {
-        return &shelf[..0];
-    }
     if shelf.len() <= start {
         return &shelf[..0];
     }
-    if shelf.len() <= end {
-        return &shelf[start..];
+    let rest = &shelf[start..];
+    if rest.len() <= length {
+        return rest;
     }
-    &shelf[start..end]
+    &rest[..length]
+}
+
+// How many bytes a record has.
+pub fn length_of(start: usize, end: usize) -> usize
+    ensures { λ r. ⌜ r ≡ end - start ⌝ }
+{
+    if end < start { 0 } else { end - start }
 }
 
 // That very stretch of a shelf which was shown; an empty one where none was.
@@ -145,23 +150,10 @@ pub fn stretch_of<'a>(shelf: &'a [u8], shown: Shown) -> &'a [u8]
     ensures { λ r. ⌜ now r ≡ stretchOf (now (shelf .entry)) shown ⌝ }
 {
     match shown {
-        Shown::Record {
-            start,
-            end,
-            kind: _,
-            n: _,
-            degree: _,
-        } => part(shelf, start, end),
+        Shown::Record { start, end, kind: _, n: _, degree: _ } => part(shelf, start, length_of(start, end)),
         Shown::Refused { code: _, start: _ } => &shelf[..0],
         Shown::End { start: _ } => &shelf[..0],
     }
-}
-
-// How many bytes a record has.
-fn length_of(start: usize, end: usize) -> u64
-    ensures { λ r. ⌜ r ≡ end - start ⌝ }
-{
-    if end < start { 0 } else { (end - start) as u64 }
 }
 
 // What was shown, in numbers.
@@ -178,7 +170,7 @@ fn numbers_of(shown: Shown) -> Browsed
         } => Browsed {
             code: answers::DONE,
             start: start as u64,
-            length: length_of(start, end),
+            length: length_of(start, end) as u64,
             kind,
             n,
             degree,

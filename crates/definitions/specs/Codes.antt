@@ -49,3 +49,6 @@ RCOUNT = 15
 
 abbrev pub LIST : ℕ
 LIST = 16
+
+abbrev pub ABSENT : ℕ
+ABSENT = 17
