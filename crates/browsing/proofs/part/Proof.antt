@@ -1,7 +1,8 @@
 -- `part`: what is taken of a list past its end (Stretches).
-use mathlib.Core.Path.{sym, _∙_}
+use mathlib.Core.Path.{sym, _∙_, ap}
 use native.Mathlib.Omega.{arith}
-use Rattle.browsing.proofs.Stretches.{none-taken, none-left, all-left, tail}
+use lib.ListN.{take}
+use Rattle.browsing.proofs.Stretches.{none-left, all-left, enough-left, tail}
 use borrow.Author.Needs.{needs}
 use Rattle.browsing.proofs.part.Statement.{statement}
 use Rattle.browsing.proofs.part.Tie as tie
@@ -12,41 +13,31 @@ slice-aggregate-result c = search needs
 returns : tie.Need-returns
 returns c =
     let a = c .before .before .args in
-    sym (none-taken (a .shelf .now) (a .start) (a .end) (omega arith))
+    sym (none-left (a .shelf .now) (a .start) (a .length) (omega arith))
 
-slice-aggregate-result-2 : tie.Need-slice-aggregate-result-2
-slice-aggregate-result-2 c = search needs
+sub-rest : tie.Need-sub-rest
+sub-rest c = search needs
+
+part-rest-start : tie.Need-part-rest-start
+part-rest-start c = search needs
+
+part-rest-end : tie.Need-part-rest-end
+part-rest-end c = search needs
 
 returns-2 : tie.Need-returns-2
 returns-2 c =
     let a = c .before .before .before .args in
-    sym (none-left (a .shelf .now) (a .start) (a .end) (omega arith))
+    tail (a .shelf .now) (a .start) ∙ sym (all-left (a .shelf .now) (a .start) (a .length) (omega arith))
 
-sub-result : tie.Need-sub-result
-sub-result c = search needs
-
-part-result-start : tie.Need-part-result-start
-part-result-start c = search needs
-
-part-result-end : tie.Need-part-result-end
-part-result-end c = search needs
+slice-aggregate-result-2 : tie.Need-slice-aggregate-result-2
+slice-aggregate-result-2 c =
+    let a = c .before .before .before .before .args in
+    rw (tail (a .shelf .now) (a .start)) (sym (enough-left (a .shelf .now) (a .start) (a .length) (omega arith)))
 
 returns-3 : tie.Need-returns-3
 returns-3 c =
     let a = c .before .before .before .before .args in
-    tail (a .shelf .now) (a .start) ∙ sym (all-left (a .shelf .now) (a .start) (a .end) (omega arith))
-
-sub-result-2 : tie.Need-sub-result-2
-sub-result-2 c = search needs
-
-part-result-start-2 : tie.Need-part-result-start-2
-part-result-start-2 c = search needs
-
-part-result-end-2 : tie.Need-part-result-end-2
-part-result-end-2 c = search needs
-
-returns-4 : tie.Need-returns-4
-returns-4 c = search needs
+    ap (take (a .length)) (tail (a .shelf .now) (a .start))
 
 pub part-spec : {M : Type 1} → statement M
 part-spec =
@@ -54,13 +45,9 @@ part-spec =
     (tie.spec
     slice-aggregate-result
     returns
-    slice-aggregate-result-2
+    sub-rest
+    part-rest-start
+    part-rest-end
     returns-2
-    sub-result
-    part-result-start
-    part-result-end
-    returns-3
-    sub-result-2
-    part-result-start-2
-    part-result-end-2
-    returns-4)
+    slice-aggregate-result-2
+    returns-3)

@@ -1,4 +1,5 @@
 -- `stretch_of`: each arm is a case of `stretchOf`.
+use mathlib.Core.Path.{_∙_}
 use Rattle.browsing.specs.Browse.{stretchOf}
 use borrow.Author.Needs.{needs}
 use Rattle.browsing.proofs.stretch_of.Statement.{statement}
@@ -6,6 +7,9 @@ use Rattle.browsing.proofs.stretch_of.Tie as tie
 
 enum-known-shown : tie.Need-enum-known-shown
 enum-known-shown c = search needs
+
+length-of-requires : tie.Need-length-of-requires
+length-of-requires c κs = search needs
 
 part-requires : tie.Need-part-requires
 part-requires c κs = search needs
@@ -24,7 +28,7 @@ slice-aggregate-result-2 c = search needs
 
 returns : tie.Need-returns
 unfolding stretchOf
-returns c = rw (c .before .before .shown .given .1) (c .part .ensures)
+returns c = rw (c .before .before .before .shown .given .1) (c .part .ensures ∙ rw (c .before .length-of .ensures))
 
 returns-2 : tie.Need-returns-2
 unfolding stretchOf
@@ -39,6 +43,7 @@ stretch-of-spec =
     tie.close
     (tie.spec
     enum-known-shown
+    length-of-requires
     part-requires
     enum-told
     slice-aggregate-result
