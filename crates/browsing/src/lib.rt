@@ -150,7 +150,13 @@ pub fn stretch_of<'a>(shelf: &'a [u8], shown: Shown) -> &'a [u8]
     ensures { λ r. ⌜ now r ≡ stretchOf (now (shelf .entry)) shown ⌝ }
 {
     match shown {
-        Shown::Record { start, end, kind: _, n: _, degree: _ } => part(shelf, start, length_of(start, end)),
+        Shown::Record {
+            start,
+            end,
+            kind: _,
+            n: _,
+            degree: _,
+        } => part(shelf, start, length_of(start, end)),
         Shown::Refused { code: _, start: _ } => &shelf[..0],
         Shown::End { start: _ } => &shelf[..0],
     }

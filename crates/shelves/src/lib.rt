@@ -87,7 +87,13 @@ pub fn walk(kind: u64, n: u64, shelf: &[u8]) -> Walked
     while at < shelf.len() {
         let shown = shown_at(shelf, at);
         match shown {
-            Shown::Record { start, end, kind: k, n: m, degree: _ } => {
+            Shown::Record {
+                start,
+                end,
+                kind: k,
+                n: m,
+                degree: _,
+            } => {
                 if is_asked(kind, n, k, m) {
                     return Walked::Match { start, end };
                 }
