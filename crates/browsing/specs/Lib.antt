@@ -1,2 +1,3 @@
--- What is shown of a shelf.
+-- What is shown of a shelf; and a shelf cut into its records.
 pub mod Browse
+pub mod Cut

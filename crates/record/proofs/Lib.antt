@@ -2,4 +2,5 @@
 pub mod Passes
 pub mod Headers
 pub mod HeaderTrips
+pub mod Fronts
 pub mod OneOutcome

@@ -27,12 +27,25 @@ fn class_in(bytes: &[u8], w: usize, k: usize) -> u8
     all
 }
 
+// The same, with a loop of its own for each width.
+fn class_at_width(bytes: &[u8], w: usize, k: usize) -> u8
+    requires { ⌜ (oneOf widths w ≡ true) × (10 + k * w ≤ length (now bytes)) ⌝ }
+    ensures { λ r. ⌜ r ≡ class w (heightOf (coefficientsAt w k (drop 10 (now (bytes .entry))))) ⌝ }
+{
+    match w {
+        1 => class_in(bytes, 1, k),
+        2 => class_in(bytes, 2, k),
+        4 => class_in(bytes, 4, k),
+        _ => class_in(bytes, 8, k),
+    }
+}
+
 // Is w the width of the k coefficients after the header?
 pub fn right_width(bytes: &[u8], w: usize, k: usize) -> bool
     requires { ⌜ (oneOf widths w ≡ true) × (10 + k * w ≤ length (now bytes)) ⌝ }
     ensures { λ r. ⌜ r ≡ eqb (width (coefficientsAt w k (drop 10 (now (bytes .entry))))) w ⌝ }
 {
-    let all = class_in(bytes, w, k);
+    let all = class_at_width(bytes, w, k);
     if w == 1 {
         return all != 3;
     }

@@ -6,4 +6,5 @@ pub mod Done
 pub mod WriteRead
 pub mod ReadWrite
 pub mod RoundTrips
+pub mod Alone
 pub mod OneOutcome
