@@ -46,3 +46,7 @@ gives (suc k) shelf at = turnAt shelf at .shown ∷ gives k shelf (turnAt shelf 
 unfoldable pub goes : ℕ → List ℕ → ℕ → ℕ
 goes zero shelf at = at
 goes (suc k) shelf at = goes k shelf (turnAt shelf at .at)
+
+unfoldable pub repeated : ℕ → Shown → List Shown
+repeated zero s = []
+repeated (suc k) s = s ∷ repeated k s
