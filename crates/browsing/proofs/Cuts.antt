@@ -75,7 +75,7 @@ given-records shelf (s ∷ ss) rest at e (w, ws) =
 
 -- the rest, where the reader stays
 module _ (shelf rest : List ℕ) (at : ℕ) (e : drop at shelf ≡ rest) (end : at ≤ length shelf) where
-  shown-rest : (rest ≡ []) ⊎ (lookCode rest ≡ DONE → ⊥) → shownAt shelf at ≡ restAs at rest
+  pub shown-rest : (rest ≡ []) ⊎ (lookCode rest ≡ DONE → ⊥) → shownAt shelf at ≡ restAs at rest
   unfolding restAs
   shown-rest c = go rest e c
     where

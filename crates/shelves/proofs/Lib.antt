@@ -1,2 +1,5 @@
--- What the functions' proofs share.
+-- What the functions' proofs share; and what the walk and the lookup find.
 pub mod Walking
+pub mod Runs
+pub mod Firsts
+pub mod HandedBack

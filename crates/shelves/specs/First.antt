@@ -1,14 +1,25 @@
 -- What the theorems on the lookup are said with. No contract cites it.
-use Prim.Native.Nat.{ℕ}
+use Prim.Native.Nat.{ℕ, _+_}
 use mathlib.Core.Path.{_≡_}
+use mathlib.Core.Bool.{cond, _&&_}
 use mathlib.Core.List.{List, [], _∷_, _++_}
 use lib.ListN.{length}
+use lib.Dec.{eqb}
 use Rattle.record.specs.Header.{kindIn, indexIn}
+use Rattle.shelf.specs.Format.{lookCode}
 use Rattle.browsing.specs.declared.Shown.{Shown}
 use Rattle.browsing.specs.Cut.{Whole, Records, laid}
 use Rattle.shelves.specs.declared.Walked.{Walked}
-use Rattle.shelves.specs.declared.Walked.the-variants.{Ended}
+use Rattle.shelves.specs.declared.Walked.the-variants.{Match, Stopped, Ended}
 use Rattle.shelves.specs.Walk.{onward}
+
+-- the first of some records that is of a kind and an index, from a place on; and the rest where none is
+unfoldable pub firstOf : (kind n : ℕ) → ℕ → List (List ℕ) → List ℕ → Walked
+firstOf kind n at [] [] = Ended
+firstOf kind n at [] (b ∷ bs) = Stopped (lookCode (b ∷ bs)) at
+firstOf kind n at (s ∷ ss) rest =
+    cond (eqb (kindIn s) kind && eqb (indexIn s) n) (Match at (at + length s))
+    (firstOf kind n (at + length s) ss rest)
 
 -- none of some records is of that kind and index
 abbrev pub Others : (kind n : ℕ) → List (List ℕ) → Type 0

@@ -1,0 +1,96 @@
+-- The stretch that is handed back reads well, is of that kind and index, and is the first such of its shelf; where it
+-- is the house's, the walk over one's own came to the end.
+use Prim.Native.Nat.{ℕ, _+_, _-_}
+use mathlib.Core.Path.{_≡_, refl, sym, ap, ap₂, _∙_, subst}
+use mathlib.Core.Bool.{Bool, true, false, cond, not}
+use mathlib.Core.List.{List, [], _∷_, _++_}
+use mathlib.Core.Logic.{_⊎_, inl, inr}
+use native.Mathlib.Omega.{arith}
+use lib.ListN.{length, take, drop, length-append}
+use lib.Seq.{drop-at, take-at}
+use Rattle.definitions.specs.Codes.{DONE, KIND, INDEX, ABSENT}
+use Rattle.definitions.specs.Requests.{knownKind, goodIndex}
+use Rattle.browsing.specs.Cut.{laid, Cut}
+use Rattle.browsing.proofs.Cuts.{laid-front, has-cut}
+use Rattle.shelves.specs.declared.Walked.{Walked}
+use Rattle.shelves.specs.declared.Walked.the-variants.{Match, Stopped, Ended}
+use Rattle.shelves.specs.Walk.{walked}
+use Rattle.shelves.specs.Lookup.{OWN, HOUSE, refused, foundBy, found, heldBy}
+use Rattle.shelves.specs.declared.Found.{Found}
+use Rattle.shelves.specs.First.{First, firstOf}
+use Rattle.shelves.proofs.Firsts.{walk-cut, FirstFrom, first-from}
+
+module _ (kind n : ℕ) where
+  -- a walk's match
+  walk-first : (shelf : List ℕ) → FirstFrom kind n shelf 0 (walked kind n shelf)
+  walk-first shelf = go (has-cut shelf .0) (has-cut shelf .1) (has-cut shelf .2)
+    where
+      go : (ss : List (List ℕ)) (rest : List ℕ) → Cut shelf ss rest → FirstFrom kind n shelf 0 (walked kind n shelf)
+      go ss rest c =
+          subst (λ (w : Walked). FirstFrom kind n shelf 0 w) (sym (walk-cut kind n shelf ss rest c))
+          (subst (λ (l : List ℕ). FirstFrom kind n l 0 (firstOf kind n 0 ss rest)) (sym (c .0))
+          (first-from kind n ss rest 0 (c .1) (c .2)))
+
+  -- is where it was found
+  stretch-is : (shelf : List ℕ) (start : ℕ) (s : List ℕ) → First kind n shelf start s
+      → take (length s) (drop start shelf) ≡ s
+  stretch-is shelf start s f =
+      let front = laid (f .before) [] in
+      let there : drop start shelf ≡ s ++ f .after =
+      ap₂ (λ (k : ℕ) (l : List ℕ). drop k l) (f .at) (f .stands ∙ laid-front (f .before) (s ++ f .after))
+      ∙ drop-at front (s ++ f .after) (length front) refl in
+      ap (take (length s)) there ∙ take-at s (f .after) (length s) refl
+
+  module _ (own house : List ℕ) where
+    -- of which shelf it is
+    abbrev pub Handed : Found → Type 0
+    Handed f =
+        let s = heldBy f own house in
+        ((f .from ≡ OWN) × First kind n own (f .start) s)
+        ⊎ ((f .from ≡ HOUSE) × (walked kind n own ≡ Ended) × First kind n house (f .start) s)
+
+    abbrev Good : Found → Type 0
+    Good f = f .code ≡ DONE → Handed f
+
+    not-good : (code byte shelf : ℕ) → (code ≡ DONE → ⊥) → Good (refused code byte shelf)
+    unfolding refused
+    not-good code byte shelf z e = absurd (z e)
+
+    -- a match at some place, as it is answered
+    placed : (shelf : List ℕ) (start end place : ℕ) (s : List ℕ) → First kind n shelf place s → start ≡ 0 + place
+        → end ≡ start + length s → First kind n shelf start (take (end - start) (drop start shelf))
+    placed shelf start end place s f es ee =
+        let same : place ≡ start = omega (arith, es) in
+        let long : end - start ≡ length s = omega (arith, ee) in
+        let here : First kind n shelf start s = subst (λ (k : ℕ). First kind n shelf k s) same f in
+        subst (λ (l : List ℕ). First kind n shelf start l)
+        (sym (ap (λ (k : ℕ). take k (drop start shelf)) long ∙ stretch-is shelf start s here)) here
+
+    by-house : walked kind n own ≡ Ended → (w : Walked) → FirstFrom kind n house 0 w
+        → Good (foundBy HOUSE w (refused ABSENT 0 0))
+    unfolding foundBy heldBy
+    by-house e (Match start end) (s, place, f, es, ee) d = inr (refl, e, placed house start end place s f es ee)
+    by-house e (Stopped code start) f d = not-good code start HOUSE f d
+    by-house e Ended f d = not-good ABSENT 0 0 (λ z. omega arith) d
+
+    by-own : (w : Walked) → walked kind n own ≡ w → FirstFrom kind n own 0 w → (others : Found)
+        → (w ≡ Ended → Good others) → Good (foundBy OWN w others)
+    unfolding foundBy heldBy
+    by-own (Match start end) e (s, place, f, es, ee) others g d = inl (refl, placed own start end place s f es ee)
+    by-own (Stopped code start) e f others g d = not-good code start OWN f d
+    by-own Ended e f others g d = g refl d
+
+    pub handed-back : found kind n own house .code ≡ DONE → Handed (found kind n own house)
+    unfolding found
+    handed-back = go (knownKind kind) (goodIndex n)
+      where
+        both : Good (foundBy OWN (walked kind n own) (foundBy HOUSE (walked kind n house) (refused ABSENT 0 0)))
+        both =
+            by-own (walked kind n own) refl (walk-first own) _
+            (λ e. by-house e (walked kind n house) (walk-first house))
+
+        go : (k g : Bool) → Good (cond (not k) (refused KIND 0 0) (cond (not g) (refused INDEX 0 0)
+            (foundBy OWN (walked kind n own) (foundBy HOUSE (walked kind n house) (refused ABSENT 0 0)))))
+        go false g = not-good KIND 0 0 (λ z. omega arith)
+        go true false = not-good INDEX 0 0 (λ z. omega arith)
+        go true true = both
