@@ -19,7 +19,7 @@ use Rattle.browsing.proofs.Cuts.{shown-whole, next-from, shown-rest}
 use Rattle.shelves.specs.declared.Walked.{Walked}
 use Rattle.shelves.specs.declared.Walked.the-variants.{Match, Stopped, Ended}
 use Rattle.shelves.specs.Walk.{onward, walkFrom, walked}
-use Rattle.shelves.specs.First.{First, firstOf}
+use Rattle.shelves.specs.First.{First, None, firstOf}
 use Rattle.shelves.proofs.Walking.{walk-end}
 
 module _ (kind n : ℕ) where
@@ -52,12 +52,12 @@ module _ (kind n : ℕ) where
   unfolding walked
   walk-cut shelf ss rest (e, r, c) = walk-from shelf rest c ss (length shelf) 0 (omega arith) e r (omega arith)
 
-  -- a match among some records is the first of them, and a stop is no match
+  -- a match among some records is the first of them, a stop is a refusal, and at the end there is none
   abbrev pub FirstFrom : List ℕ → ℕ → Walked → Type 0
   FirstFrom shelf at (Match start end) = (s : List ℕ) × (place : ℕ) × First kind n shelf place s × (start ≡ at + place)
       × (end ≡ start + length s)
   FirstFrom shelf at (Stopped code start) = code ≡ DONE → ⊥
-  FirstFrom shelf at Ended = Unit
+  FirstFrom shelf at Ended = None kind n shelf
 
   other : (k m : ℕ) → (eqb k kind && eqb m n) ≡ false → (k ≡ kind) × (m ≡ n) → ⊥
   other k m e (ek, em) = true≢false (sym (rw (eq-eqb k kind ek, eq-eqb m n em) refl) ∙ e)
@@ -73,7 +73,7 @@ module _ (kind n : ℕ) where
   pub first-from : (ss : List (List ℕ)) (rest : List ℕ) (at : ℕ) → Records ss
       → (rest ≡ []) ⊎ (lookCode rest ≡ DONE → ⊥) → FirstFrom (laid ss rest) at (firstOf kind n at ss rest)
   unfolding firstOf laid
-  first-from [] [] at r c = tt
+  first-from [] [] at r c = ([], refl, tt, tt)
   first-from [] (b ∷ bs) at r (inl e) = absurd (omega (arith, ap length e))
   first-from [] (b ∷ bs) at r (inr d) = d
   first-from (s ∷ ss) rest at (w, ws) c =
@@ -100,7 +100,7 @@ module _ (kind n : ℕ) where
         ee,
       )
       past (Stopped code start) o f = f
-      past Ended o f = tt
+      past Ended o (ts, e, r, others) = (s ∷ ts, ap (λ (l : List ℕ). s ++ l) e, (w, r), (o, others))
 
       go : (b : Bool) → (eqb (kindIn s) kind && eqb (indexIn s) n) ≡ b → (x : Walked)
           → FirstFrom (laid ss rest) (at + length s) x

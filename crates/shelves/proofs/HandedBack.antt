@@ -1,5 +1,5 @@
 -- The stretch that is handed back reads well, is of that kind and index, and is the first such of its shelf; where it
--- is the house's, the walk over one's own came to the end.
+-- is the house's, one's own has none. And ABSENT says that neither has one.
 use Prim.Native.Nat.{ℕ, _+_, _-_}
 use mathlib.Core.Path.{_≡_, refl, sym, ap, ap₂, _∙_, subst}
 use mathlib.Core.Bool.{Bool, true, false, cond, not}
@@ -17,7 +17,7 @@ use Rattle.shelves.specs.declared.Walked.the-variants.{Match, Stopped, E
 use Rattle.shelves.specs.Walk.{walked}
 use Rattle.shelves.specs.Lookup.{OWN, HOUSE, refused, foundBy, found, heldBy}
 use Rattle.shelves.specs.declared.Found.{Found}
-use Rattle.shelves.specs.First.{First, firstOf}
+use Rattle.shelves.specs.First.{First, None, firstOf}
 use Rattle.shelves.proofs.Firsts.{walk-cut, FirstFrom, first-from}
 
 module _ (kind n : ℕ) where
@@ -47,7 +47,7 @@ module _ (kind n : ℕ) where
     Handed f =
         let s = heldBy f own house in
         ((f .from ≡ OWN) × First kind n own (f .start) s)
-        ⊎ ((f .from ≡ HOUSE) × (walked kind n own ≡ Ended) × First kind n house (f .start) s)
+        ⊎ ((f .from ≡ HOUSE) × None kind n own × First kind n house (f .start) s)
 
     abbrev Good : Found → Type 0
     Good f = f .code ≡ DONE → Handed f
@@ -66,19 +66,19 @@ module _ (kind n : ℕ) where
         subst (λ (l : List ℕ). First kind n shelf start l)
         (sym (ap (λ (k : ℕ). take k (drop start shelf)) long ∙ stretch-is shelf start s here)) here
 
-    by-house : walked kind n own ≡ Ended → (w : Walked) → FirstFrom kind n house 0 w
+    by-house : None kind n own → (w : Walked) → FirstFrom kind n house 0 w
         → Good (foundBy HOUSE w (refused ABSENT 0 0))
     unfolding foundBy heldBy
     by-house e (Match start end) (s, place, f, es, ee) d = inr (refl, e, placed house start end place s f es ee)
     by-house e (Stopped code start) f d = not-good code start HOUSE f d
     by-house e Ended f d = not-good ABSENT 0 0 (λ z. omega arith) d
 
-    by-own : (w : Walked) → walked kind n own ≡ w → FirstFrom kind n own 0 w → (others : Found)
-        → (w ≡ Ended → Good others) → Good (foundBy OWN w others)
+    by-own : (w : Walked) → FirstFrom kind n own 0 w → (others : Found) → (None kind n own → Good others)
+        → Good (foundBy OWN w others)
     unfolding foundBy heldBy
-    by-own (Match start end) e (s, place, f, es, ee) others g d = inl (refl, placed own start end place s f es ee)
-    by-own (Stopped code start) e f others g d = not-good code start OWN f d
-    by-own Ended e f others g d = g refl d
+    by-own (Match start end) (s, place, f, es, ee) others g d = inl (refl, placed own start end place s f es ee)
+    by-own (Stopped code start) f others g d = not-good code start OWN f d
+    by-own Ended f others g d = g f d
 
     pub handed-back : found kind n own house .code ≡ DONE → Handed (found kind n own house)
     unfolding found
@@ -86,11 +86,34 @@ module _ (kind n : ℕ) where
       where
         both : Good (foundBy OWN (walked kind n own) (foundBy HOUSE (walked kind n house) (refused ABSENT 0 0)))
         both =
-            by-own (walked kind n own) refl (walk-first own) _
-            (λ e. by-house e (walked kind n house) (walk-first house))
+            by-own (walked kind n own) (walk-first own) _
+            (λ none. by-house none (walked kind n house) (walk-first house))
 
         go : (k g : Bool) → Good (cond (not k) (refused KIND 0 0) (cond (not g) (refused INDEX 0 0)
             (foundBy OWN (walked kind n own) (foundBy HOUSE (walked kind n house) (refused ABSENT 0 0)))))
         go false g = not-good KIND 0 0 (λ z. omega arith)
         go true false = not-good INDEX 0 0 (λ z. omega arith)
         go true true = both
+
+    -- neither shelf has one
+    Absent : Found → Type 0
+    Absent f = f ≡ refused ABSENT 0 0 → None kind n own × None kind n house
+
+    none-in : (w v : Walked) → FirstFrom kind n own 0 w → FirstFrom kind n house 0 v
+        → Absent (foundBy OWN w (foundBy HOUSE v (refused ABSENT 0 0)))
+    unfolding foundBy refused Absent
+    none-in (Match start end) v f g e = absurd (omega (arith, ap (λ x. x .code) e))
+    none-in (Stopped code start) v f g e = absurd (omega (arith, ap (λ x. x .shelf) e))
+    none-in Ended (Match start end) f g e = absurd (omega (arith, ap (λ x. x .code) e))
+    none-in Ended (Stopped code start) f g e = absurd (omega (arith, ap (λ x. x .shelf) e))
+    none-in Ended Ended f g e = (f, g)
+
+    pub absent : found kind n own house ≡ refused ABSENT 0 0 → None kind n own × None kind n house
+    unfolding found Absent refused
+    absent = go (knownKind kind) (goodIndex n)
+      where
+        go : (k g : Bool) → Absent (cond (not k) (refused KIND 0 0) (cond (not g) (refused INDEX 0 0)
+            (foundBy OWN (walked kind n own) (foundBy HOUSE (walked kind n house) (refused ABSENT 0 0)))))
+        go false g = λ e. absurd (omega (arith, ap (λ x. x .code) e))
+        go true false = λ e. absurd (omega (arith, ap (λ x. x .code) e))
+        go true true = none-in (walked kind n own) (walked kind n house) (walk-first own) (walk-first house)

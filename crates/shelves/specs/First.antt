@@ -26,6 +26,10 @@ abbrev pub Others : (kind n : ℕ) → List (List ℕ) → Type 0
 Others kind n [] = Unit
 Others kind n (s ∷ ss) = ((kindIn s ≡ kind) × (indexIn s ≡ n) → ⊥) × Others kind n ss
 
+-- a shelf is records, to its end, and none is of that kind and index
+abbrev pub None : (kind n : ℕ) → List ℕ → Type 0
+None kind n shelf = (ss : List (List ℕ)) × (shelf ≡ laid ss []) × Records ss × Others kind n ss
+
 -- a stretch that starts at a place of a shelf is its first record of a kind and an index: it is a record, of that kind
 -- and index, and what stands before it are records that are not
 pub record First (kind n : ℕ) (shelf : List ℕ) (start : ℕ) (s : List ℕ) : Type 0 where
