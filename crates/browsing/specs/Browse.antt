@@ -1,10 +1,11 @@
 -- What is shown of a shelf at a place (docs/RULES.md, 'Two shelves'): a record that reads, a refusal, or the end; the
--- numbers that document 02 has for each, the place after it, and the stretch of the shelf.
-use Prim.Native.Nat.{ℕ, _+_, _-_}
+-- numbers that document 02 has for each, the place after it, and the stretch of the shelf, where it lies.
+use Prim.Native.Nat.{ℕ, _+_, _-_, min}
 use mathlib.Core.Bool.{cond}
-use mathlib.Core.List.{List, []}
+use mathlib.Core.List.{List}
 use lib.ListN.{length, take, drop}
 use lib.Dec.{leb, eqb}
+use denote.Ref.{RefT, now, ptr}
 use Rattle.definitions.specs.Codes.{DONE}
 use Rattle.record.specs.Header.{kindIn, indexIn, degreeIn}
 use Rattle.shelf.specs.Format.{sizeIn, lookCode}
@@ -40,8 +41,21 @@ told (Record start end kind n degree) =
 told (Refused code start) = record { code = code; start = start; length = 0; kind = 0; n = 0; degree = 0 }
 told (End start) = record { code = DONE; start = start; length = 0; kind = 0; n = 0; degree = 0 }
 
--- the stretch of a record; a refusal and the end have none
-unfoldable pub stretchOf : List ℕ → Shown → List ℕ
-stretchOf shelf (Record start end kind n degree) = take (end - start) (drop start shelf)
-stretchOf shelf (Refused code start) = []
-stretchOf shelf (End start) = []
+-- the stretch of a record: where it starts and how long it is; a refusal and the end have an empty one
+unfoldable pub startOf : Shown → ℕ
+startOf (Record start end kind n degree) = start
+startOf (Refused code start) = 0
+startOf (End start) = 0
+
+unfoldable pub lengthOf : Shown → ℕ
+lengthOf (Record start end kind n degree) = end - start
+lengthOf (Refused code start) = 0
+lengthOf (End start) = 0
+
+-- A part of a slice that is lent: what stands in it, and where it lies, as many bytes on as the slice has. So it is that
+-- very part, and no copy.
+unfoldable pub partOf : RefT (List ℕ) → (start length : ℕ) → List ℕ
+partOf s start k = take k (drop start (now s))
+
+unfoldable pub lies : RefT (List ℕ) → (start : ℕ) → ℕ × ℕ
+lies s start = (ptr s .0, min start (length (now s)) + ptr s .1)

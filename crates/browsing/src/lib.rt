@@ -8,10 +8,12 @@ use record::kind_in;
 use shelf::size_in;
 ghost use mathlib.Core.Path.{_≡_};
 ghost use Prim.Native.Nat.{_+_, _-_, _<_, _≤_, _^_};
-ghost use lib.ListN.{length, take, drop};
+ghost use lib.ListN.{length};
+ghost use denote.Ref.{ptr};
 ghost use Rattle.definitions.specs.Codes.{DONE};
 ghost use Rattle.shelf.specs.Format.{lookCode};
-ghost use Rattle.browsing.specs.Browse.{shownOf, shownAt, placeAfter, turnAt, told, stretchOf};
+ghost use Rattle.browsing.specs.Browse.{shownOf, shownAt, placeAfter, turnAt, told};
+ghost use Rattle.browsing.specs.Browse.{startOf, lengthOf, partOf, lies};
 
 // What is shown of a shelf.
 pub enum Shown {
@@ -126,10 +128,12 @@ pub fn turn_at(shelf: &[u8], at: usize) -> Turn
 
 // So many bytes of a shelf from a place on, or what there is of them: no copy, a part of the shelf itself.
 pub fn part<'a>(shelf: &'a [u8], start: usize, length: usize) -> &'a [u8]
-    ensures { λ r. ⌜ now r ≡ take length (drop start (now (shelf .entry))) ⌝ }
+    ensures part { λ r. ⌜ now r ≡ partOf (shelf .entry) start length ⌝ }
+    ensures lies { λ r. ⌜ ptr r ≡ lies (shelf .entry) start ⌝ }
 {
     if shelf.len() <= start {
-        return &shelf[..0];
+        let end = shelf.len();
+        return &shelf[end..];
     }
     let rest = &shelf[start..];
     if rest.len() <= length {
@@ -138,8 +142,8 @@ pub fn part<'a>(shelf: &'a [u8], start: usize, length: usize) -> &'a [u8]
     &rest[..length]
 }
 
-// How many bytes a record has.
-pub fn length_of(start: usize, end: usize) -> usize
+// How many bytes there are from one place to another.
+pub fn between(start: usize, end: usize) -> usize
     ensures { λ r. ⌜ r ≡ end - start ⌝ }
 {
     if end < start { 0 } else { end - start }
@@ -147,7 +151,8 @@ pub fn length_of(start: usize, end: usize) -> usize
 
 // That very stretch of a shelf which was shown; an empty one where none was.
 pub fn stretch_of<'a>(shelf: &'a [u8], shown: Shown) -> &'a [u8]
-    ensures { λ r. ⌜ now r ≡ stretchOf (now (shelf .entry)) shown ⌝ }
+    ensures { λ r. ⌜ (now r ≡ partOf (shelf .entry) (startOf shown) (lengthOf shown))
+        × (ptr r ≡ lies (shelf .entry) (startOf shown)) ⌝ }
 {
     match shown {
         Shown::Record {
@@ -156,9 +161,9 @@ pub fn stretch_of<'a>(shelf: &'a [u8], shown: Shown) -> &'a [u8]
             kind: _,
             n: _,
             degree: _,
-        } => part(shelf, start, length_of(start, end)),
-        Shown::Refused { code: _, start: _ } => &shelf[..0],
-        Shown::End { start: _ } => &shelf[..0],
+        } => part(shelf, start, between(start, end)),
+        Shown::Refused { code: _, start: _ } => part(shelf, 0, 0),
+        Shown::End { start: _ } => part(shelf, 0, 0),
     }
 }
 
@@ -176,7 +181,7 @@ fn numbers_of(shown: Shown) -> Browsed
         } => Browsed {
             code: answers::DONE,
             start: start as u64,
-            length: length_of(start, end) as u64,
+            length: between(start, end) as u64,
             kind,
             n,
             degree,

@@ -4,7 +4,8 @@ use crate::Shown;
 use crate::stretch_of;
 use crate::turn_at;
 ghost use mathlib.Core.Path.{_≡_};
-ghost use Rattle.browsing.specs.Browse.{turnAt, stretchOf};
+ghost use denote.Ref.{ptr};
+ghost use Rattle.browsing.specs.Browse.{turnAt, startOf, lengthOf, partOf, lies};
 
 pub struct Reader<'a> {
     pub shelf: &'a [u8],
@@ -31,7 +32,8 @@ pub fn next<'s, 'a>(reader: &'s mut Reader<'a>) -> Shown
 
 // The stretch of the shelf that was shown.
 pub fn stretch<'a>(reader: Reader<'a>, shown: Shown) -> &'a [u8]
-    ensures { λ r. ⌜ now r ≡ stretchOf (now (reader .entry .shelf)) shown ⌝ }
+    ensures { λ r. ⌜ (now r ≡ partOf (reader .entry .shelf) (startOf shown) (lengthOf shown))
+        × (ptr r ≡ lies (reader .entry .shelf) (startOf shown)) ⌝ }
 {
     stretch_of(reader.shelf, shown)
 }

@@ -10,12 +10,14 @@ use lib.ListN.{length, take, drop, length-append}
 use lib.Seq.{drop-at, take-at}
 use Rattle.definitions.specs.Codes.{DONE, KIND, INDEX, ABSENT}
 use Rattle.definitions.specs.Requests.{knownKind, goodIndex}
+use denote.Ref.{RefT, now}
+use Rattle.browsing.specs.Browse.{partOf, lies}
 use Rattle.browsing.specs.Cut.{laid, Cut}
 use Rattle.browsing.proofs.Cuts.{laid-front, has-cut}
 use Rattle.shelves.specs.declared.Walked.{Walked}
 use Rattle.shelves.specs.declared.Walked.the-variants.{Match, Stopped, Ended}
 use Rattle.shelves.specs.Walk.{walked}
-use Rattle.shelves.specs.Lookup.{OWN, HOUSE, refused, foundBy, found, heldBy}
+use Rattle.shelves.specs.Lookup.{OWN, HOUSE, refused, foundBy, found, heldBy, heldAt}
 use Rattle.shelves.specs.declared.Found.{Found}
 use Rattle.shelves.specs.First.{First, None, firstOf}
 use Rattle.shelves.proofs.Firsts.{walk-cut, FirstFrom, first-from}
@@ -41,13 +43,22 @@ module _ (kind n : ℕ) where
       ∙ drop-at front (s ++ f .after) (length front) refl in
       ap (take (length s)) there ∙ take-at s (f .after) (length s) refl
 
-  module _ (own house : List ℕ) where
+  -- the shelves that are lent; what is found is a matter of their bytes
+  module _ (lent-own lent-house : RefT (List ℕ)) where
+    abbrev own : List ℕ
+    own = now lent-own
+
+    abbrev house : List ℕ
+    house = now lent-house
+
+    -- that very stretch is the first of its shelf: what stands in it, and where it lies
+    abbrev pub Very : RefT (List ℕ) → Found → Type 0
+    Very shelf f = First kind n (now shelf) (f .start) (heldBy f lent-own lent-house)
+        × (heldAt f lent-own lent-house ≡ lies shelf (f .start))
+
     -- of which shelf it is
     abbrev pub Handed : Found → Type 0
-    Handed f =
-        let s = heldBy f own house in
-        ((f .from ≡ OWN) × First kind n own (f .start) s)
-        ⊎ ((f .from ≡ HOUSE) × None kind n own × First kind n house (f .start) s)
+    Handed f = ((f .from ≡ OWN) × Very lent-own f) ⊎ ((f .from ≡ HOUSE) × None kind n own × Very lent-house f)
 
     abbrev Good : Found → Type 0
     Good f = f .code ≡ DONE → Handed f
@@ -68,15 +79,17 @@ module _ (kind n : ℕ) where
 
     by-house : None kind n own → (w : Walked) → FirstFrom kind n house 0 w
         → Good (foundBy HOUSE w (refused ABSENT 0 0))
-    unfolding foundBy heldBy
-    by-house e (Match start end) (s, place, f, es, ee) d = inr (refl, e, placed house start end place s f es ee)
+    unfolding foundBy heldBy heldAt partOf
+    by-house e (Match start end) (s, place, f, es, ee) d =
+        inr (refl, e, (placed house start end place s f es ee, refl))
     by-house e (Stopped code start) f d = not-good code start HOUSE f d
     by-house e Ended f d = not-good ABSENT 0 0 (λ z. omega arith) d
 
     by-own : (w : Walked) → FirstFrom kind n own 0 w → (others : Found) → (None kind n own → Good others)
         → Good (foundBy OWN w others)
-    unfolding foundBy heldBy
-    by-own (Match start end) (s, place, f, es, ee) others g d = inl (refl, placed own start end place s f es ee)
+    unfolding foundBy heldBy heldAt partOf
+    by-own (Match start end) (s, place, f, es, ee) others g d =
+        inl (refl, (placed own start end place s f es ee, refl))
     by-own (Stopped code start) f others g d = not-good code start OWN f d
     by-own Ended f others g d = g f d
 

@@ -1,11 +1,12 @@
 -- The lookup in two shelves (docs/RULES.md, 'Two shelves'): what is answered, and the stretch that is handed back.
 use Prim.Native.Nat.{ℕ, _-_}
 use mathlib.Core.Bool.{cond, not}
-use mathlib.Core.List.{List, []}
-use lib.ListN.{take, drop}
+use mathlib.Core.List.{List}
 use lib.Dec.{eqb}
+use denote.Ref.{RefT}
 use Rattle.definitions.specs.Codes.{DONE, KIND, INDEX, ABSENT}
 use Rattle.definitions.specs.Requests.{knownKind, goodIndex}
+use Rattle.browsing.specs.Browse.{partOf, lies}
 use Rattle.shelves.specs.declared.Walked.{Walked}
 use Rattle.shelves.specs.declared.Walked.the-variants.{Match, Stopped, Ended}
 use Rattle.shelves.specs.declared.Found.{Found}
@@ -35,8 +36,12 @@ found kind n own house =
     (cond (not (goodIndex n)) (refused INDEX 0 0)
     (foundBy OWN (walked kind n own) (foundBy HOUSE (walked kind n house) (refused ABSENT 0 0))))
 
--- that stretch of whichever shelf held it; none with a refusal
-unfoldable pub heldBy : Found → (own house : List ℕ) → List ℕ
+-- that very stretch of whichever shelf held it, what stands in it and where it lies; an empty one with a refusal
+unfoldable pub heldBy : Found → (own house : RefT (List ℕ)) → List ℕ
 heldBy f own house =
-    cond (eqb (f .from) OWN) (take (f .length) (drop (f .start) own))
-    (cond (eqb (f .from) HOUSE) (take (f .length) (drop (f .start) house)) [])
+    cond (eqb (f .from) OWN) (partOf own (f .start) (f .length))
+    (cond (eqb (f .from) HOUSE) (partOf house (f .start) (f .length)) (partOf house 0 0))
+
+unfoldable pub heldAt : Found → (own house : RefT (List ℕ)) → ℕ × ℕ
+heldAt f own house =
+    cond (eqb (f .from) OWN) (lies own (f .start)) (cond (eqb (f .from) HOUSE) (lies house (f .start)) (lies house 0))

@@ -1,15 +1,16 @@
 // The house shelf and one's own: the walk over a shelf, and the lookup in two, the own one first. Nothing is copied and
 // no coefficient is stored. Nothing is asked of the caller.
 use browsing::Shown;
-use browsing::length_of;
+use browsing::between;
 use browsing::part;
 use browsing::shown_at;
 ghost use mathlib.Core.Path.{_≡_};
 ghost use mathlib.Core.Bool.{_&&_};
 ghost use lib.Dec.{eqb};
+ghost use denote.Ref.{ptr};
 ghost use Rattle.definitions.specs.Codes.{ABSENT};
 ghost use Rattle.shelves.specs.Walk.{walked};
-ghost use Rattle.shelves.specs.Lookup.{OWN, HOUSE, refused, foundBy, found, heldBy};
+ghost use Rattle.shelves.specs.Lookup.{OWN, HOUSE, refused, foundBy, found, heldBy, heldAt};
 
 // The shelves by their numbers; 0 is none.
 const OWN: u64 = 1;
@@ -64,7 +65,7 @@ impl Found {
                 shelf: 0,
                 from: shelf,
                 start: start as u64,
-                length: length_of(start, end) as u64,
+                length: between(start, end) as u64,
             },
             Walked::Stopped { code, start } => Found::refused(code, start as u64, shelf),
             Walked::Ended => Found::refused(answers::ABSENT, 0, 0),
@@ -136,7 +137,8 @@ pub fn find(kind: u64, n: u64, own: &[u8], house: &[u8]) -> Found
 
 // The stretch that was found: of whichever shelf held it, with no copy; an empty one with a refusal.
 pub fn held<'a>(f: Found, own: &'a [u8], house: &'a [u8]) -> &'a [u8]
-    ensures { λ r. ⌜ now r ≡ heldBy f (now (own .entry)) (now (house .entry)) ⌝ }
+    ensures held { λ r. ⌜ now r ≡ heldBy f (own .entry) (house .entry) ⌝ }
+    ensures lies { λ r. ⌜ ptr r ≡ heldAt f (own .entry) (house .entry) ⌝ }
 {
     if f.from == OWN {
         return part(own, f.start as usize, f.length as usize);
@@ -144,14 +146,15 @@ pub fn held<'a>(f: Found, own: &'a [u8], house: &'a [u8]) -> &'a [u8]
     if f.from == HOUSE {
         return part(house, f.start as usize, f.length as usize);
     }
-    &house[..0]
+    part(house, 0, 0)
 }
 
 // The lookup: that very stretch of one of two shelves; an empty one with a refusal, which `find` tells.
 pub fn lookup<'a>(kind: u64, n: u64, own: &'a [u8], house: &'a [u8]) -> &'a [u8]
-    ensures { λ r.
-        ⌜ now r
-        ≡ heldBy (found kind n (now (own .entry)) (now (house .entry))) (now (own .entry)) (now (house .entry)) ⌝ }
+    ensures held { λ r.
+        ⌜ now r ≡ heldBy (found kind n (now (own .entry)) (now (house .entry))) (own .entry) (house .entry) ⌝ }
+    ensures lies { λ r.
+        ⌜ ptr r ≡ heldAt (found kind n (now (own .entry)) (now (house .entry))) (own .entry) (house .entry) ⌝ }
 {
     held(find(kind, n, own, house), own, house)
 }

@@ -7,8 +7,8 @@ use Rattle.browsing.proofs.numbers_of.Tie as tie
 enum-known-shown : tie.Need-enum-known-shown
 enum-known-shown c = search needs
 
-length-of-requires : tie.Need-length-of-requires
-length-of-requires c κs = search needs
+between-requires : tie.Need-between-requires
+between-requires c κs = search needs
 
 enum-known-shown-2 : tie.Need-enum-known-shown-2
 enum-known-shown-2 c = search needs
@@ -24,7 +24,7 @@ without-record-requires-2 c κs = search needs
 
 returns : tie.Need-returns
 unfolding told
-returns c = rw (c .before .before .shown .given .1, c .length-of .ensures)
+returns c = rw (c .before .before .shown .given .1, c .between .ensures)
 
 returns-2 : tie.Need-returns-2
 unfolding told
@@ -39,7 +39,7 @@ numbers-of-spec =
     tie.close
     (tie.spec
     enum-known-shown
-    length-of-requires
+    between-requires
     enum-known-shown-2
     without-record-requires
     enum-known-shown-3

@@ -7,8 +7,8 @@ use Rattle.shelves.proofs.Found.by.Tie as tie
 enum-known-walked : tie.Need-enum-known-walked
 enum-known-walked c = search needs
 
-length-of-requires : tie.Need-length-of-requires
-length-of-requires c κs = search needs
+between-requires : tie.Need-between-requires
+between-requires c κs = search needs
 
 enum-known-walked-2 : tie.Need-enum-known-walked-2
 enum-known-walked-2 c = search needs
@@ -24,7 +24,7 @@ refused-requires-2 c κs = search needs
 
 returns : tie.Need-returns
 unfolding foundBy
-returns c = rw (c .before .before .walked .given .1, c .length-of .ensures)
+returns c = rw (c .before .before .walked .given .1, c .between .ensures)
 
 returns-2 : tie.Need-returns-2
 unfolding foundBy
@@ -39,7 +39,7 @@ by-spec =
     tie.close
     (tie.spec
     enum-known-walked
-    length-of-requires
+    between-requires
     enum-known-walked-2
     refused-requires
     enum-told
