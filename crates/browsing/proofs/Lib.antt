@@ -2,3 +2,4 @@
 pub mod Stretches
 pub mod Showing
 pub mod Cuts
+pub mod OneOutcome

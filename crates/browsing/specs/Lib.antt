@@ -1,3 +1,4 @@
--- What is shown of a shelf; and a shelf cut into its records.
+-- What is shown of a shelf, the reader, and a shelf cut into its records.
 pub mod Browse
+pub mod Reading
 pub mod Cut

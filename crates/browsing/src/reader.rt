@@ -5,7 +5,8 @@ use crate::stretch_of;
 use crate::turn_at;
 ghost use mathlib.Core.Path.{_≡_};
 ghost use denote.Ref.{ptr};
-ghost use Rattle.browsing.specs.Browse.{turnAt, startOf, lengthOf, partOf, lies};
+ghost use Rattle.browsing.specs.Browse.{startOf, lengthOf, partOf, lies};
+ghost use Rattle.browsing.specs.Reading.{opened, turnOf, moved};
 
 pub struct Reader<'a> {
     pub shelf: &'a [u8],
@@ -13,16 +14,14 @@ pub struct Reader<'a> {
 }
 
 pub fn open<'a>(shelf: &'a [u8]) -> Reader<'a>
-    ensures { λ r. ⌜ (r .shelf ≡ shelf .entry) × (r .at ≡ 0) ⌝ }
+    ensures { λ r. ⌜ r ≡ opened (shelf .entry) ⌝ }
 {
     Reader { shelf, at: 0 }
 }
 
 // What stands at the reader's place; the place moves past a record, and stays at a refusal and at the end.
 pub fn next<'s, 'a>(reader: &'s mut Reader<'a>) -> Shown
-    ensures { λ r. ⌜ (r ≡ turnAt (now (now (reader .entry) .shelf)) (now (reader .entry) .at) .shown)
-        × (now (reader .exit) .shelf ≡ now (reader .entry) .shelf)
-        × (now (reader .exit) .at ≡ turnAt (now (now (reader .entry) .shelf)) (now (reader .entry) .at) .at) ⌝ }
+    ensures { λ r. ⌜ (r ≡ turnOf (now (reader .entry)) .shown) × (now (reader .exit) ≡ moved (now (reader .entry))) ⌝ }
 {
     let at = reader.at;
     let turn = turn_at(reader.shelf, at);

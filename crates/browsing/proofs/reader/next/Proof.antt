@@ -154,7 +154,7 @@ module _ {M : Type 1} (𝓤 : URA M) (H : Heap 𝓤) (A : Atoms 𝓤) (W : Given
   exits t e is =
       qed W (‵ (fobs γ (R .coded .code (moved t))) ∷ ‵ (fbor κ (Body (mem R) b o γ)) ∷ ‵ (flft κ q) ∷ (‵ (flft κ′ q′) ⊛ ‵ ftrue) ∷ []) ∵
       suffices ! _ (ends-at 𝓤 H A next.ended stayed (next.clauses 𝓤 H A at-mem run) W (((κ, (κ′, tt)), (q, (q′, tt)), bounds, x, vals), tt) (shown-val t) (t .shown) (moved t, tt) (tt, tt)) $
-      says ! (ap (λ (u : Turn). u .shown) e, refl, ap (λ (u : Turn). u .at) e) $
+      says ! (ap (λ (u : Turn). u .shown) e, ap moved e) $
       move ! (2 ∷ 3 ∷ []) $ join ! $ frame ! $ feqI ! (List Val) (vptr b o ∷ []) (vptr b o ∷ []) refl $ fjoin3 ! $ nothing ! $ move ! (1 ∷ 0 ∷ []) $ fjoin ! $
       owned ! S.the-row (Is S.the-row) (EL.makes S.the-type S′.the-plain 𝓤 H A) (t .shown) _ is $ move ! (1 ∷ 0 ∷ []) $ done !
 
