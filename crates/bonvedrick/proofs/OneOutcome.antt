@@ -30,6 +30,12 @@ use Rattle.bonvedrick.proofs.bv_comb.Reads as comb-reads
 use Rattle.bonvedrick.proofs.bv_accumulate as accumulate
 use Rattle.bonvedrick.proofs.bv_accumulate.Kinds as accumulate-kinds
 use Rattle.bonvedrick.proofs.bv_accumulate.Reads as accumulate-reads
+use Rattle.bonvedrick.proofs.bv_lookup as lookup
+use Rattle.bonvedrick.proofs.bv_lookup.Kinds as lookup-kinds
+use Rattle.bonvedrick.proofs.bv_lookup.Reads as lookup-reads
+use Rattle.bonvedrick.proofs.bv_browse as browse
+use Rattle.bonvedrick.proofs.bv_browse.Kinds as browse-kinds
+use Rattle.bonvedrick.proofs.bv_browse.Reads as browse-reads
 
 pub polynomial-one :
     (κs : Lfts 1) (a : ArgsD polynomial.signature κs) (z z′ : ResD polynomial.signature κs)
@@ -87,3 +93,15 @@ pub accumulate-one :
     (now (e .1 .1 .0) ≡ now (e′ .1 .1 .0))
 accumulate-one κs a z z′ e e′ p p′ =
     ((λ i. record { code = (p .0 ∙ sym (p′ .0)) i; count = (p .1 .0 ∙ sym (p′ .1 .0)) i }), p .1 .1 ∙ sym (p′ .1 .1))
+
+pub lookup-one :
+    (κs : Lfts 2) (a : ArgsD lookup.signature κs) (z z′ : ResD lookup.signature κs)
+    (e e′ : AtExit (endedOf 2 lookup-kinds.ps lookup-kinds.r) κs)
+    → lookup-reads.Post κs a z e → lookup-reads.Post κs a z′ e′ → z ≡ z′
+lookup-one κs a z z′ e e′ p p′ = p ∙ sym p′
+
+pub browse-one :
+    (κs : Lfts 1) (a : ArgsD browse.signature κs) (z z′ : ResD browse.signature κs)
+    (e e′ : AtExit (endedOf 1 browse-kinds.ps browse-kinds.r) κs)
+    → browse-reads.Post κs a z e → browse-reads.Post κs a z′ e′ → z ≡ z′
+browse-one κs a z z′ e e′ p p′ = p ∙ sym p′

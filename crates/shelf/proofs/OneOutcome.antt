@@ -12,6 +12,9 @@ use Rattle.shelf.proofs.write.Reads as write-reads
 use Rattle.shelf.proofs.read as read
 use Rattle.shelf.proofs.read.Kinds as read-kinds
 use Rattle.shelf.proofs.read.Reads as read-reads
+use Rattle.shelf.proofs.look as look
+use Rattle.shelf.proofs.look.Kinds as look-kinds
+use Rattle.shelf.proofs.look.Reads as look-reads
 
 pub write-one :
     (κs : Lfts 2) (a : ArgsD write.signature κs) (z z′ : ResD write.signature κs)
@@ -24,3 +27,9 @@ pub read-one :
     (e e′ : AtExit (endedOf 2 read-kinds.ps read-kinds.r) κs) →
     read-reads.Post κs a z e → read-reads.Post κs a z′ e′ → (z ≡ z′) × (now (e .1 .0) ≡ now (e′ .1 .0))
 read-one κs a z z′ e e′ p p′ = (p .0 ∙ sym (p′ .0), p .1 ∙ sym (p′ .1))
+
+pub look-one :
+    (κs : Lfts 1) (a : ArgsD look.signature κs) (z z′ : ResD look.signature κs)
+    (e e′ : AtExit (endedOf 1 look-kinds.ps look-kinds.r) κs)
+    → look-reads.Post κs a z e → look-reads.Post κs a z′ e′ → z ≡ z′
+look-one κs a z z′ e e′ p p′ = p ∙ sym p′

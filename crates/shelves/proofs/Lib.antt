@@ -3,3 +3,4 @@ pub mod Walking
 pub mod Runs
 pub mod Firsts
 pub mod HandedBack
+pub mod OneOutcome

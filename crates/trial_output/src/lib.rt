@@ -23,6 +23,12 @@ pub fn numbers(row: &[u64]) {
     }
 }
 
+// Numbers alone in a line.
+pub fn line(row: &[u64]) {
+    numbers(row);
+    io::write_all(STDOUT_FILENO, b"\n");
+}
+
 // A number below 0 or not, after a text.
 pub fn signed(before: &[u8], c: i64) {
     io::write_all(STDOUT_FILENO, before);
