@@ -18,11 +18,21 @@ use Rattle.browsing.specs.Cut.{Records, laid, Cut, restAs}
 use Rattle.browsing.proofs.Cuts.{shown-whole, next-from, shown-rest}
 use Rattle.shelves.specs.declared.Walked.{Walked}
 use Rattle.shelves.specs.declared.Walked.the-variants.{Match, Stopped, Ended}
-use Rattle.shelves.specs.Walk.{onward, walkFrom, walked}
+use Rattle.shelves.specs.Walk.{earlier, asked, onward, walkFrom, walked}
 use Rattle.shelves.specs.First.{First, None, firstOf}
 use Rattle.shelves.proofs.Walking.{walk-end}
 
 module _ (kind n : ℕ) where
+  -- a record that is asked for goes before what comes after
+  asked-first : (k m start end : ℕ) (w : Walked) → earlier (asked kind n k m start end) w
+      ≡ cond (eqb k kind && eqb m n) (Match start end) w
+  unfolding asked earlier
+  asked-first k m start end w = go (eqb k kind && eqb m n)
+    where
+      go : (b : Bool) → earlier (cond b (Match start end) Ended) w ≡ cond b (Match start end) w
+      go true = refl
+      go false = refl
+
   module _ (shelf rest : List ℕ) (c : (rest ≡ []) ⊎ (lookCode rest ≡ DONE → ⊥)) where
     -- no record is left
     walk-rest : (most at : ℕ) (r : List ℕ) → drop at shelf ≡ r → shownAt shelf at ≡ restAs at r
@@ -46,6 +56,7 @@ module _ (kind n : ℕ) where
           walk-from ss most (at + length s) inside (next-from shelf s (laid ss rest) at e w) ws
               (omega (arith, size-least s, w .1)),
         )
+        (asked-first (kindIn s) (indexIn s) at (at + length s) (firstOf kind n (at + length s) ss rest))
 
   pub walk-cut : (shelf : List ℕ) (ss : List (List ℕ)) (rest : List ℕ) → Cut shelf ss rest
       → walked kind n shelf ≡ firstOf kind n 0 ss rest

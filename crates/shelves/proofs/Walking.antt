@@ -12,7 +12,7 @@ use Rattle.browsing.specs.Browse.{shownAt, placeAfter}
 use Rattle.browsing.proofs.Showing.{shown-end, record-bounds}
 use Rattle.shelves.specs.declared.Walked.{Walked}
 use Rattle.shelves.specs.declared.Walked.the-variants.{Match, Stopped, Ended}
-use Rattle.shelves.specs.Walk.{onward, walkFrom, walked}
+use Rattle.shelves.specs.Walk.{earlier, asked, onward, walkFrom, walked}
 
 module _ (kind n : ℕ) (shelf : List ℕ) where
   -- past the end there is nothing
@@ -52,7 +52,7 @@ module _ (kind n : ℕ) (shelf : List ℕ) where
 
     module _ (start end k m d : ℕ) (e : Record start end k m d ≡ shownAt shelf at) where
       pub matched : (eqb k kind && eqb m n) ≡ true → Match start end ≡ walked kind n shelf
-      unfolding onward
+      unfolding onward asked earlier
       matched a = rw a at (turned at (Record start end k m d) h e u .2)
 
       pub bounds : (at < end) × (end ≤ length shelf)
@@ -60,7 +60,7 @@ module _ (kind n : ℕ) (shelf : List ℕ) where
       bounds = record-bounds shelf at (Record start end k m d) (sym e) refl
 
       pub passed : (eqb k kind && eqb m n) ≡ false → Underway end
-      unfolding onward
+      unfolding onward asked earlier
       passed a =
           let t = turned at (Record start end k m d) h e u in
           (t .0, omega (arith, t .1, bounds .0), rw a at (t .2))

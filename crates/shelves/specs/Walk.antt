@@ -11,9 +11,19 @@ use Rattle.browsing.specs.Browse.{shownAt}
 use Rattle.shelves.specs.declared.Walked.{Walked}
 use Rattle.shelves.specs.declared.Walked.the-variants.{Match, Stopped, Ended}
 
--- what was shown ends the walk, or it goes on past a record
+-- of what two parts of a walk came to, the earlier counts, if it came to something
+unfoldable pub earlier : Walked → Walked → Walked
+earlier (Match start end) w = Match start end
+earlier (Stopped code start) w = Stopped code start
+earlier Ended w = w
+
+-- a record that is asked for
+unfoldable pub asked : (kind n : ℕ) → (k m start end : ℕ) → Walked
+asked kind n k m start end = cond (eqb k kind && eqb m n) (Match start end) Ended
+
+-- what is shown, and the walk from there on
 unfoldable pub onward : (kind n : ℕ) → (ℕ → Walked) → Shown → Walked
-onward kind n more (Record start end k m degree) = cond (eqb k kind && eqb m n) (Match start end) (more end)
+onward kind n more (Record start end k m degree) = earlier (asked kind n k m start end) (more end)
 onward kind n more (Refused code start) = Stopped code start
 onward kind n more (End start) = Ended
 
