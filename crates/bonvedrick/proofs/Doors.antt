@@ -15,6 +15,8 @@ use Rattle.cascade.proofs.cascade.Reads as cascade-request
 use Rattle.second.proofs.second.Reads as second-request
 use Rattle.shelf.proofs.write.Reads as write-request
 use Rattle.shelf.proofs.read.Reads as read-request
+use Rattle.shelves.proofs.find.Reads as lookup-request
+use Rattle.browsing.proofs.browse.Reads as browse-request
 use Rattle.bonvedrick.proofs.bv_polynomial as polynomial
 use Rattle.bonvedrick.proofs.bv_polynomial.Kinds as polynomial-kinds
 use Rattle.bonvedrick.proofs.bv_polynomial.Reads as polynomial-reads
@@ -33,6 +35,12 @@ use Rattle.bonvedrick.proofs.bv_write.Reads as write-reads
 use Rattle.bonvedrick.proofs.bv_read as read
 use Rattle.bonvedrick.proofs.bv_read.Kinds as read-kinds
 use Rattle.bonvedrick.proofs.bv_read.Reads as read-reads
+use Rattle.bonvedrick.proofs.bv_lookup as lookup
+use Rattle.bonvedrick.proofs.bv_lookup.Kinds as lookup-kinds
+use Rattle.bonvedrick.proofs.bv_lookup.Reads as lookup-reads
+use Rattle.bonvedrick.proofs.bv_browse as browse
+use Rattle.bonvedrick.proofs.bv_browse.Kinds as browse-kinds
+use Rattle.bonvedrick.proofs.bv_browse.Reads as browse-reads
 use Rattle.bonvedrick.proofs.bv_comb as comb
 use Rattle.bonvedrick.proofs.bv_comb.Kinds as comb-kinds
 use Rattle.bonvedrick.proofs.bv_comb.Reads as comb-reads
@@ -75,6 +83,18 @@ pub read-door :
     (e : AtExit (endedOf 2 read-kinds.ps read-kinds.r) κs)
     → read-reads.Post κs a z e ≡ read-request.Post κs a z e
 read-door κs a z e = refl
+
+pub lookup-door :
+    (κs : Lfts 2) (a : ArgsD lookup.signature κs) (z : ResD lookup.signature κs)
+    (e : AtExit (endedOf 2 lookup-kinds.ps lookup-kinds.r) κs)
+    → lookup-reads.Post κs a z e ≡ lookup-request.Post κs a z e
+lookup-door κs a z e = refl
+
+pub browse-door :
+    (κs : Lfts 1) (a : ArgsD browse.signature κs) (z : ResD browse.signature κs)
+    (e : AtExit (endedOf 1 browse-kinds.ps browse-kinds.r) κs)
+    → browse-reads.Post κs a z e ≡ browse-request.Post κs a z e
+browse-door κs a z e = refl
 
 -- the slice that a step's door leaves, e, and the one that the step leaves, f, hold the same
 pub comb-door :
