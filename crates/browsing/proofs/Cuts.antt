@@ -15,9 +15,9 @@ use Rattle.definitions.specs.Codes.{DONE}
 use Rattle.record.specs.Header.{kindIn, indexIn, degreeIn}
 use Rattle.record.proofs.Fronts.{kind-front, index-front, degree-front}
 use Rattle.shelf.specs.Format.{sizeIn, lookCode}
-use Rattle.shelf.proofs.Alone.{size-least, size-front, look-front, alone, length-alone, whole-alone}
+use Rattle.shelf.proofs.Alone.{size-least, size-front, look-front, whole-alone}
 use Rattle.browsing.specs.declared.Shown.{Shown}
-use Rattle.browsing.specs.declared.Shown.the-variants.{Record, Refused, End}
+use Rattle.browsing.specs.declared.Shown.the-variants.{Record, End}
 use Rattle.browsing.specs.Browse.{shownOf, shownAt, placeAfter, turnAt}
 use Rattle.browsing.specs.Cut.{Whole, Records, laid, Cut, shownAs, restAs, gives, goes, repeated}
 use Rattle.browsing.proofs.Showing.{shown-record, shown-end, shown-in, shown-refused}

@@ -9,7 +9,7 @@ use Rattle.record.specs.Header.{kindIn, indexIn, degreeIn}
 use Rattle.shelf.specs.Format.{sizeIn, lookCode}
 use Rattle.browsing.specs.declared.Shown.{Shown}
 use Rattle.browsing.specs.declared.Shown.the-variants.{Record, Refused, End}
-use Rattle.browsing.specs.Browse.{shownAt, turnAt}
+use Rattle.browsing.specs.Browse.{turnAt}
 
 -- a record that is all of some bytes; and each of some stretches is one
 abbrev pub Whole : List ℕ → Type 0

@@ -8,7 +8,7 @@ use borrow.Author.Tests.{le-ltb}
 use lib.ListN.{length, getD, take, drop, length-append, length-drop}
 use lib.Seq.{take-append-seam, take-append-le, drop-append-le, getD-take}
 use Rattle.definitions.specs.Polynomials.{degree}
-use Rattle.widths.specs.Numbers.{number, signedOf, coefficientsAt}
+use Rattle.widths.specs.Numbers.{number, coefficientsAt}
 use Rattle.record.specs.Header.{Field, inField, marked, fields, kindIn, widthIn, indexIn, countIn, degreeIn}
 use Rattle.record.specs.Header.{kindField, widthField, indexField, countField, fieldCode, headerCode}
 

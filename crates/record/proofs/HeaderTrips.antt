@@ -1,6 +1,6 @@
 -- The header there and back: what stands in a header is what it was made of, and a right header is the header of what
 -- stands in it, byte for byte.
-use Prim.Native.Nat.{_+_, _<_, _≤_, ℕ}
+use Prim.Native.Nat.{_+_, _≤_, ℕ}
 use borrow.Author.Tests.{eqb-true}
 use lib.Dec.{eqb}
 use lib.ListN.{length, getD, drop, take, length-drop}

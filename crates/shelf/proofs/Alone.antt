@@ -1,17 +1,15 @@
 -- A record by itself: the stretch of a shelf from which a record reads, taken out, reads as it did in its place.
-use Prim.Native.Nat.{ℕ, _+_, _*_, _≤_}
-use mathlib.Core.Path.{_≡_, sym, ap, ap₂, _∙_}
+use Prim.Native.Nat.{ℕ, _+_, _≤_}
+use mathlib.Core.Path.{_≡_, sym, ap, _∙_}
 use mathlib.Core.List.{List, _++_}
 use native.Mathlib.Omega.{arith}
-use native.Mathlib.Nat.{le-refl}
 use borrow.Author.Tests.{le-ltb, eq-eqb}
 use lib.ListN.{length, take, drop, length-append, length-drop, take-append-drop}
 use lib.Seq.{drop-append-le, length-take-le}
 use Rattle.definitions.specs.Codes.{DONE}
 use Rattle.widths.specs.Numbers.{width}
-use Rattle.record.specs.Header.{kindIn, widthIn, indexIn, countIn, degreeIn, headerCode}
-use Rattle.record.proofs.Headers.{right}
-use Rattle.record.proofs.Fronts.{kind-front, width-front, index-front, count-front, degree-front, header-front}
+use Rattle.record.specs.Header.{kindIn, widthIn, indexIn, countIn}
+use Rattle.record.proofs.Fronts.{kind-front, width-front, index-front, count-front, header-front}
 use Rattle.record.proofs.Fronts.{coefficients-front}
 use Rattle.shelf.specs.Format.{coefficientsIn, sizeIn, readCode, lookCode}
 use Rattle.shelf.proofs.Reading.{code-done}

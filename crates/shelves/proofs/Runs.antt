@@ -1,10 +1,9 @@
 -- The walk is the reader run to the first match, and so is the lookup, on each shelf.
 use Prim.Native.Nat.{ℕ, zero, suc}
-use mathlib.Core.Path.{_≡_, refl, ap₂}
-use mathlib.Core.Bool.{true, cond, _&&_}
+use mathlib.Core.Path.{_≡_, refl}
+use mathlib.Core.Bool.{true}
 use mathlib.Core.List.{List}
 use lib.ListN.{length}
-use lib.Dec.{eqb}
 use Rattle.definitions.specs.Codes.{ABSENT}
 use Rattle.definitions.specs.Requests.{knownKind, goodIndex}
 use Rattle.browsing.specs.declared.Shown.{Shown}
@@ -12,7 +11,6 @@ use Rattle.browsing.specs.declared.Shown.the-variants.{Record, Refused, End}
 use Rattle.browsing.specs.Browse.{shownAt, placeAfter, turnAt}
 use Rattle.browsing.specs.Cut.{gives}
 use Rattle.shelves.specs.declared.Walked.{Walked}
-use Rattle.shelves.specs.declared.Walked.the-variants.{Match}
 use Rattle.shelves.specs.Walk.{onward, walkFrom, walked}
 use Rattle.shelves.specs.Lookup.{OWN, HOUSE, refused, foundBy, found}
 use Rattle.shelves.specs.First.{runTo}

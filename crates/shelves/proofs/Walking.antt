@@ -1,6 +1,6 @@
 -- The walk, turn by turn: what is left of it, from the place reached on, is how the whole comes out.
 use Prim.Native.Nat.{ℕ, zero, suc, _-_, _<_, _≤_}
-use mathlib.Core.Path.{_≡_, refl, sym, ap, _∙_}
+use mathlib.Core.Path.{_≡_, refl, sym, _∙_}
 use mathlib.Core.Bool.{true, false, _&&_}
 use mathlib.Core.List.{List}
 use native.Mathlib.Omega.{arith}
@@ -10,7 +10,6 @@ use Rattle.browsing.specs.declared.Shown.{Shown}
 use Rattle.browsing.specs.declared.Shown.the-variants.{Record, Refused, End}
 use Rattle.browsing.specs.Browse.{shownAt, placeAfter}
 use Rattle.browsing.proofs.Showing.{shown-end, record-bounds}
-use Rattle.shelves.specs.declared.Walked.{Walked}
 use Rattle.shelves.specs.declared.Walked.the-variants.{Match, Stopped, Ended}
 use Rattle.shelves.specs.Walk.{earlier, asked, onward, walkFrom, walked}
 

@@ -1,6 +1,6 @@
 -- `class_of`: each test on v is one of the magnitude that v stands for (Classes).
-use Prim.Native.Nat.{ℕ, _+_, _-_, _*_, _<_, _≤_, _^_}
-use mathlib.Core.Path.{_≡_, sym}
+use Prim.Native.Nat.{_-_, _<_, _^_}
+use mathlib.Core.Path.{sym}
 use native.Mathlib.Omega.{arith}
 use borrow.Author.Needs.{needs}
 use Rattle.widths.specs.Numbers.{top}

@@ -1,9 +1,6 @@
 -- `right_in`: the look at the width and the count that stand in the header (Reading).
-use Prim.Native.Nat.{_+_, _*_, _≤_}
-use mathlib.Core.Path.{_≡_, sym, _∙_}
-use mathlib.Core.Bool.{true}
+use mathlib.Core.Path.{_∙_}
 use native.Mathlib.Omega.{arith}
-use Rattle.widths.specs.Numbers.{widths, oneOf}
 use Rattle.record.proofs.Headers.{right}
 use Rattle.shelf.proofs.Reading.{size-in, seen-in}
 use Rattle.shelf.proofs.reader.right_in.Statement.{statement}

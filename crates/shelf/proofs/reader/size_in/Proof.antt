@@ -1,5 +1,5 @@
 -- `size_in`: the width and the count that were read (Reading); of bytes, so that they are few.
-use Prim.Native.Nat.{_+_, _*_, _≤_}
+use Prim.Native.Nat.{_*_, _≤_}
 use native.Mathlib.Omega.{arith}
 use Rattle.record.proofs.Headers.{right}
 use Rattle.widths.proofs.Digits.{bytes-each}
