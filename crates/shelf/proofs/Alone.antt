@@ -8,8 +8,8 @@ use lib.ListN.{length, take, drop, length-append, length-drop, take-append-drop}
 use lib.Seq.{drop-append-le, length-take-le}
 use Rattle.definitions.specs.Codes.{DONE}
 use Rattle.widths.specs.Numbers.{width}
-use Rattle.record.specs.Header.{kindIn, widthIn, indexIn, countIn}
-use Rattle.record.proofs.Fronts.{kind-front, width-front, index-front, count-front, header-front}
+use Rattle.record.specs.Header.{widthIn, countIn}
+use Rattle.record.proofs.Fronts.{width-front, count-front, header-front}
 use Rattle.record.proofs.Fronts.{coefficients-front}
 use Rattle.shelf.specs.Format.{coefficientsIn, sizeIn, readCode, lookCode}
 use Rattle.shelf.proofs.Reading.{code-done}
@@ -75,12 +75,6 @@ module _ (bs : List ℕ) (good : lookCode bs ≡ DONE) where
     sym (look-front alone after long (omega (arith, size-alone, length-alone))) ∙ ap lookCode joined ∙ good,
     size-alone ∙ sym length-alone,
   )
-
-  pub kind-alone : kindIn alone ≡ kindIn bs
-  kind-alone = sym (kind-front alone after long) ∙ ap (λ (l : List ℕ). kindIn l) joined
-
-  pub index-alone : indexIn alone ≡ indexIn bs
-  index-alone = sym (index-front alone after long) ∙ ap (λ (l : List ℕ). indexIn l) joined
 
 -- what the look passes is read, wherever there is room for its coefficients
 pub reads : (s : List ℕ) (room : ℕ) → lookCode s ≡ DONE → countIn s ≤ room → readCode s room ≡ DONE
