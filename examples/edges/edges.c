@@ -762,6 +762,23 @@ static void broken_shelves(void) {
     }
 }
 
+/* Two bytes of a header wrong: the first of its fields that is wrong decides, also where the record is the one that is
+ * asked for. */
+static void wrong_together(void) {
+    static const uint64_t codes[] = {BV_REFUSED_MARK, BV_REFUSED_MARK, BV_REFUSED_RKIND, BV_REFUSED_RWIDTH};
+    uint8_t shelf[13 + 12];
+    const size_t at = put(shelf, 1, 6, 1, 3, 1), all = sizeof shelf;
+    for (size_t i = 0; i < 10; i++)
+        for (size_t j = i; j < 10; j++) {
+            uint64_t code = i < COUNT(codes) ? codes[i] : BV_REFUSED_RCOUNT;
+            put(shelf + at, 2, 3, 1, 2, 1);
+            shelf[at + i] = shelf[at + j] = 0xAA;
+            HOLD(refuses(bv_lookup(2, 3, shelf, all, NULL, 0), code, at, BV_OWN));
+            HOLD(refuses(bv_lookup(2, 3, shelf, at, shelf, all), code, at, BV_HOUSE));
+            HOLD(shows_none(bv_browse(shelf, all, at), code, at));
+        }
+}
+
 /* One coefficient decides: at each place of F(101), the others 0, and at an address of any alignment. In b bytes those
  * read whose magnitude needs b, and no other; all 0 need 1. */
 static void deciding(void) {
@@ -853,6 +870,7 @@ static void shelves(void) {
     empty_shelves();
     good_shelves();
     broken_shelves();
+    wrong_together();
     deciding();
     inside();
     long_shelves();
