@@ -147,7 +147,7 @@ def repeating():
 
 
 def breaking():
-    """A record that doesn't read, before and after the one that is asked for, on either shelf."""
+    """A record that doesn't read, before and after the one that is asked for, on either shelf; and as that very one."""
     for broken in BROKEN:
         for order in ((broken,), (I6, broken, F15), (F15, broken, I6), (I6, F15, broken)):
             shelf = b"".join(order)
@@ -155,6 +155,8 @@ def breaking():
             yield asking(1, 15, I1, shelf)
         yield asking(1, 15, F15, broken)
         yield asking(1, 15, broken, broken)
+        yield asking(1, 6, I6 + broken + F6, F6)
+        yield asking(1, 6, I6, broken + F6)
         yield browsing(I6 + broken + F15, len(I6))
 
 
