@@ -1,12 +1,13 @@
 //! F for all odd n to 65,535: our library, plain Rust, and FLINT where it is there (`--cfg flint`), one after the other
 //! at each n. The buffers are cleared before the clock runs. Prints the median over the rounds of each total, and its
 //! ratio to plain Rust. Then how the time grows with the additions (growth.rs), and what a working limit costs
-//! (limits.rs), and the stored record (records.rs).
+//! (limits.rs), the stored record (records.rs), and the walk over a shelf (shelves.rs).
 
 mod growth;
 mod limits;
 mod plain;
 mod records;
+mod shelves;
 
 use plain::Answer as Told;
 use std::time::Instant;
@@ -156,4 +157,5 @@ fn main() {
     growth::print();
     limits::print();
     records::print();
+    shelves::print();
 }

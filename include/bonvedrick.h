@@ -5,7 +5,8 @@
  *   I(n)  the inverse one: F(n) times I(n) is z^n - 1.
  *
  * for n from 1 to 65535, and cascades, which are products of up to eight F(n); with whole 64-bit coefficients, lowest
- * degree first: coeffs[i] belongs to z^i.
+ * degree first: coeffs[i] belongs to z^i. And stored: a record is a polynomial in bytes, and a shelf is records one
+ * after another.
  *
  * Link with libbonvedrick.a (`rt staticlib bonvedrick` writes target/staticlib/libbonvedrick.a, for x86-64).
  *
@@ -13,13 +14,14 @@
  *
  *   Any number may be passed for any number: nothing is asked beforehand. Each call answers a struct whose `code` is
  *   BV_DONE (0), and then everything that was asked for is there; or it is one of the refusals below, and then every
- *   other field is 0, but for the `degree` and the `byte` where the function's table tells them. Where several refusals
- *   apply, the first in the order told at the function is given.
+ *   other field is 0, but for the `degree`, the `byte`, the `shelf` and the `start` where the function's table tells
+ *   them. Where several refusals apply, the first in the order told at the function is given.
  *
  *   A slice is a pointer and the number of its elements (not of its bytes). The number may be 0, and then the pointer
  *   may be NULL: an empty slice. Otherwise the pointer must be aligned, as C has it, and point to that many elements,
  *   of any contents, that nobody else writes during the call and, where the pointer is not const, nobody else reads: so
- *   no two slices of one call may overlap. This is all that is asked, and no callee in C could test it.
+ *   no two slices of one call may overlap, unless both are const. This is all that is asked, and no callee in C could
+ *   test it.
  *
  *   An element past the part that a function says it writes is never changed, and what a function says is untouched is
  *   not written at all or stands again as it was when the call returns.
@@ -47,7 +49,7 @@ extern "C" {
  * PATCH moves for everything else.
  */
 #define BV_VERSION_MAJOR 1
-#define BV_VERSION_MINOR 2
+#define BV_VERSION_MINOR 3
 #define BV_VERSION_PATCH 0
 
 /* The two kinds of polynomial. */
@@ -59,6 +61,10 @@ extern "C" {
 
 /* The most indices of a cascade. */
 #define BV_MOST_FACTORS 8
+
+/* The two shelves of bv_lookup, as it tells them. */
+#define BV_OWN UINT64_C(1)   /* one's own, looked at first */
+#define BV_HOUSE UINT64_C(2) /* that of the house */
 
 /*
  * No limit: for the height limit h and for the working limit w.
@@ -84,15 +90,17 @@ extern "C" {
                                           bv_second: never */
 #define BV_REFUSED_TALL UINT64_C(6)    /* a coefficient is larger in magnitude than h */
 #define BV_REFUSED_STEP UINT64_C(7)    /* size is 0 or above 65535; bv_partial: there are fewer than j divisors */
-#define BV_REFUSED_CUT UINT64_C(8)     /* bv_read: the record ends early */
-#define BV_REFUSED_MARK UINT64_C(9)    /* bv_read: the first two bytes are not those of a record */
-#define BV_REFUSED_WIDTH UINT64_C(11)  /* bv_read: the coefficients are not in the width that bv_write would choose */
-#define BV_REFUSED_RKIND UINT64_C(12)  /* bv_read: the header's kind, at byte 2, is not 1 or 2 */
-#define BV_REFUSED_RWIDTH UINT64_C(13) /* bv_read: the header's width, at byte 3, is not 1, 2, 4 or 8 */
-#define BV_REFUSED_RINDEX UINT64_C(14) /* bv_read: the header's n, at byte 4, is 0 */
-#define BV_REFUSED_RCOUNT UINT64_C(15) /* bv_write: count is not degree + 1; bv_read: nor is the header's, at byte 6 */
+#define BV_REFUSED_CUT UINT64_C(8)     /* reading: the record ends early */
+#define BV_REFUSED_MARK UINT64_C(9)    /* reading: the first two bytes are not those of a record */
+#define BV_REFUSED_WIDTH UINT64_C(11)  /* reading: the coefficients are not in the width that bv_write would choose */
+#define BV_REFUSED_RKIND UINT64_C(12)  /* reading: the header's kind, at byte 2, is not 1 or 2 */
+#define BV_REFUSED_RWIDTH UINT64_C(13) /* reading: the header's width, at byte 3, is not 1, 2, 4 or 8 */
+#define BV_REFUSED_RINDEX UINT64_C(14) /* reading: the header's n, at byte 4, is 0 */
+#define BV_REFUSED_RCOUNT UINT64_C(15) /* bv_write: count is not degree + 1; reading: nor is the header's, at byte 6 */
 #define BV_REFUSED_LIST UINT64_C(16)   /* bv_cascade: no index, more than 8, or a total degree above 65535 */
-/* 10 was given where any field of a header was wrong; it is given no more. */
+#define BV_REFUSED_ABSENT UINT64_C(17) /* bv_lookup: neither shelf has such a record */
+/* 'reading' is bv_read, and bv_lookup and bv_browse for a record that they meet. 10 was given where any field of a
+   header was wrong; it is given no more. */
 
 /* The name of a code, as after BV_ or BV_REFUSED_: "DONE", "KIND", ..; "?" for any other number, 10 too. */
 static inline const char *bv_name(uint64_t code) {
@@ -113,6 +121,7 @@ static inline const char *bv_name(uint64_t code) {
     case BV_REFUSED_RINDEX: return "RINDEX";
     case BV_REFUSED_RCOUNT: return "RCOUNT";
     case BV_REFUSED_LIST: return "LIST";
+    case BV_REFUSED_ABSENT: return "ABSENT";
     default: return "?";
     }
 }
@@ -156,6 +165,24 @@ typedef struct bv_record {
     uint64_t n;      /* of the record: 1 to 65535 */
     uint64_t byte;   /* where a field is wrong, the byte of the record at which it starts: 2, 3, 4 or 6; else 0 */
 } bv_record;
+
+typedef struct bv_found {
+    uint64_t code;
+    uint64_t byte;   /* where a record on the way doesn't read, the byte of its shelf at which it starts; else 0 */
+    uint64_t shelf;  /* and which shelf that is: BV_OWN or BV_HOUSE; else 0 */
+    uint64_t from;   /* the shelf that has the record: BV_OWN or BV_HOUSE */
+    uint64_t start;  /* the byte of that shelf at which the record starts */
+    uint64_t length; /* the bytes of the record */
+} bv_found;
+
+typedef struct bv_browsed {
+    uint64_t code;
+    uint64_t start;  /* the byte of the shelf at which this stands */
+    uint64_t length; /* the bytes of the record: what comes next stands at start + length; 0 at the end of the shelf */
+    uint64_t kind;   /* of the record: 1 or 2 */
+    uint64_t n;      /* of the record: 1 to 65535 */
+    uint64_t degree; /* of its polynomial: it has degree + 1 coefficients */
+} bv_browsed;
 
 /*
  * The polynomial of a kind and an index n, unless a step on the way would make a value larger in magnitude than w, or a
@@ -270,6 +297,56 @@ bv_written bv_write(uint64_t kind, uint64_t n, const int64_t *coeffs, size_t cou
  * bv_write chooses the next width.
  */
 bv_record bv_read(const uint8_t *bytes, size_t len, int64_t *coeffs, size_t count);
+
+/*
+ * Finds the record of a kind and an index n in two shelves, one's own first and then that of the house, and tells where
+ * it stands: the bytes from `start` on, `length` of them, of the shelf `from`. They are handed out where they are, with
+ * no copy; bv_read reads them.
+ *
+ * A shelf is walked from its first byte, record after record, to its end. The walk stops at the first record of that
+ * kind and n, and what follows it is not looked at; so where there are several, the first counts. It also stops at a
+ * record that doesn't read: one that bv_read, given the rest of the shelf and entries enough (so never with
+ * BV_REFUSED_SHORT), refuses. The house's shelf is walked only where the own one came to its end.
+ *
+ *   code                given where                                             byte        shelf      from, start,
+ *                                                                                                      length
+ *   BV_DONE             nothing below applies                                   0           0          the record's
+ *   BV_REFUSED_KIND     kind is not 1 or 2                                      0           0          0
+ *   BV_REFUSED_INDEX    n is 0 or above 65535                                   0           0          0
+ *   that of bv_read     a record of the own shelf doesn't read, and no record   its start   BV_OWN     0
+ *                       before it is of that kind and n
+ *   that of bv_read     the own shelf came to its end, and the same is so of    its start   BV_HOUSE   0
+ *                       a record of the house's
+ *   BV_REFUSED_ABSENT   both shelves came to their ends                         0           0          0
+ *
+ * The order is that of the table. `byte` is where the record starts, counted from the first byte of its shelf, whatever
+ * is wrong with it; bv_read of the shelf from there on tells the field. The record that is found reads well, as each
+ * one before it does: every coefficient on the way is looked at, and the time goes with the bytes walked. Nothing
+ * vouches for the coefficients (see bv_write). Both shelves are only read, and may be one and the same.
+ */
+bv_found bv_lookup(uint64_t kind, uint64_t n, const uint8_t *own, size_t own_len, const uint8_t *house,
+                   size_t house_len);
+
+/*
+ * What stands at byte `at` of a shelf: a record, one that doesn't read, or the end.
+ *
+ *   code              given where                                              start   length, kind, n, degree
+ *   BV_DONE           at is below len, and a record that reads starts there    at      the record's
+ *   BV_DONE           at is len or more: the end                               len     0
+ *   that of bv_read   at is below len, and bv_read, given the shelf from       at      0
+ *                     there on and entries enough (so never with
+ *                     BV_REFUSED_SHORT), refuses it
+ *
+ * So code BV_DONE with length 0 is the end, and what comes next stands at start + length: at the end, and at a record
+ * that doesn't read, that is the place itself. To go through a shelf:
+ *
+ *   for (bv_browsed b = bv_browse(shelf, len, 0); b.code == BV_DONE && b.length > 0;
+ *        b = bv_browse(shelf, len, b.start + b.length))
+ *
+ * `at` may be any number. Bytes in the midst of a record may themselves read as one: begin at 0, or where a record
+ * ends. The shelf is only read.
+ */
+bv_browsed bv_browse(const uint8_t *shelf, size_t len, uint64_t at);
 
 /*
  * A cascade: the product of F(n) over a list of indices, in which an index may come again. That is a filter made of

@@ -6,6 +6,7 @@ fields in their order, and what then stands in each buffer that can be written.
 
 import answers
 import shelf
+import shelves
 import steps
 
 PRIME = 144115188075851879  # and (PRIME - 1) / 2 is prime
@@ -48,7 +49,17 @@ def second(numbers, lent, scratch):
     return fields, written + lent[len(written):], [0] * len(scratch) if written else scratch
 
 
-ANSWERS = {f.__name__: f for f in (polynomial, partial, comb, accumulate, write, read, cascade, second)}
+def lookup(numbers, data):
+    kind, n, own = numbers
+    return (shelves.lookup(kind, n, data[:own], data[own:]),)
+
+
+def browse(numbers, data):
+    return (shelves.browse(data, *numbers),)
+
+
+REQUESTS = (polynomial, partial, comb, accumulate, write, read, cascade, second, lookup, browse)
+ANSWERS = {f.__name__: f for f in REQUESTS}
 
 
 def spelled(buffer):

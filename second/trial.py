@@ -5,6 +5,7 @@ import choice
 import over
 import refusals
 import shelf
+import shelves
 import steps
 from cascades import lent
 from choice import FILLING, LARGEST_LIMIT
@@ -50,5 +51,6 @@ def stops():
 
 
 def cases():
-    for some in (edges, steps.cases, shelf.cases, stops, over.cases, cascades.cases, table, seconds):
+    parts = (edges, steps.cases, shelf.cases, stops, over.cases, cascades.cases, table, seconds, shelves.cases)
+    for some in parts:
         yield from some()

@@ -3,9 +3,11 @@
  * range. Each call is held to its whole outcome: the answer's fields and the contents of each slice. Prints how many
  * outcomes were held.
  */
+#define _DEFAULT_SOURCE /* for mmap, by which a shelf longer than 2^32 bytes costs no memory */
 #include <stdio.h>
 #include <stdlib.h>
 #include <string.h>
+#include <sys/mman.h>
 
 #include "bonvedrick.h"
 
@@ -555,11 +557,332 @@ static void seconds(void) {
     }
 }
 
+/* found: that stretch of that shelf */
+static int found(bv_found a, uint64_t from, uint64_t start, uint64_t length) {
+    return a.code == BV_DONE && a.byte == 0 && a.shelf == 0 && a.from == from && a.start == start && a.length == length;
+}
+
+/* refused: the byte and the shelf are told of a record that doesn't read, and 0 with every other code */
+static int refuses(bv_found a, uint64_t code, uint64_t byte, uint64_t shelf) {
+    return a.code == code && a.byte == byte && a.shelf == shelf && a.from == 0 && a.start == 0 && a.length == 0;
+}
+
+static int shows(bv_browsed a, uint64_t start, uint64_t length, uint64_t kind, uint64_t n, uint64_t degree) {
+    return a.code == BV_DONE && a.start == start && a.length == length && a.kind == kind && a.n == n &&
+           a.degree == degree;
+}
+
+static int shows_none(bv_browsed a, uint64_t code, uint64_t start) {
+    return a.code == code && a.start == start && a.length == 0 && a.kind == 0 && a.n == 0 && a.degree == 0;
+}
+
+/* A record of coefficients that are all the same, put at a place by the words of the header; its length. */
+static size_t put(uint8_t *to, uint64_t kind, uint64_t n, size_t width, size_t count, int64_t each) {
+    const uint64_t head[] = {0xC9, 0x50, kind, width, n, n >> 8, count, count >> 8, count >> 16, 0};
+    for (size_t i = 0; i < 10; i++)
+        to[i] = (uint8_t)head[i];
+    for (size_t i = 0; i < count * width; i++)
+        to[10 + i] = (uint8_t)((uint64_t)each >> (8 * (i % width)));
+    return 10 + count * width;
+}
+
+/* A shelf of seven: of each width, both kinds of one index, two indices with the same low byte, and one that comes
+ * again with other coefficients; and F(15), which it does not have. */
+typedef struct shelf_record {
+    uint64_t kind, n;
+    size_t width, count;
+    int64_t each;
+} shelf_record;
+
+static const shelf_record RECORDS[] = {
+    {1, 6, 1, 3, -127},      {2, 6, 2, 5, -128},       {1, 262, 1, 131, 0},   {1, 1, 4, 2, 32768},
+    {2, 1, 8, 1, INT64_MAX}, {1, 6, 8, 3, -INT64_MAX}, {2, 65521, 1, 2, 127},
+};
+enum { SEVEN = 7 };
+
+static const uint8_t F15[] = {0xC9, 0x50, 1, 1, 15, 0, 9, 0, 0, 0, 1, 0xFF, 0, 1, 0xFF, 1, 0, 0xFF, 1};
+
+static uint8_t good[512];
+static size_t starts[SEVEN + 1]; /* where each record starts, and where the last ends */
+
+static void make_good(void) {
+    for (size_t i = 0; i < SEVEN; i++) {
+        const shelf_record *r = &RECORDS[i];
+        starts[i + 1] = starts[i] + put(good + starts[i], r->kind, r->n, r->width, r->count, r->each);
+    }
+}
+
+/* KIND, then INDEX, come first, whatever the shelves hold. */
+static void no_lookups(void) {
+    static const uint64_t no_kind[] = {0, 3, 257, UINT64_C(1) << 32 | 1, UINT64_MAX};
+    static const uint64_t no_index[] = {0, 65536, 65542, UINT64_C(1) << 32 | 6, UINT64_MAX};
+    static const uint8_t broken[] = {0xC9, 0x50, 3};
+    for (size_t i = 0; i < 5; i++) {
+        HOLD(refuses(bv_lookup(no_kind[i], no_index[i], NULL, 0, NULL, 0), BV_REFUSED_KIND, 0, 0));
+        HOLD(refuses(bv_lookup(no_kind[i], 6, good, starts[SEVEN], good, starts[SEVEN]), BV_REFUSED_KIND, 0, 0));
+        HOLD(refuses(bv_lookup(no_kind[i], 6, broken, 3, broken, 3), BV_REFUSED_KIND, 0, 0));
+        for (uint64_t kind = 1; kind <= 2; kind++) {
+            HOLD(refuses(bv_lookup(kind, no_index[i], NULL, 0, NULL, 0), BV_REFUSED_INDEX, 0, 0));
+            HOLD(refuses(bv_lookup(kind, no_index[i], good, starts[SEVEN], good, starts[SEVEN]), BV_REFUSED_INDEX, 0,
+                         0));
+            HOLD(refuses(bv_lookup(kind, no_index[i], broken, 3, broken, 3), BV_REFUSED_INDEX, 0, 0));
+        }
+    }
+}
+
+/* Empty shelves, by NULL and by length 0: an empty one ends well. */
+static void empty_shelves(void) {
+    static const uint64_t places[] = {0, 1, 13, UINT64_C(1) << 32, UINT64_C(1) << 63, UINT64_MAX};
+    for (size_t i = 0; i < 4; i++) {
+        const uint8_t *own = i % 2 ? good : NULL, *house = i / 2 ? good : NULL;
+        HOLD(refuses(bv_lookup(1, 6, own, 0, house, 0), BV_REFUSED_ABSENT, 0, 0));
+        HOLD(refuses(bv_lookup(2, 65535, own, 0, house, 0), BV_REFUSED_ABSENT, 0, 0));
+        HOLD(found(bv_lookup(1, 6, good, starts[1], house, 0), BV_OWN, 0, starts[1]));
+        HOLD(found(bv_lookup(1, 6, own, 0, good, starts[1]), BV_HOUSE, 0, starts[1]));
+        HOLD(refuses(bv_lookup(2, 6, good, starts[1], house, 0), BV_REFUSED_ABSENT, 0, 0));
+        HOLD(refuses(bv_lookup(2, 6, own, 0, good, starts[1]), BV_REFUSED_ABSENT, 0, 0));
+    }
+    for (size_t i = 0; i < COUNT(places); i++) {
+        HOLD(shows_none(bv_browse(NULL, 0, places[i]), BV_DONE, 0));
+        HOLD(shows_none(bv_browse(good, 0, places[i]), BV_DONE, 0));
+    }
+}
+
+/* Each record of a good shelf, from either shelf; the first counts, and the own shelf comes first. */
+static void good_shelves(void) {
+    const size_t all = starts[SEVEN], most = starts[SEVEN - 1];
+    for (size_t i = 0; i < SEVEN; i++) {
+        const shelf_record *r = &RECORDS[i];
+        size_t first = i == 5 ? 0 : i; /* F(6) comes twice */
+        uint64_t length = starts[first + 1] - starts[first];
+        HOLD(found(bv_lookup(r->kind, r->n, good, all, NULL, 0), BV_OWN, starts[first], length));
+        HOLD(found(bv_lookup(r->kind, r->n, NULL, 0, good, all), BV_HOUSE, starts[first], length));
+        HOLD(found(bv_lookup(r->kind, r->n, good, all, good, all), BV_OWN, starts[first], length));
+        HOLD(found(bv_lookup(r->kind, r->n, good, starts[i], good, all), i == 5 ? BV_OWN : BV_HOUSE, starts[first],
+                   length));
+        /* from its own start on it is the first */
+        HOLD(found(bv_lookup(r->kind, r->n, good + starts[i], all - starts[i], good, all), BV_OWN, 0,
+                   starts[i + 1] - starts[i]));
+        HOLD(shows(bv_browse(good, all, starts[i]), starts[i], starts[i + 1] - starts[i], r->kind, r->n, r->count - 1));
+        /* what follows it is not looked at, so it may end there */
+        HOLD(shows(bv_browse(good, starts[i + 1], starts[i]), starts[i], starts[i + 1] - starts[i], r->kind, r->n,
+                   r->count - 1));
+    }
+    HOLD(found(bv_lookup(2, 65521, good, most, good, all), BV_HOUSE, most, 12));
+    HOLD(refuses(bv_lookup(2, 65521, good, most, good, most), BV_REFUSED_ABSENT, 0, 0));
+    HOLD(refuses(bv_lookup(2, 262, good, all, good, all), BV_REFUSED_ABSENT, 0, 0));
+    HOLD(refuses(bv_lookup(1, 65521, good, all, good, all), BV_REFUSED_ABSENT, 0, 0));
+    HOLD(refuses(bv_lookup(1, 65535, good, all, NULL, 0), BV_REFUSED_ABSENT, 0, 0));
+    HOLD(shows_none(bv_browse(good, all, all), BV_DONE, all));
+    HOLD(shows_none(bv_browse(good, all, all + 1), BV_DONE, all));
+    HOLD(shows_none(bv_browse(good, all, UINT64_C(1) << 32), BV_DONE, all));
+    HOLD(shows_none(bv_browse(good, all, UINT64_C(1) << 63), BV_DONE, all));
+    HOLD(shows_none(bv_browse(good, all, UINT64_MAX), BV_DONE, all));
+}
+
+/* What stands at every byte of a shelf, and past its end, is what bv_read makes of the bytes from there on. */
+static void browsed(const uint8_t *shelf, size_t len) {
+    for (size_t at = 0; at <= len + 1; at++) {
+        bv_browsed b = bv_browse(shelf, len, at);
+        bv_record r = {0, 0, 0, 0, 0, 0};
+        if (at < len)
+            r = bv_read(shelf + at, len - at, buf, 65536);
+        HOLD(b.code == r.code && b.start == (at < len ? at : len) && b.length == r.used && b.kind == r.kind &&
+             b.n == r.n && b.degree == r.degree);
+    }
+}
+
+/* A byte of F(6)'s record, coefficients 1 1 1, to be changed: where, to what, and the code that it then gives. */
+typedef struct damage {
+    size_t at;
+    uint8_t byte;
+    uint64_t code;
+} damage;
+
+static const damage DAMAGES[] = {
+    {0, 0xC8, BV_REFUSED_MARK},   {1, 0x51, BV_REFUSED_MARK},   {2, 0, BV_REFUSED_RKIND},
+    {2, 3, BV_REFUSED_RKIND},     {3, 0, BV_REFUSED_RWIDTH},    {3, 3, BV_REFUSED_RWIDTH},
+    {3, 16, BV_REFUSED_RWIDTH},   {4, 0, BV_REFUSED_RINDEX},    {4, 7, BV_REFUSED_RCOUNT},
+    {5, 1, BV_REFUSED_RCOUNT},    {6, 2, BV_REFUSED_RCOUNT},    {6, 4, BV_REFUSED_RCOUNT},
+    {9, 128, BV_REFUSED_RCOUNT},  {10, 0x80, BV_REFUSED_WIDTH}, {11, 0x80, BV_REFUSED_WIDTH},
+    {12, 0x80, BV_REFUSED_WIDTH}, {3, 2, BV_REFUSED_CUT},
+};
+
+/* A shelf that holds a record that doesn't read, at a place: it is refused there, in whichever shelf, unless a match
+ * comes first; and the house's shelf is not looked at after the own one has stopped. */
+static void stops_at(const uint8_t *shelf, size_t len, size_t at, uint64_t code) {
+    const size_t all = starts[SEVEN];
+    /* asked for is F(15), which the shelf does not have before that place */
+    HOLD(refuses(bv_lookup(1, 15, shelf, len, NULL, 0), code, at, BV_OWN));
+    HOLD(refuses(bv_lookup(1, 15, shelf, len, F15, sizeof F15), code, at, BV_OWN));
+    HOLD(refuses(bv_lookup(1, 15, shelf, len, shelf, len), code, at, BV_OWN));
+    HOLD(refuses(bv_lookup(1, 15, NULL, 0, shelf, len), code, at, BV_HOUSE));
+    HOLD(refuses(bv_lookup(1, 15, good, all, shelf, len), code, at, BV_HOUSE));
+    HOLD(found(bv_lookup(1, 15, F15, sizeof F15, shelf, len), BV_OWN, 0, sizeof F15));
+    HOLD(refuses(bv_lookup(0, 15, shelf, len, shelf, len), BV_REFUSED_KIND, 0, 0));
+    HOLD(refuses(bv_lookup(1, 65536, shelf, len, shelf, len), BV_REFUSED_INDEX, 0, 0));
+    HOLD(shows_none(bv_browse(shelf, len, at), code, at));
+    /* up to there all is well */
+    HOLD(refuses(bv_lookup(1, 15, shelf, at, NULL, 0), BV_REFUSED_ABSENT, 0, 0));
+    HOLD(refuses(bv_lookup(1, 15, NULL, 0, shelf, at), BV_REFUSED_ABSENT, 0, 0));
+    HOLD(found(bv_lookup(1, 15, shelf, at, F15, sizeof F15), BV_HOUSE, 0, sizeof F15));
+    for (bv_browsed b = bv_browse(shelf, len, 0); b.start < at; b = bv_browse(shelf, len, b.start + b.length)) {
+        HOLD(b.code == BV_DONE && b.length > 0 && b.start + b.length <= at);
+        if (b.kind == 1 && b.n == 6 && b.start > 0)
+            continue; /* the second F(6) of good */
+        HOLD(found(bv_lookup(b.kind, b.n, shelf, len, F15, sizeof F15), BV_OWN, b.start, b.length));
+        HOLD(found(bv_lookup(b.kind, b.n, NULL, 0, shelf, len), BV_HOUSE, b.start, b.length));
+    }
+}
+
+/* Each damage to a record that stands first, in the midst and last, with F(15) after it and without; and the record cut
+ * at every place. */
+static void broken_shelves(void) {
+    uint8_t shelf[600];
+    for (size_t before = 0; before <= SEVEN; before++) {
+        const size_t at = starts[before];
+        memcpy(shelf, good, at);
+        for (size_t i = 0; i < COUNT(DAMAGES); i++) {
+            put(shelf + at, 1, 6, 1, 3, 1);
+            memcpy(shelf + at + 13, F15, sizeof F15);
+            shelf[at + DAMAGES[i].at] = DAMAGES[i].byte;
+            /* in two bytes each, F(6)'s coefficients take in three bytes of F(15), which then has no mark */
+            if (DAMAGES[i].code == BV_REFUSED_CUT)
+                HOLD(refuses(bv_lookup(1, 15, shelf, at + 13 + sizeof F15, NULL, 0), BV_REFUSED_MARK, at + 16, BV_OWN));
+            else
+                stops_at(shelf, at + 13 + sizeof F15, at, DAMAGES[i].code);
+            stops_at(shelf, at + 13, at, DAMAGES[i].code);
+        }
+        put(shelf + at, 1, 6, 1, 3, 1);
+        for (size_t end = 1; end < 13; end++)
+            stops_at(shelf, at + end, at, BV_REFUSED_CUT);
+        browsed(shelf, at + 13);
+        shelf[at + 3] = 2;
+        browsed(shelf, at + 13);
+    }
+}
+
+/* Two bytes of a header wrong: the first of its fields that is wrong decides, also where the record is the one that is
+ * asked for. */
+static void wrong_together(void) {
+    static const uint64_t codes[] = {BV_REFUSED_MARK, BV_REFUSED_MARK, BV_REFUSED_RKIND, BV_REFUSED_RWIDTH};
+    uint8_t shelf[13 + 12];
+    const size_t at = put(shelf, 1, 6, 1, 3, 1), all = sizeof shelf;
+    for (size_t i = 0; i < 10; i++)
+        for (size_t j = i; j < 10; j++) {
+            uint64_t code = i < COUNT(codes) ? codes[i] : BV_REFUSED_RCOUNT;
+            put(shelf + at, 2, 3, 1, 2, 1);
+            shelf[at + i] = shelf[at + j] = 0xAA;
+            HOLD(refuses(bv_lookup(2, 3, shelf, all, NULL, 0), code, at, BV_OWN));
+            HOLD(refuses(bv_lookup(2, 3, shelf, at, shelf, all), code, at, BV_HOUSE));
+            HOLD(shows_none(bv_browse(shelf, all, at), code, at));
+        }
+}
+
+/* One coefficient decides: at each place of F(101), the others 0, and at an address of any alignment. In b bytes those
+ * read whose magnitude needs b, and no other; all 0 need 1. */
+static void deciding(void) {
+    static uint8_t room[8 + 10 + 8 * 101 + 13];
+    for (size_t width = 1; width <= 8; width *= 2) {
+        const int64_t top = INT64_MAX >> (64 - 8 * width), less = width == 1 ? 0 : INT64_MAX >> (64 - 4 * width);
+        const int64_t right[] = {top, -top, less + 1, -less - 1}, wrong[] = {-top - 1, less, -less, 0};
+        for (size_t place = 0; place < 101; place++) {
+            uint8_t *shelf = room + place % 8, *decides = shelf + 10 + place * width;
+            const size_t length = put(shelf, 1, 101, width, 101, 0), all = length + put(shelf + length, 1, 6, 1, 3, 1);
+            for (size_t i = 0; i < 4; i++) {
+                for (size_t j = 0; j < width; j++)
+                    decides[j] = (uint8_t)((uint64_t)right[i] >> (8 * j));
+                HOLD(found(bv_lookup(1, 101, shelf, all, NULL, 0), BV_OWN, 0, length));
+                HOLD(found(bv_lookup(1, 6, shelf, all, NULL, 0), BV_OWN, length, 13));
+                HOLD(shows(bv_browse(shelf, all, 0), 0, length, 1, 101, 100));
+                for (size_t j = 0; j < width; j++)
+                    decides[j] = (uint8_t)((uint64_t)wrong[i] >> (8 * j));
+                /* of one byte 0 is as good as any */
+                uint64_t code = width == 1 && i > 0 ? BV_DONE : BV_REFUSED_WIDTH;
+                HOLD(bv_browse(shelf, all, 0).code == code);
+                if (code == BV_DONE)
+                    HOLD(found(bv_lookup(1, 101, NULL, 0, shelf, all), BV_HOUSE, 0, length));
+                else {
+                    HOLD(refuses(bv_lookup(1, 101, NULL, 0, shelf, all), code, 0, BV_HOUSE));
+                    HOLD(refuses(bv_lookup(1, 6, shelf, all, NULL, 0), code, 0, BV_OWN));
+                }
+            }
+        }
+    }
+}
+
+/* Bytes that look like a record inside one, which only browsing from there shows: F(6)'s, as coefficients of F(13). */
+static void inside(void) {
+    uint8_t shelf[36];
+    const size_t first = put(shelf, 1, 13, 1, 13, 0);
+    put(shelf + 10, 1, 6, 1, 3, 1);
+    HOLD(refuses(bv_lookup(1, 6, shelf, first, shelf, first), BV_REFUSED_ABSENT, 0, 0));
+    HOLD(found(bv_lookup(1, 13, shelf, first, NULL, 0), BV_OWN, 0, 23));
+    HOLD(shows(bv_browse(shelf, first, 0), 0, 23, 1, 13, 12));
+    HOLD(shows(bv_browse(shelf, first, 10), 10, 13, 1, 6, 2));
+    put(shelf + first, 1, 6, 1, 3, 1);
+    HOLD(found(bv_lookup(1, 6, shelf, first + 13, NULL, 0), BV_OWN, first, 13));
+    browsed(shelf, first + 13);
+}
+
+/* The longest record; and a shelf longer than 2^32 bytes, of which only the ends hold something. */
+static void long_shelves(void) {
+    static uint8_t shelf[10 + 8 * 65521 + 13];
+    const size_t first = put(shelf, 1, 65521, 8, 65521, INT64_MIN + 1), all = first + put(shelf + first, 1, 6, 1, 3, 1);
+    HOLD(shows(bv_browse(shelf, all, 0), 0, 524178, 1, 65521, 65520));
+    HOLD(found(bv_lookup(1, 65521, shelf, all, NULL, 0), BV_OWN, 0, 524178));
+    HOLD(found(bv_lookup(1, 6, shelf, all, NULL, 0), BV_OWN, 524178, 13));
+    HOLD(found(bv_lookup(1, 6, NULL, 0, shelf, all), BV_HOUSE, 524178, 13));
+    HOLD(refuses(bv_lookup(1, 6, shelf, first - 1, NULL, 0), BV_REFUSED_CUT, 0, BV_OWN));
+    shelf[first - 8] = 0; /* the last coefficient: -2^63, which has no width */
+    HOLD(refuses(bv_lookup(1, 6, shelf, all, NULL, 0), BV_REFUSED_WIDTH, 0, BV_OWN));
+    HOLD(shows_none(bv_browse(shelf, all, 0), BV_REFUSED_WIDTH, 0));
+
+    const size_t far = (size_t)1 << 32, page = 65536;
+    uint8_t *wide = mmap(NULL, page + far, PROT_READ, MAP_PRIVATE | MAP_ANONYMOUS | MAP_NORESERVE, -1, 0);
+    if (wide == MAP_FAILED || mprotect(wide, page, PROT_READ | PROT_WRITE) != 0 ||
+        mprotect(wide + far, page, PROT_READ | PROT_WRITE) != 0) {
+        printf("edges.c: there is no room for a shelf of 2^32 bytes\n");
+        exit(1);
+    }
+    put(wide, 1, 6, 1, 3, 1);
+    put(wide + far, 2, 6, 1, 5, 1);
+    HOLD(found(bv_lookup(1, 6, wide, far + page, NULL, 0), BV_OWN, 0, 13));
+    HOLD(refuses(bv_lookup(2, 6, wide, far + page, NULL, 0), BV_REFUSED_MARK, 13, BV_OWN));
+    HOLD(refuses(bv_lookup(2, 6, NULL, 0, wide, far + page), BV_REFUSED_MARK, 13, BV_HOUSE));
+    HOLD(refuses(bv_lookup(2, 6, wide, 13, wide, far + 15), BV_REFUSED_MARK, 13, BV_HOUSE));
+    HOLD(shows(bv_browse(wide, far + 15, far), far, 15, 2, 6, 4));
+    HOLD(shows_none(bv_browse(wide, far + 14, far), BV_REFUSED_CUT, far));
+    HOLD(shows_none(bv_browse(wide, far + 15, far + 1), BV_REFUSED_MARK, far + 1));
+    HOLD(shows_none(bv_browse(wide, far + 15, far - 1), BV_REFUSED_MARK, far - 1));
+    HOLD(shows_none(bv_browse(wide, far + 15, far + 15), BV_DONE, far + 15));
+    HOLD(shows_none(bv_browse(wide, far, far), BV_DONE, far));
+    HOLD(shows_none(bv_browse(wide, far, UINT64_MAX), BV_DONE, far));
+    HOLD(shows_none(bv_browse(wide, 13, far), BV_DONE, 13));
+    munmap(wide, page + far);
+}
+
+static void shelves(void) {
+    uint8_t before[sizeof good];
+    make_good();
+    memcpy(before, good, sizeof good);
+    no_lookups();
+    empty_shelves();
+    good_shelves();
+    broken_shelves();
+    wrong_together();
+    deciding();
+    inside();
+    long_shelves();
+    browsed(good, starts[SEVEN]);
+    HOLD(memcmp(before, good, sizeof good) == 0);
+}
+
 /* Each code has its name, and no other number has one. */
 static void names(void) {
-    static const char *const of[] = {"DONE",   "KIND",   "INDEX", "LIMIT", "SHORT", "OVER",  "TALL",
-                                     "STEP",   "CUT",    "MARK",  "?",     "WIDTH", "RKIND", "RWIDTH",
-                                     "RINDEX", "RCOUNT", "LIST",  "?",     "?",     "?",     "?"};
+    static const char *const of[] = {"DONE",   "KIND",   "INDEX", "LIMIT",  "SHORT", "OVER",  "TALL",
+                                     "STEP",   "CUT",    "MARK",  "?",      "WIDTH", "RKIND", "RWIDTH",
+                                     "RINDEX", "RCOUNT", "LIST",  "ABSENT", "?",     "?",     "?"};
     for (size_t code = 0; code < COUNT(of); code++)
         HOLD(strcmp(bv_name(code), of[code]) == 0);
     HOLD(strcmp(bv_name(UINT64_MAX), "?") == 0);
@@ -578,6 +901,7 @@ int main(void) {
     cascades();
     no_seconds();
     seconds();
+    shelves();
     names();
     printf("%d outcomes, all as told in bonvedrick.h\n", calls);
     return 0;

@@ -7,19 +7,24 @@ ctypes would cut a number to 64 bits without a word, so each number and each ent
 not fit its C type is an OverflowError, and what is no whole number is a TypeError. Then nothing was asked. A whole
 number is what operator.index takes for one: True is 1, numpy's whole numbers are good, 1.0 and "1" are not.
 
-Python 3.8 or later; nothing but the standard library.
+Shelves are never copied: C looks at the bytes where they are, those of a file that is mapped too, and what it finds
+comes out as a memoryview of them. Nobody may write to a shelf during a call.
+
+CPython 3.8 or later; nothing but the standard library.
 """
 
 from __future__ import annotations
 
 import ctypes
+import mmap
 import operator
 import os
 from collections.abc import Mapping, Set
-from ctypes import POINTER, c_int64, c_size_t, c_uint8, c_uint64
-from typing import Iterable, NamedTuple, SupportsIndex
+from ctypes import POINTER, c_int, c_int64, c_size_t, c_ssize_t, c_uint8, c_uint64, c_void_p
+from typing import Iterable, Iterator, NamedTuple, SupportsIndex, Union
 
 F, I = 1, 2
+OWN, HOUSE = 1, 2  # the shelves of a lookup
 NO_LIMIT = 2**63 - 1  # as h or w
 MOST_ENTRIES = 65536  # no polynomial has more
 MOST_SCRATCH = 131086  # the second engine needs no more
@@ -43,6 +48,7 @@ NAMES = {
     14: "RINDEX",
     15: "RCOUNT",
     16: "LIST",
+    17: "ABSENT",
 }
 # The codes that tell a degree, where the answer has one.
 TELL_DEGREE = {"SHORT", "OVER", "TALL"}
@@ -53,6 +59,12 @@ FIELDS = {
     "RINDEX": ("index", "from 1 to 65535"),
     "RCOUNT": ("number of coefficients", "the degree of that kind at that index, plus 1"),
 }
+# The codes of a record that doesn't read.
+UNREAD = {"CUT", "MARK", "WIDTH", *FIELDS}
+# The shelf of such a record, by its number: 0 where there is only one.
+SHELVES = {0: "shelf", OWN: "own shelf", HOUSE: "house shelf"}
+
+Shelf = Union[bytes, bytearray, memoryview, mmap.mmap]
 
 
 class Answer(NamedTuple):
@@ -96,9 +108,41 @@ class Record(NamedTuple):
     byte: int
 
 
+class Found(NamedTuple):
+    """Where a lookup found the record: the shelf it is from, and the bytes of that."""
+
+    code: int
+    byte: int
+    shelf: int
+    from_: int
+    start: int
+    length: int
+
+
+class Browsed(NamedTuple):
+    code: int
+    start: int
+    length: int
+    kind: int
+    n: int
+    degree: int
+
+
+class Entry(NamedTuple):
+    """A record on a shelf: what its header says, the byte of the shelf at which it starts, and its bytes, a part of
+    the shelf itself."""
+
+    kind: int
+    n: int
+    degree: int
+    start: int
+    record: memoryview
+
+
 WORDS = (POINTER(c_int64), c_size_t)
 BYTES = (POINTER(c_uint8), c_size_t)
 INDICES = (POINTER(c_uint64), c_size_t)
+SHELF = (c_void_p, c_size_t)
 FUNCTIONS = {  # what each answers and takes
     "bv_polynomial": (Answer, c_uint64, c_uint64, c_int64, c_int64, *WORDS),
     "bv_partial": (Stop, c_uint64, c_uint64, c_uint64, c_int64, *WORDS),
@@ -108,26 +152,35 @@ FUNCTIONS = {  # what each answers and takes
     "bv_read": (Record, *BYTES, *WORDS),
     "bv_cascade": (Answer, *INDICES, c_int64, *WORDS, *WORDS),
     "bv_second": (Answer, c_uint64, c_uint64, c_int64, *WORDS, *WORDS),
+    "bv_lookup": (Found, c_uint64, c_uint64, *SHELF, *SHELF),
+    "bv_browse": (Browsed, *SHELF, c_uint64),
 }
 
 
 class Refused(Exception):
     """A refusal: its code and name; the degree where one is told; where a field of a record is wrong, the field, the
-    byte at which it starts and what would be right. What is not told is None."""
+    byte at which it starts and what would be right. Where a record on a shelf doesn't read, the byte is that of the
+    shelf at which the record starts, and the shelf is OWN or HOUSE, or 0 where there is only one. What is not told is
+    None."""
 
-    def __init__(self, code: int, degree: int | None = None, byte: int | None = None):
-        super().__init__(code, degree, byte)  # what copy and pickle make it from again
+    def __init__(self, code: int, degree: int | None = None, byte: int | None = None, shelf: int | None = None):
+        super().__init__(code, degree, byte, shelf)  # what copy and pickle make it from again
         self.code = code
         self.name = NAMES.get(code, "?")
         self.degree = degree
         self.byte = byte
+        self.shelf = shelf
         self.field, self.right = FIELDS.get(self.name, (None, None))
 
     def __str__(self) -> str:
         text = f"{self.name} ({self.code})"
         if self.degree is not None:
             text += f", degree {self.degree}"
-        if self.field is not None:
+        if self.shelf is not None:
+            text += f", the record at byte {self.byte} of the {SHELVES[self.shelf]} doesn't read"
+            if self.field is not None:
+                text += f": its {self.field} is wrong: right is {self.right}"
+        elif self.field is not None:
             text += f", the record's {self.field}, at byte {self.byte}, is wrong: right is {self.right}"
         return text
 
@@ -238,6 +291,33 @@ class Bonvedrick:
         a = self._ask("bv_second", _u64("kind", kind), _u64("n", n), _i64("h", h), buf, work)
         return buf[: a.degree + 1], a
 
+    def lookup(
+        self, kind: SupportsIndex, n: SupportsIndex, own: Shelf = b"", house: Shelf = b""
+    ) -> tuple[memoryview, Found]:
+        """The first record of a kind and an index, in one's own shelf or else in that of the house, and the answer. The
+        record is a memoryview of that very stretch of the shelf: while it is there, a bytearray can't be resized nor an
+        mmap closed. A record on the way that doesn't read is refused; one after the record found is not seen."""
+        numbers = _u64("kind", kind), _u64("n", n)
+        with _shelf("own", own) as first, _shelf("house", house) as other:
+            a = self._ask("bv_lookup", *numbers, *_address(first), *_address(other))
+            held = first if a.from_ == OWN else other
+            return held[a.start : a.start + a.length], a
+
+    def records(self, shelf: Shelf) -> Iterator[Entry]:
+        """The records of a shelf, one after another: a generator. At a record that doesn't read it raises the refusal,
+        and then it is over."""
+        return self._records(_shelf("shelf", shelf))
+
+    def _records(self, view):
+        with view:
+            place, at = _address(view), 0
+            while True:
+                a = self._ask("bv_browse", *place, at)
+                if a.length == 0:
+                    return
+                at = a.start + a.length
+                yield Entry(a.kind, a.n, a.degree, a.start, view[a.start : at])
+
     def _ask(self, function, *arguments):
         """The answer of a C function, or Refused. An array goes over with its length."""
         passed = []
@@ -246,12 +326,22 @@ class Bonvedrick:
             if isinstance(argument, ctypes.Array):
                 passed.append(len(argument))
         told = getattr(self._library, function)(*passed)
-        if told.code != 0:
-            name = NAMES.get(told.code)
-            degree = getattr(told, "degree", None) if name in TELL_DEGREE else None
-            raise Refused(told.code, degree, told.byte if name in FIELDS else None)
         answer = FUNCTIONS[function][0]
+        if told.code != 0:
+            raise _refusal(answer, told)
         return answer._make(getattr(told, field) for field in answer._fields)
+
+
+def _refusal(answer, told):
+    """The refusal with what the answer tells beside its code."""
+    name = NAMES.get(told.code)
+    if answer in (Found, Browsed):
+        if name not in UNREAD:
+            return Refused(told.code)
+        byte, shelf = (told.byte, told.shelf) if answer is Found else (told.start, 0)
+        return Refused(told.code, None, byte, shelf)
+    degree = getattr(told, "degree", None) if name in TELL_DEGREE else None
+    return Refused(told.code, degree, told.byte if name in FIELDS else None)
 
 
 def _struct(answer):
@@ -311,3 +401,40 @@ def _bytes(data):
         raise TypeError(f"a record is bytes, a bytearray or a memoryview, not {type(data).__name__}")
     data = bytes(data)
     return (c_uint8 * len(data)).from_buffer_copy(data)
+
+
+def _shelf(name, data):
+    """A view of a shelf's bytes, where they are. A memoryview that leaves some out has none that stand in a row."""
+    if not isinstance(data, (bytes, bytearray, memoryview, mmap.mmap)):
+        sort = type(data).__name__
+        raise TypeError(f"{name}: a shelf is bytes, a bytearray, a memoryview or an mmap, not {sort}")
+    view = memoryview(data)
+    if not view.c_contiguous:
+        raise TypeError(f"{name}: the bytes of a shelf stand in a row")
+    return view.cast("B")
+
+
+class _Buffer(ctypes.Structure):
+    """C's Py_buffer: where the bytes of an object are."""
+
+    _fields_ = [
+        *(("buf", c_void_p), ("obj", c_void_p), ("len", c_ssize_t), ("itemsize", c_ssize_t), ("readonly", c_int)),
+        *(("ndim", c_int), ("format", c_void_p), ("shape", c_void_p), ("strides", c_void_p)),
+        *(("suboffsets", c_void_p), ("internal", c_void_p)),
+    ]
+
+
+# ctypes itself lends only what may be written to, which bytes and a file that is mapped to be read may not.
+_get_buffer = ctypes.PYFUNCTYPE(c_int, ctypes.py_object, POINTER(_Buffer), c_int)(
+    ("PyObject_GetBuffer", ctypes.pythonapi)
+)
+_release_buffer = ctypes.PYFUNCTYPE(None, POINTER(_Buffer))(("PyBuffer_Release", ctypes.pythonapi))
+
+
+def _address(view):
+    """Where the bytes of a view are, and how many: there they stay until it is released."""
+    buffer = _Buffer()
+    _get_buffer(view, ctypes.byref(buffer), 0)
+    place = buffer.buf, buffer.len
+    _release_buffer(ctypes.byref(buffer))
+    return place

@@ -1,4 +1,5 @@
-"""Tests of the wrapper: numbers of every size in every place, what is no number, and refusals that are carried around.
+"""Tests of the wrapper: numbers of every size in every place, what is no number, shelves of every sort that are not
+copied, and refusals that are carried around.
 Usage: test_bonvedrick.py libbonvedrick.so [words of unittest]"""
 
 import array
@@ -6,14 +7,17 @@ import copy
 import ctypes
 import decimal
 import enum
+import mmap
 import multiprocessing
 import pickle
 import sys
+import tempfile
+import tracemalloc
 import unittest
 from unittest import mock
 
 import bonvedrick
-from bonvedrick import F, I, NAMES, NO_LIMIT, Answer, Bonvedrick, Refused, Stop, registers
+from bonvedrick import F, HOUSE, I, NAMES, NO_LIMIT, OWN, Answer, Bonvedrick, Entry, Found, Refused, Stop, registers
 
 CDLL = ctypes.CDLL
 LIBRARY = None  # the path, from the command line
@@ -26,12 +30,16 @@ NO_NUMBERS = [1.0, 1.5, float("nan"), "3", "", b"1", None, [1], (1,), 1j, decima
 
 F6, F6_RECORD = [1, -1, 1], bytes.fromhex("c9 50 01 01 06 00 03 00 00 00 01 ff 01")
 F15, I15 = [1, -1, 0, 1, -1, 1, 0, -1, 1], [-1, -1, -1, 0, 0, 1, 1, 1]
+I6_RECORD = bytes.fromhex("c9 50 02 02 06 00 05 00 00 00 ff ff ff ff 00 00 01 00 2c 01")
+I1_RECORD = bytes.fromhex("c9 50 02 01 01 00 01 00 00 00 7f")
+OTHER_F6 = F6_RECORD[:10] + bytes([5, 5, 5])
 
 
 class Counting:
     """Stands in for ctypes.CDLL: the library, with the calls of its functions counted."""
 
     calls = 0
+    arguments = ()  # of the last call
 
     def __init__(self, path):
         self._library = CDLL(path)
@@ -41,6 +49,7 @@ class Counting:
 
         def counted(*arguments):
             Counting.calls += 1
+            Counting.arguments = arguments
             function.restype, function.argtypes = counted.restype, counted.argtypes
             return function(*arguments)
 
@@ -48,8 +57,8 @@ class Counting:
         return counted
 
 
-def refused(name, degree=None, byte=None):
-    return ("refused", name, degree, byte)
+def refused(name, degree=None, byte=None, shelf=None):
+    return ("refused", name, degree, byte, shelf)
 
 
 def u64(v):
@@ -122,6 +131,7 @@ F15_STOPS = {0: ([1, 0, 0, 0, 0], Stop(0, 4, 0, 3)), 1: ([1, -1, 0, 0, 0], Stop(
 I15_STOP = ([-1, -1, -1, -1], Stop(0, 3, 3, 2))
 BY_8 = ([1] * 8, Answer(0, 7, 0, 1, 0, 8))
 F15_SECOND, I15_SECOND = (F15, Answer(0, 8, 0, 1, 0, 1)), (I15, Answer(0, 7, 0, 1, 0, 0))
+F6_FOUND = (F6_RECORD, Found(0, 0, 0, HOUSE, 20, 13))
 
 # For each function good arguments, and for each number among them what fits its C type and what the rules give then.
 REQUESTS = {
@@ -175,6 +185,13 @@ REQUESTS = {
             scratch=entries(46, F15_SECOND, 8),
         ),
     ),
+    "lookup": (
+        dict(kind=F, n=6, own=I1_RECORD, house=I6_RECORD + F6_RECORD),
+        dict(
+            kind=kinds(F6_FOUND, (I6_RECORD, Found(0, 0, 0, HOUSE, 0, 20))),
+            n=only(6, F6_FOUND, "INDEX"),
+        ),
+    ),
 }
 # The lists among the arguments, what fits their C type, and what the rules give for any numbers of 64 bits in them.
 LISTS = {
@@ -197,7 +214,7 @@ class Wrapper(unittest.TestCase):
         try:
             came = getattr(self.bv, function)(**arguments)
         except Refused as e:
-            came = refused(e.name, e.degree, e.byte)
+            came = refused(e.name, e.degree, e.byte, e.shelf)
         except (OverflowError, TypeError) as e:
             came = type(e)
         return came, Counting.calls
@@ -364,6 +381,151 @@ class Lists(Wrapper):
         self.assertEqual(self.bv.accumulate(2, self.bv.comb(2, entries[1:])), entries[1:])
 
 
+def damaged(at, byte):
+    return F6_RECORD[:at] + bytes([byte]) + F6_RECORD[at + 1 :]
+
+
+# F(6)'s record that doesn't read, in every way: cut at each place, and each code with a byte changed.
+BROKEN = [("CUT", F6_RECORD[:end]) for end in range(1, 13)]
+BROKEN += [(name, damaged(at, byte)) for at, byte, name in [(0, 0, "MARK"), (2, 3, "RKIND"), (3, 3, "RWIDTH")]]
+BROKEN += [(name, damaged(at, byte)) for at, byte, name in [(4, 0, "RINDEX"), (6, 9, "RCOUNT"), (12, 128, "WIDTH")]]
+
+
+class Shelves(Wrapper):
+    def told(self, kind, n, own, house):
+        came, calls = self.outcome("lookup", kind=kind, n=n, own=own, house=house)
+        self.assertEqual(calls, 1)
+        return came
+
+    def test_the_own_shelf_first_and_the_first_record_of_it(self):
+        own, house = I6_RECORD + F6_RECORD + OTHER_F6, OTHER_F6 + I1_RECORD + F6_RECORD + I1_RECORD
+        self.assertEqual(self.told(F, 6, own, house), (F6_RECORD, Found(0, 0, 0, OWN, 20, 13)))
+        self.assertEqual(self.told(F, 6, house, own), (OTHER_F6, Found(0, 0, 0, OWN, 0, 13)))
+        self.assertEqual(self.told(I, 1, own, house), (I1_RECORD, Found(0, 0, 0, HOUSE, 13, 11)))
+        self.assertEqual(self.told(I, 6, b"", own), (I6_RECORD, Found(0, 0, 0, HOUSE, 0, 20)))
+        self.assertEqual(self.told(I, 6, own, b""), (I6_RECORD, Found(0, 0, 0, OWN, 0, 20)))
+        self.assertEqual(self.told(I, 6, own, own), (I6_RECORD, Found(0, 0, 0, OWN, 0, 20)))
+        self.assertEqual(self.told(F, 262, own, house), refused("ABSENT"))
+        self.assertEqual(self.outcome("lookup", kind=F, n=6), (refused("ABSENT"), 1))
+        record, _ = self.bv.lookup(I, 6, own, house)
+        self.assertEqual(self.bv.read(record), (I, 6, [-1, -1, 0, 1, 300], 20))
+
+    def test_a_record_that_does_not_read_stops_a_lookup(self):
+        good = I6_RECORD + I1_RECORD
+        for name, broken in BROKEN:
+            with self.subTest(name=name, length=len(broken)):
+                shelf = good + broken
+                # the house is not looked at where one's own shelf stops
+                self.assertEqual(self.told(F, 6, shelf, F6_RECORD), refused(name, byte=31, shelf=OWN))
+                self.assertEqual(self.told(F, 6, good, shelf), refused(name, byte=31, shelf=HOUSE))
+                self.assertEqual(self.told(F, 6, broken, F6_RECORD), refused(name, byte=0, shelf=OWN))
+                self.assertEqual(self.told(F, 0, shelf, shelf), refused("INDEX"))
+                # what comes after a match is not seen
+                self.assertEqual(self.told(I, 1, shelf, broken)[1], Found(0, 0, 0, OWN, 20, 11))
+                self.assertEqual(self.told(F, 6, F6_RECORD, shelf)[1], Found(0, 0, 0, OWN, 0, 13))
+
+    def test_records_come_one_after_another(self):
+        shelf = I6_RECORD + F6_RECORD + I1_RECORD + OTHER_F6
+        entries = [
+            *(Entry(I, 6, 4, 0, I6_RECORD), Entry(F, 6, 2, 20, F6_RECORD)),
+            *(Entry(I, 1, 0, 33, I1_RECORD), Entry(F, 6, 2, 44, OTHER_F6)),
+        ]
+        self.assertEqual(list(self.bv.records(shelf)), entries)
+        self.assertEqual(list(self.bv.records(b"")), [])
+        for name, broken in BROKEN:
+            with self.subTest(name=name, length=len(broken)):
+                walk = self.bv.records(shelf + broken)
+                self.assertEqual([next(walk) for _ in entries], entries)
+                with self.assertRaises(Refused) as caught:
+                    next(walk)
+                e = caught.exception
+                self.assertEqual((e.name, e.degree, e.byte, e.shelf), (name, None, len(shelf), 0))
+                self.assertEqual(list(walk), [])
+
+    def sorts(self):
+        """A shelf of I(6), F(6) and I(1) in each sort of bytes, and the object that holds them."""
+        shelf = I6_RECORD + F6_RECORD + I1_RECORD
+        lent = bytearray(shelf)
+        around = b"abc" + shelf + b"def"
+        pairs = array.array("H", shelf)  # twenty-two of two bytes each
+        yield shelf, shelf
+        yield lent, lent
+        yield memoryview(shelf), shelf
+        yield memoryview(lent), lent
+        yield memoryview(around)[3:-3], around
+        yield memoryview(pairs), pairs
+        yield memoryview(lent).cast("B", (4, 11)), lent
+        with tempfile.TemporaryFile() as file:
+            file.write(shelf)
+            file.flush()
+            for access in mmap.ACCESS_READ, mmap.ACCESS_WRITE, mmap.ACCESS_COPY:
+                mapped = mmap.mmap(file.fileno(), 0, access=access)
+                yield mapped, mapped
+                mapped.close()  # nothing of it is held any more
+
+    def test_of_every_sort_and_the_stretch_is_a_part_of_it(self):
+        for shelf, holder in self.sorts():
+            with self.subTest(sort=type(shelf), holder=type(holder)):
+                own, found = self.bv.lookup(F, 6, shelf)
+                self.assertEqual((own, found), (F6_RECORD, Found(0, 0, 0, OWN, 20, 13)))
+                house, _ = self.bv.lookup(F, 6, I1_RECORD, shelf)
+                entries = list(self.bv.records(shelf))
+                self.assertEqual([e.record for e in entries], [I6_RECORD, F6_RECORD, I1_RECORD])
+                for stretch in [own, house, *(e.record for e in entries)]:
+                    self.assertIs(stretch.obj, holder)
+                    self.assertEqual((stretch.format, stretch.ndim, stretch.c_contiguous), ("B", 1, True))
+                    stretch.release()
+        changing = bytearray(I6_RECORD + F6_RECORD)
+        record, _ = self.bv.lookup(F, 6, changing)
+        changing[30] = 9
+        self.assertEqual(record[10], 9)
+
+    def test_c_is_lent_the_very_bytes(self):
+        one, two = I6_RECORD + F6_RECORD, bytearray(I1_RECORD + OTHER_F6)
+        first = ctypes.cast(ctypes.c_char_p(one), ctypes.c_void_p).value
+        second = ctypes.addressof((ctypes.c_uint8 * len(two)).from_buffer(two))
+        self.told(F, 6, memoryview(one)[20:], two)
+        self.assertEqual(Counting.arguments, (F, 6, first + 20, 13, second, len(two)))
+        for at, _ in zip((0, 20), self.bv.records(one)):
+            self.assertEqual(Counting.arguments, (first, len(one), at))
+
+    def test_no_copy_is_made_of_a_large_one(self):
+        large, coeffs = bytearray(), [1] * 65521
+        while len(large) < 2**22:
+            large += self.bv.write(F, 65521, coeffs)
+        for shelf in bytes(large), large, memoryview(large):
+            tracemalloc.start()
+            self.assertEqual(self.told(F, 6, shelf, shelf), refused("ABSENT"))
+            self.assertEqual(sum(e.n for e in self.bv.records(shelf)), len(large) // 65531 * 65521)
+            _, most = tracemalloc.get_traced_memory()
+            tracemalloc.stop()
+            self.assertLess(most, 2**18)
+
+    def test_nothing_is_held_after_a_refusal_or_the_end(self):
+        shelf = bytearray(F6_RECORD + b"x")
+        kept = []
+        for ask in lambda: self.bv.lookup(I, 6, shelf), lambda: list(self.bv.records(shelf)):
+            try:
+                ask()
+            except Refused as e:
+                kept.append(e)  # with the frames that it came through
+        told = "CUT (8), the record at byte 13 of the own shelf doesn't read"
+        self.assertEqual([str(e) for e in kept], [told, told.replace("own ", "")])
+        shelf.pop()
+        self.assertEqual([e.start for e in self.bv.records(shelf)], [0])
+        shelf.clear()
+
+    def test_what_is_no_shelf(self):
+        twice = bytes(b for byte in F6_RECORD for b in (byte, 0))
+        no_shelves = ["c950", list(F6_RECORD), None, 13, array.array("B", F6_RECORD), 1.5, {}, memoryview(twice)[::2]]
+        for data in no_shelves:
+            with self.subTest(sort=type(data)):
+                for own, house in (data, F6_RECORD), (F6_RECORD, data):
+                    asked = self.outcome("lookup", kind=F, n=6, own=own, house=house)
+                    self.assertEqual(asked, (TypeError, 0))
+                self.assertEqual(self.outcome("records", shelf=data), (TypeError, 0))
+
+
 class Refusals(Wrapper):
     def each(self):
         """A refusal of each code, and one that this wrapper does not know, with what it says."""
@@ -382,10 +544,13 @@ class Refusals(Wrapper):
             ("LIST", lambda: self.bv.cascade([])),
             ("TALL", lambda: self.bv.cascade([2, 2], 1)),
             ("SHORT", lambda: self.bv.second(F, 15, scratch=45)),
+            ("ABSENT", lambda: self.bv.lookup(F, 6, I6_RECORD, I1_RECORD)),
+            ("WIDTH", lambda: self.bv.lookup(F, 6, I6_RECORD + damaged(10, 128), F6_RECORD)),
+            ("RCOUNT", lambda: self.bv.lookup(F, 6, I6_RECORD, damaged(6, 9))),
+            ("RKIND", lambda: list(self.bv.records(F6_RECORD + damaged(2, 3)))),
         ]
         for at, byte, name in [(0, 0, "MARK"), *fields, (10, 128, "WIDTH")]:
-            damaged = F6_RECORD[:at] + bytes([byte]) + F6_RECORD[at + 1 :]
-            asked.append((name, lambda damaged=damaged: self.bv.read(damaged)))
+            asked.append((name, lambda at=at, byte=byte: self.bv.read(damaged(at, byte))))
         for name, ask in asked:
             with self.assertRaises(Refused) as caught:
                 ask()
@@ -414,6 +579,11 @@ class Refusals(Wrapper):
                 "LIST (16)",
                 "TALL (6), degree 2",
                 "SHORT (4), degree 8",
+                "ABSENT (17)",
+                "WIDTH (11), the record at byte 20 of the own shelf doesn't read",
+                "RCOUNT (15), the record at byte 0 of the house shelf doesn't read: its number of coefficients is"
+                " wrong: right is the degree of that kind at that index, plus 1",
+                "RKIND (12), the record at byte 13 of the shelf doesn't read: its kind is wrong: right is 1 or 2",
                 "MARK (9)",
                 "RKIND (12), the record's kind, at byte 2, is wrong: right is 1 or 2",
                 "RWIDTH (13), the record's width, at byte 3, is wrong: right is 1, 2, 4 or 8",

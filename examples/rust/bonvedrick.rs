@@ -6,6 +6,7 @@
 #![allow(dead_code)]
 
 use std::fmt;
+use std::iter::FusedIterator;
 
 /// The C functions and their answers, as include/bonvedrick.h has them.
 mod c {
@@ -51,6 +52,26 @@ mod c {
         pub byte: u64,
     }
 
+    #[repr(C)]
+    pub struct Found {
+        pub code: u64,
+        pub byte: u64,
+        pub shelf: u64,
+        pub from: u64,
+        pub start: u64,
+        pub length: u64,
+    }
+
+    #[repr(C)]
+    pub struct Browsed {
+        pub code: u64,
+        pub start: u64,
+        pub length: u64,
+        pub kind: u64,
+        pub n: u64,
+        pub degree: u64,
+    }
+
     unsafe extern "C" {
         pub fn bv_polynomial(kind: u64, n: u64, h: i64, w: i64, buf: *mut i64, len: usize) -> Answer;
         pub fn bv_partial(kind: u64, n: u64, j: u64, w: i64, buf: *mut i64, len: usize) -> Stop;
@@ -58,6 +79,15 @@ mod c {
         pub fn bv_accumulate(size: u64, w: i64, buf: *mut i64, len: usize) -> Step;
         pub fn bv_write(kind: u64, n: u64, coeffs: *const i64, count: usize, bytes: *mut u8, len: usize) -> Written;
         pub fn bv_read(bytes: *const u8, len: usize, coeffs: *mut i64, count: usize) -> Record;
+        pub fn bv_lookup(
+            kind: u64,
+            n: u64,
+            own: *const u8,
+            own_len: usize,
+            house: *const u8,
+            house_len: usize,
+        ) -> Found;
+        pub fn bv_browse(shelf: *const u8, len: usize, at: u64) -> Browsed;
         pub fn bv_cascade(
             indices: *const u64,
             count: usize,
@@ -128,9 +158,44 @@ impl Field {
     }
 }
 
+/// One of the two shelves of `lookup`.
+#[derive(Clone, Copy, Debug, PartialEq, Eq)]
+pub enum Shelf {
+    Own = 1,
+    House = 2,
+}
+
+impl Shelf {
+    fn of(told: u64) -> Shelf {
+        if told == 1 { Shelf::Own } else { Shelf::House }
+    }
+}
+
+/// What is wrong with a record on a shelf.
+#[derive(Clone, Copy, Debug, PartialEq, Eq)]
+pub enum Fault {
+    Cut,
+    Mark,
+    Width,
+    Field(Field),
+}
+
+impl fmt::Display for Fault {
+    fn fmt(&self, f: &mut fmt::Formatter<'_>) -> fmt::Result {
+        match self {
+            Fault::Cut => f.write_str("it ends early"),
+            Fault::Mark => f.write_str("its bytes are not those of a record"),
+            Fault::Width => f.write_str("its coefficients are not in the width that `write` would choose"),
+            Fault::Field(field) => write!(f, "its {} is wrong: right is {}", field.name(), field.right()),
+        }
+    }
+}
+
 /// Why nothing was delivered. The degree is that of the polynomial, and for `partial` that of its lower half; it is
 /// `None` where the request tells none, as a step does. `Field` is of `write` and `read`: the field that is wrong, and
-/// the byte of the record at which it starts. `List` is of `cascade`.
+/// the byte of the record at which it starts. `List` is of `cascade`. `Record` is of `lookup` and `records`: a record
+/// on the way doesn't read; the byte is that of the shelf at which it starts, and the shelf is `None` where there is
+/// only one. `Absent` is of `lookup`.
 #[derive(Clone, Copy, Debug, PartialEq, Eq)]
 pub enum Refusal {
     Kind,
@@ -145,6 +210,8 @@ pub enum Refusal {
     Width,
     Field { field: Field, byte: usize },
     List,
+    Record { fault: Fault, byte: usize, shelf: Option<Shelf> },
+    Absent,
     /// A code that this wrapper doesn't know: a later library.
     Unknown(u64),
 }
@@ -171,7 +238,24 @@ impl Refusal {
             14 => wrong(Field::Index),
             15 => wrong(Field::Count),
             16 => Refusal::List,
+            17 => Refusal::Absent,
             other => Refusal::Unknown(other),
+        }
+    }
+
+    /// The refusal of a code where shelves are looked at. The place is looked at only with the codes of a record that
+    /// doesn't read.
+    pub(crate) fn on_shelf(code: u64, byte: u64, shelf: Option<Shelf>) -> Refusal {
+        let record = |fault| Refusal::Record { fault, byte: place(byte), shelf };
+        match code {
+            8 => record(Fault::Cut),
+            9 => record(Fault::Mark),
+            11 => record(Fault::Width),
+            12 => record(Fault::Field(Field::Kind)),
+            13 => record(Fault::Field(Field::Width)),
+            14 => record(Fault::Field(Field::Index)),
+            15 => record(Fault::Field(Field::Count)),
+            other => Refusal::of(other, None, 0),
         }
     }
 
@@ -185,14 +269,17 @@ impl Refusal {
             Refusal::Over { .. } => 5,
             Refusal::Tall { .. } => 6,
             Refusal::Step => 7,
-            Refusal::Cut => 8,
-            Refusal::Mark => 9,
-            Refusal::Width => 11,
-            Refusal::Field { field: Field::Kind, .. } => 12,
-            Refusal::Field { field: Field::Width, .. } => 13,
-            Refusal::Field { field: Field::Index, .. } => 14,
-            Refusal::Field { field: Field::Count, .. } => 15,
+            Refusal::Cut | Refusal::Record { fault: Fault::Cut, .. } => 8,
+            Refusal::Mark | Refusal::Record { fault: Fault::Mark, .. } => 9,
+            Refusal::Width | Refusal::Record { fault: Fault::Width, .. } => 11,
+            Refusal::Field { field, .. } | Refusal::Record { fault: Fault::Field(field), .. } => match field {
+                Field::Kind => 12,
+                Field::Width => 13,
+                Field::Index => 14,
+                Field::Count => 15,
+            },
             Refusal::List => 16,
+            Refusal::Absent => 17,
             Refusal::Unknown(code) => code,
         }
     }
@@ -216,6 +303,15 @@ impl fmt::Display for Refusal {
                 write!(f, "the record's {}, at byte {byte}, is wrong: right is {}", field.name(), field.right())
             }
             Refusal::List => f.write_str("a cascade has from 1 to 8 indices and a degree of at most 65535"),
+            Refusal::Record { fault, byte, shelf } => {
+                let whose = match shelf {
+                    Some(Shelf::Own) => "own ",
+                    Some(Shelf::House) => "house ",
+                    None => "",
+                };
+                write!(f, "the record at byte {byte} of the {whose}shelf doesn't read: {fault}")
+            }
+            Refusal::Absent => f.write_str("neither shelf has such a record"),
             Refusal::Unknown(code) => write!(f, "code {code}"),
         }
     }
@@ -223,7 +319,8 @@ impl fmt::Display for Refusal {
 
 impl std::error::Error for Refusal {}
 
-/// A degree, a place or a count of bytes that the library told: at most 10 + 8 * 65536, so it fits and is never cut.
+/// A degree, a place or a count of bytes that the library told: at most 10 + 8 * 65536, or the length of a slice that
+/// was lent, so it fits and is never cut.
 fn place(told: u64) -> usize {
     usize::try_from(told).expect("the library told a place that no slice has")
 }
@@ -259,6 +356,26 @@ pub struct Record<'a> {
     pub n: u64,
     pub coeffs: &'a mut [i64],
     pub used: usize,
+}
+
+/// A record that `lookup` found, where it stands: its bytes, a part of the shelf itself, which shelf that is, and the
+/// byte of it at which they start.
+#[derive(Clone, Copy, Debug, PartialEq, Eq)]
+pub struct Stretch<'a> {
+    pub bytes: &'a [u8],
+    pub from: Shelf,
+    pub start: usize,
+}
+
+/// A record that `records` met, where it stands: what its header says, its bytes, a part of the shelf itself, and the
+/// byte of the shelf at which they start.
+#[derive(Clone, Copy, Debug, PartialEq, Eq)]
+pub struct Entry<'a> {
+    pub kind: Kind,
+    pub n: u64,
+    pub degree: usize,
+    pub bytes: &'a [u8],
+    pub start: usize,
 }
 
 // SAFETY of each call below: a Rust slice is what the library asks of a pointer and a length, and `&mut` is alone.
@@ -307,9 +424,58 @@ pub fn write<'a>(kind: Kind, n: u64, coeffs: &[i64], bytes: &'a mut [u8]) -> Res
 pub fn read<'a>(bytes: &[u8], coeffs: &'a mut [i64]) -> Result<Record<'a>, Refusal> {
     let a = unsafe { c::bv_read(bytes.as_ptr(), bytes.len(), coeffs.as_mut_ptr(), coeffs.len()) };
     outcome(a.code, Some(a.degree), a.byte)?;
-    let kind = if a.kind == 1 { Kind::F } else { Kind::I };
-    Ok(Record { kind, n: a.n, coeffs: &mut coeffs[..=place(a.degree)], used: place(a.used) })
+    Ok(Record { kind: kind_of(a.kind), n: a.n, coeffs: &mut coeffs[..=place(a.degree)], used: place(a.used) })
 }
+
+/// The kind that the library told of a record: 1 or 2.
+fn kind_of(told: u64) -> Kind {
+    if told == 1 { Kind::F } else { Kind::I }
+}
+
+/// The first record of a kind and an index, in one's own shelf or else in that of the house: no copy, its bytes are
+/// those of the shelf. A record on the way that doesn't read is a refusal; one after the record found is not seen.
+pub fn lookup<'a>(kind: Kind, n: u64, own: &'a [u8], house: &'a [u8]) -> Result<Stretch<'a>, Refusal> {
+    let a = unsafe { c::bv_lookup(kind as u64, n, own.as_ptr(), own.len(), house.as_ptr(), house.len()) };
+    if a.code != 0 {
+        return Err(Refusal::on_shelf(a.code, a.byte, Some(Shelf::of(a.shelf))));
+    }
+    let (from, start) = (Shelf::of(a.from), place(a.start));
+    let shelf = if from == Shelf::Own { own } else { house };
+    Ok(Stretch { bytes: &shelf[start..][..place(a.length)], from, start })
+}
+
+/// The records of a shelf, one after another. A record that doesn't read ends it: its refusal is given, once, and then
+/// `None`, as after the last record, however often it is asked.
+pub fn records(shelf: &[u8]) -> Records<'_> {
+    Records { shelf, at: 0 }
+}
+
+/// A shelf and a place in it.
+#[derive(Clone, Debug)]
+pub struct Records<'a> {
+    shelf: &'a [u8],
+    at: usize,
+}
+
+impl<'a> Iterator for Records<'a> {
+    type Item = Result<Entry<'a>, Refusal>;
+
+    fn next(&mut self) -> Option<Self::Item> {
+        let a = unsafe { c::bv_browse(self.shelf.as_ptr(), self.shelf.len(), self.at as u64) };
+        if a.code != 0 {
+            self.at = self.shelf.len(); // so that nothing more comes
+            return Some(Err(Refusal::on_shelf(a.code, a.start, None)));
+        }
+        if a.length == 0 {
+            return None;
+        }
+        let (start, bytes) = (self.at, &self.shelf[self.at..][..place(a.length)]);
+        self.at += bytes.len();
+        Some(Ok(Entry { kind: kind_of(a.kind), n: a.n, degree: place(a.degree), bytes, start }))
+    }
+}
+
+impl FusedIterator for Records<'_> {}
 
 /// The product of F(n) over the indices. The scratch is to work in, and needs as many entries as the longest factor has.
 pub fn cascade<'a>(

@@ -1,10 +1,12 @@
 //! A mains notch in Rust, over the safe wrapper. At 750 samples a second 50 Hz is one turn in 15 samples, so F(15)
 //! stops it. It asks, grows the buffer as the refusal tells, shows how the polynomial grows divisor by divisor, and
-//! stores it. Then it asks which registers of a chip the steps of a larger one fit, for a cascade, and both engines.
+//! stores it. Then it asks which registers of a chip the steps of a larger one fit, for a cascade, and both engines; and
+//! finds the record on a shelf.
 mod bonvedrick;
 
 use bonvedrick::{
-    Kind, NO_LIMIT, Refusal, accumulate, cascade, comb, partial, polynomial, read, registers, second, write,
+    Kind, NO_LIMIT, Refusal, accumulate, cascade, comb, lookup, partial, polynomial, read, records, registers, second,
+    write,
 };
 
 const RATE: u64 = 750;
@@ -46,6 +48,7 @@ fn main() -> Result<(), Refusal> {
 
     let mut bytes = [0; 32];
     let record = write(Kind::F, N, f.coeffs, &mut bytes)?;
+    let stored = record.to_vec();
     println!("record: {record:02X?}");
     let mut again = [0; 16];
     let r = read(record, &mut again)?;
@@ -82,5 +85,20 @@ fn main() -> Result<(), Refusal> {
     println!("F({N}) by the second engine, no scratch: {:?}", second(Kind::F, N, 1, &mut buf, &mut []));
     let other = second(Kind::F, N, 1, &mut buf, &mut scratch)?;
     println!("in {} entries of scratch: the same coefficients: {}", scratch.len(), other.coeffs == f.coeffs);
+
+    // the house has F(6) and our notch; one's own shelf is a copy that was cut short
+    let mut house = write(Kind::F, 6, &[1, -1, 1], &mut bytes)?.to_vec();
+    house.extend(&stored);
+    for record in records(&house) {
+        let r = record?;
+        println!("on the house shelf: {:?}({}), {} bytes from byte {}", r.kind, r.n, r.bytes.len(), r.start);
+    }
+    let found = lookup(Kind::F, N, &[], &house)?;
+    let again = read(found.bytes, &mut buf)?.coeffs == f.coeffs;
+    println!("F({N}) is on the {:?} shelf, at byte {}: the same coefficients: {again}", found.from, found.start);
+    println!("I({N}): {:?}", lookup(Kind::I, N, &[], &house));
+    if let Err(e) = lookup(Kind::F, N, &house[..20], &house) {
+        println!("with one's own shelf cut short: {e}");
+    }
     Ok(())
 }

@@ -3,7 +3,8 @@
 mod bonvedrick;
 
 use bonvedrick::{
-    Field, Kind, NO_LIMIT, Refusal, accumulate, cascade, comb, partial, polynomial, read, registers, second, write,
+    Fault, Field, Kind, NO_LIMIT, Refusal, Shelf, Stretch, accumulate, cascade, comb, lookup, partial, polynomial,
+    read, records, registers, second, write,
 };
 
 /// F(6) and its record.
@@ -41,7 +42,8 @@ fn every_code_has_its_refusal() {
         (14, Refusal::Field { field: Field::Index, byte }),
         (15, Refusal::Field { field: Field::Count, byte }),
         (16, Refusal::List),
-        (17, Refusal::Unknown(17)),
+        (17, Refusal::Absent),
+        (18, Refusal::Unknown(18)),
         (u64::MAX, Refusal::Unknown(u64::MAX)),
     ];
     for (code, refusal) in refusals {
@@ -51,6 +53,8 @@ fn every_code_has_its_refusal() {
     }
     for code in 1..40 {
         assert_eq!(Refusal::of(code, None, 0).code(), code);
+        assert_eq!(Refusal::on_shelf(code, 13, Some(Shelf::Own)).code(), code);
+        assert_eq!(Refusal::on_shelf(code, 13, None).code(), code);
     }
     assert_eq!(Refusal::of(4, None, 0), Refusal::Short { degree: None });
     assert_eq!(Refusal::of(5, None, 0), Refusal::Over { degree: None });
@@ -249,4 +253,144 @@ fn both_engines_deliver_the_same() {
             assert!(scratch[room..].iter().all(|&entry| entry == 77));
         }
     }
+}
+
+/// F(6) with another coefficient, I(6), and I(1), each as a record.
+fn three() -> [Vec<u8>; 3] {
+    let record = |kind, n, coeffs: &[i64]| write(kind, n, coeffs, &mut [0; 99]).unwrap().to_vec();
+    [record(Kind::F, 6, &[5, 5, 5]), record(Kind::I, 6, &[-1, -1, 0, 1, 300]), record(Kind::I, 1, &[NO_LIMIT])]
+}
+
+fn broken(fault: Fault, byte: usize, shelf: Option<Shelf>) -> Refusal {
+    Refusal::Record { fault, byte, shelf }
+}
+
+/// What is wrong with F(6)'s record when one byte of it is another.
+const FAULTS: [(usize, u8, Fault); 6] = [
+    (1, 0x51, Fault::Mark),
+    (2, 0, Fault::Field(Field::Kind)),
+    (3, 3, Fault::Field(Field::Width)),
+    (4, 0, Fault::Field(Field::Index)),
+    (6, 2, Fault::Field(Field::Count)),
+    (12, 0x80, Fault::Width),
+];
+
+#[test]
+fn a_record_is_found_in_ones_own_shelf_first_and_not_copied() {
+    let [six, inverse, one] = three();
+    let own = [&inverse[..], &RECORD, &six].concat();
+    let house = [&six[..], &one, &inverse, &one].concat();
+    // the stretch outlives all but the shelves
+    fn asked<'a>(kind: Kind, n: u64, own: &'a [u8], house: &'a [u8]) -> Stretch<'a> {
+        lookup(kind, n, own, house).unwrap()
+    }
+    let f = asked(Kind::F, 6, &own, &house);
+    assert_eq!((f.from, f.start, f.bytes), (Shelf::Own, 20, &RECORD[..]));
+    assert!(std::ptr::eq(f.bytes, &own[20..33]));
+    let f = asked(Kind::I, 1, &own, &house);
+    assert_eq!((f.from, f.start, f.bytes), (Shelf::House, 13, &one[..]));
+    assert!(std::ptr::eq(f.bytes, &house[13..31]));
+    // the other way round, and with one shelf empty
+    let f = asked(Kind::F, 6, &house, &own);
+    assert_eq!((f.from, f.start, f.bytes), (Shelf::Own, 0, &six[..]));
+    assert_eq!(asked(Kind::I, 6, &[], &own), Stretch { bytes: &inverse, from: Shelf::House, start: 0 });
+    assert_eq!(asked(Kind::I, 6, &own, &[]), Stretch { bytes: &inverse, from: Shelf::Own, start: 0 });
+    // and read where it is
+    let mut coeffs = [77; 6];
+    let r = read(asked(Kind::I, 6, &own, &house).bytes, &mut coeffs).unwrap();
+    assert_eq!((r.kind, r.n, &*r.coeffs, r.used), (Kind::I, 6, &[-1, -1, 0, 1, 300][..], 20));
+}
+
+#[test]
+fn a_lookup_is_refused_with_the_place_and_the_shelf() {
+    let [six, inverse, one] = three();
+    let good = [&inverse[..], &one].concat();
+    for n in [0, 65536, u64::MAX] {
+        assert_eq!(lookup(Kind::F, n, &[1], &[2]), Err(Refusal::Index));
+    }
+    assert_eq!(lookup(Kind::F, 6, &[], &[]), Err(Refusal::Absent));
+    assert_eq!(lookup(Kind::F, 6, &good, &good), Err(Refusal::Absent));
+    assert_eq!(lookup(Kind::F, 262, &six, &six), Err(Refusal::Absent));
+    let mut cases: Vec<_> = (1..13).map(|end| (RECORD[..end].to_vec(), Fault::Cut)).collect();
+    for (at, byte, fault) in FAULTS {
+        let mut bytes = RECORD.to_vec();
+        bytes[at] = byte;
+        cases.push((bytes, fault));
+    }
+    for (bytes, fault) in cases {
+        let shelf = [&good[..], &bytes].concat();
+        let refused = |shelf| Err(broken(fault, good.len(), Some(shelf)));
+        // the house is not looked at where one's own shelf stops
+        assert_eq!(lookup(Kind::F, 6, &shelf, &six), refused(Shelf::Own));
+        assert_eq!(lookup(Kind::F, 6, &good, &shelf), refused(Shelf::House));
+        assert_eq!(lookup(Kind::F, 6, &[], &shelf), refused(Shelf::House));
+        assert_eq!(lookup(Kind::F, 6, &bytes, &six), Err(broken(fault, 0, Some(Shelf::Own))));
+        // a match before it ends the lookup
+        assert_eq!(lookup(Kind::I, 1, &shelf, &six).map(|f| f.start), Ok(inverse.len()));
+        assert_eq!(lookup(Kind::F, 6, &six, &shelf).map(|f| f.from), Ok(Shelf::Own));
+    }
+}
+
+#[test]
+fn the_records_of_a_shelf_come_in_order_and_not_copied() {
+    let [six, inverse, one] = three();
+    let shelf = [&inverse[..], &RECORD, &one, &six].concat();
+    let shown: Vec<_> = records(&shelf).map(|r| r.unwrap()).collect();
+    let told: Vec<_> = shown.iter().map(|r| (r.kind, r.n, r.degree, r.start, r.bytes)).collect();
+    assert_eq!(
+        told,
+        [
+            (Kind::I, 6, 4, 0, &inverse[..]),
+            (Kind::F, 6, 2, 20, &RECORD),
+            (Kind::I, 1, 0, 33, &one),
+            (Kind::F, 6, 2, 51, &six),
+        ]
+    );
+    for r in shown {
+        assert!(std::ptr::eq(r.bytes, &shelf[r.start..r.start + r.bytes.len()]));
+    }
+    let mut walk = records(&shelf);
+    assert_eq!(walk.by_ref().count(), 4);
+    assert_eq!((walk.next(), walk.next()), (None, None));
+    assert_eq!(records(&[]).next(), None);
+}
+
+#[test]
+fn a_record_that_does_not_read_is_told_once_and_then_nothing() {
+    let [_, inverse, _] = three();
+    for (at, byte, fault) in FAULTS {
+        let mut bytes = RECORD;
+        bytes[at] = byte;
+        // what follows it is never shown
+        let shelf = [&inverse[..], &bytes, &RECORD].concat();
+        let mut walk = records(&shelf);
+        assert_eq!(walk.next().unwrap().unwrap().bytes, inverse);
+        assert_eq!(walk.next(), Some(Err(broken(fault, 20, None))));
+        for _ in 0..3 {
+            assert_eq!(walk.next(), None);
+        }
+    }
+    for end in 1..13 {
+        let mut walk = records(&RECORD[..end]);
+        assert_eq!(walk.next(), Some(Err(broken(Fault::Cut, 0, None))));
+        assert_eq!((walk.next(), walk.next()), (None, None));
+    }
+    // a program that takes all or nothing
+    let all: Result<Vec<_>, _> = records(&[&RECORD[..], &RECORD[..12]].concat()).map(|r| r.map(|r| r.n)).collect();
+    assert_eq!(all, Err(broken(Fault::Cut, 13, None)));
+}
+
+#[test]
+fn the_text_has_the_place_on_the_shelf() {
+    let at = |fault, shelf| broken(fault, 13, shelf).to_string();
+    assert_eq!(at(Fault::Cut, Some(Shelf::Own)), "the record at byte 13 of the own shelf doesn't read: it ends early");
+    assert_eq!(
+        at(Fault::Field(Field::Width), Some(Shelf::House)),
+        "the record at byte 13 of the house shelf doesn't read: its width is wrong: right is 1, 2, 4 or 8"
+    );
+    assert_eq!(
+        at(Fault::Mark, None),
+        "the record at byte 13 of the shelf doesn't read: its bytes are not those of a record"
+    );
+    assert_eq!(Refusal::Absent.to_string(), "neither shelf has such a record");
 }

@@ -49,6 +49,28 @@ pub struct Record {
     pub byte: u64,
 }
 
+#[repr(C)]
+#[derive(Debug, PartialEq, Clone, Copy, Default)]
+pub struct Found {
+    pub code: u64,
+    pub byte: u64,
+    pub shelf: u64,
+    pub from: u64,
+    pub start: u64,
+    pub length: u64,
+}
+
+#[repr(C)]
+#[derive(Debug, PartialEq, Clone, Copy, Default)]
+pub struct Browsed {
+    pub code: u64,
+    pub start: u64,
+    pub length: u64,
+    pub kind: u64,
+    pub n: u64,
+    pub degree: u64,
+}
+
 extern "C" {
     fn bv_polynomial(kind: u64, n: u64, h: i64, w: i64, buf: *mut i64, len: usize) -> Answer;
     fn bv_partial(kind: u64, n: u64, j: u64, w: i64, buf: *mut i64, len: usize) -> Stop;
@@ -66,6 +88,8 @@ extern "C" {
         room: usize,
     ) -> Answer;
     fn bv_second(kind: u64, n: u64, h: i64, buf: *mut i64, len: usize, scratch: *mut i64, room: usize) -> Answer;
+    fn bv_lookup(kind: u64, n: u64, own: *const u8, own_len: usize, house: *const u8, house_len: usize) -> Found;
+    fn bv_browse(shelf: *const u8, len: usize, at: u64) -> Browsed;
 }
 
 fn lent<T>(a: &mut [T]) -> *mut T {
@@ -102,4 +126,12 @@ pub fn cascade(indices: &[u64], h: i64, buf: &mut [i64], scratch: &mut [i64]) ->
 
 pub fn second(kind: u64, n: u64, h: i64, buf: &mut [i64], scratch: &mut [i64]) -> Answer {
     unsafe { bv_second(kind, n, h, lent(buf), buf.len(), lent(scratch), scratch.len()) }
+}
+
+pub fn lookup(kind: u64, n: u64, own: &[u8], house: &[u8]) -> Found {
+    unsafe { bv_lookup(kind, n, shown(own), own.len(), shown(house), house.len()) }
+}
+
+pub fn browse(shelf: &[u8], at: u64) -> Browsed {
+    unsafe { bv_browse(shown(shelf), shelf.len(), at) }
 }

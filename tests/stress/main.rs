@@ -10,6 +10,7 @@ mod records;
 mod reference;
 mod requests;
 mod seconds;
+mod shelves;
 mod steps;
 
 use random::Random;
@@ -47,5 +48,8 @@ fn main() {
     all += tell("second engine, any request", (0..5_000 * share).map(|_| seconds::any(&mut random, &mut of)).sum());
     all += tell("cascades", (0..100 * share).map(|_| cascades::any(&mut random, &mut of)).sum());
     all += tell("cascades of any indices", (0..share / 10).map(|_| cascades::large(&mut random, &mut of)).sum());
+    all += tell("shelves", (0..2_000 * share).map(|_| shelves::any(&mut random, &of)).sum());
+    all += tell("shelves, every byte", (0..share / 5).map(|_| shelves::every_byte(&mut random, &of)).sum());
+    all += tell("shelves of large records", (0..5 * share).map(|_| shelves::large(&mut random, &of)).sum());
     println!("{all} inputs tried, no difference");
 }

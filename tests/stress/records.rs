@@ -106,7 +106,7 @@ fn reading(of: &Reference, bytes: &[u8], before: &[i64]) -> u64 {
 }
 
 /// Some change to a record: a bit, a byte, a header field, its end.
-fn damage(random: &mut Random, bytes: &mut Vec<u8>) {
+pub fn damage(random: &mut Random, bytes: &mut Vec<u8>) {
     let len = bytes.len();
     if len == 0 {
         return;
@@ -126,7 +126,7 @@ fn damage(random: &mut Random, bytes: &mut Vec<u8>) {
 }
 
 /// A record whose fields are right but whose width is any of the four, with random coefficients, some -2^(8w-1).
-fn made_up(random: &mut Random, of: &Reference) -> Vec<u8> {
+pub fn made_up(random: &mut Random, of: &Reference) -> Vec<u8> {
     let kind = 1 + random.below(2) as u64;
     let n = 1 + random.below(40);
     let count = of.degree(kind, n) + 1;
