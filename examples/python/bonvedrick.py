@@ -8,7 +8,7 @@ not fit its C type is an OverflowError, and what is no whole number is a TypeErr
 number is what operator.index takes for one: True is 1, numpy's whole numbers are good, 1.0 and "1" are not.
 
 Shelves are never copied: C looks at the bytes where they are, those of a file that is mapped too, and what it finds
-comes out as a memoryview of them. Nobody may write to a shelf during a call.
+comes out as a memoryview of them, which can be read as it is. Nobody may write to them during a call.
 
 CPython 3.8 or later; nothing but the standard library.
 """
@@ -149,7 +149,7 @@ FUNCTIONS = {  # what each answers and takes
     "bv_comb": (Step, c_uint64, c_int64, *WORDS),
     "bv_accumulate": (Step, c_uint64, c_int64, *WORDS),
     "bv_write": (Written, c_uint64, c_uint64, *WORDS, *BYTES),
-    "bv_read": (Record, *BYTES, *WORDS),
+    "bv_read": (Record, *SHELF, *WORDS),
     "bv_cascade": (Answer, *INDICES, c_int64, *WORDS, *WORDS),
     "bv_second": (Answer, c_uint64, c_uint64, c_int64, *WORDS, *WORDS),
     "bv_lookup": (Found, c_uint64, c_uint64, *SHELF, *SHELF),
@@ -256,12 +256,11 @@ class Bonvedrick:
         a = self._ask("bv_write", _u64("kind", kind), _u64("n", n), words, buf)
         return bytes(buf[: a.used])
 
-    def read(
-        self, data: bytes | bytearray | memoryview, room: SupportsIndex = MOST_ENTRIES
-    ) -> tuple[int, int, list[int], int]:
+    def read(self, data: Shelf, room: SupportsIndex = MOST_ENTRIES) -> tuple[int, int, list[int], int]:
         """The kind, the index and the coefficients of the record that the bytes start with, and the bytes it uses."""
         buf = _room("room", room)
-        a = self._ask("bv_read", _bytes(data), buf)
+        with _bytes(data) as view:
+            a = self._ask("bv_read", *_address(view), buf)
         return a.kind, a.n, buf[: a.degree + 1], a.used
 
     def cascade(
@@ -396,22 +395,27 @@ def _room(name, room, most=MOST_ENTRIES):
 
 
 def _bytes(data):
-    """A copy of the bytes for C."""
-    if not isinstance(data, (bytes, bytearray, memoryview)):
-        raise TypeError(f"a record is bytes, a bytearray or a memoryview, not {type(data).__name__}")
-    data = bytes(data)
-    return (c_uint8 * len(data)).from_buffer_copy(data)
+    """A view of the bytes of a record, where they are, or else of a copy."""
+    view = _view("a record", data)
+    try:
+        return view.cast("B")
+    except TypeError:
+        return memoryview(view.tobytes())
 
 
 def _shelf(name, data):
     """A view of a shelf's bytes, where they are. A memoryview that leaves some out has none that stand in a row."""
+    view = _view(f"{name}: a shelf", data)
+    try:
+        return view.cast("B")
+    except TypeError:
+        raise TypeError(f"{name}: the bytes of a shelf stand in a row") from None
+
+
+def _view(what, data):
     if not isinstance(data, (bytes, bytearray, memoryview, mmap.mmap)):
-        sort = type(data).__name__
-        raise TypeError(f"{name}: a shelf is bytes, a bytearray, a memoryview or an mmap, not {sort}")
-    view = memoryview(data)
-    if not view.c_contiguous:
-        raise TypeError(f"{name}: the bytes of a shelf stand in a row")
-    return view.cast("B")
+        raise TypeError(f"{what} is bytes, a bytearray, a memoryview or an mmap, not {type(data).__name__}")
+    return memoryview(data)
 
 
 class _Buffer(ctypes.Structure):

@@ -329,9 +329,14 @@ class Lists(Wrapper):
         twice = bytes(b for byte in F6_RECORD for b in (byte, 0))
         pairs = memoryview(array.array("H", F6_RECORD + b"more."))  # nine items, all of their bytes
         lent = bytearray(F6_RECORD)
-        for data in F6_RECORD, lent, memoryview(F6_RECORD), memoryview(lent), memoryview(twice)[::2], pairs:
+        foreign = memoryview((ctypes.c_uint8 * 13)(*F6_RECORD))
+        mapped = mmap.mmap(-1, 13)
+        mapped[:] = F6_RECORD
+        sorts = [F6_RECORD, lent, memoryview(F6_RECORD), memoryview(lent), memoryview(twice)[::2], pairs, foreign]
+        for data in [*sorts, mapped]:
             with self.subTest(sort=type(data)):
                 self.assertEqual(self.outcome("read", data=data), (told, 1))
+        mapped.close()
         self.assertEqual(lent, F6_RECORD)
         self.assertEqual(self.bv.read(F6_RECORD + b"more"), told)
         for data in "c950", list(F6_RECORD), None, 13, array.array("B", F6_RECORD), 1.5, {}:
@@ -448,6 +453,7 @@ class Shelves(Wrapper):
         lent = bytearray(shelf)
         around = b"abc" + shelf + b"def"
         pairs = array.array("H", shelf)  # twenty-two of two bytes each
+        foreign = (ctypes.c_uint8 * len(shelf))(*shelf)
         yield shelf, shelf
         yield lent, lent
         yield memoryview(shelf), shelf
@@ -455,6 +461,7 @@ class Shelves(Wrapper):
         yield memoryview(around)[3:-3], around
         yield memoryview(pairs), pairs
         yield memoryview(lent).cast("B", (4, 11)), lent
+        yield memoryview(foreign), foreign
         with tempfile.TemporaryFile() as file:
             file.write(shelf)
             file.flush()
@@ -488,6 +495,8 @@ class Shelves(Wrapper):
         self.assertEqual(Counting.arguments, (F, 6, first + 20, 13, second, len(two)))
         for at, _ in zip((0, 20), self.bv.records(one)):
             self.assertEqual(Counting.arguments, (first, len(one), at))
+        self.bv.read(memoryview(one)[20:])
+        self.assertEqual(Counting.arguments[:2], (first + 20, 13))
 
     def test_no_copy_is_made_of_a_large_one(self):
         large, coeffs = bytearray(), [1] * 65521
