@@ -68,7 +68,9 @@ given-records shelf (s ∷ ss) rest at e (w, ws) =
     let far : at + length (s ++ laid ss []) ≡ at + length s + length (laid ss []) =
     rw length-append (sym (add-assoc at (length s) (length (laid ss [])))) in
     record {
-      shows = rw (place, shown) (ap (λ (l : List Shown). Record at (at + length s) (kindIn s) (indexIn s) (degreeIn s) ∷ l) (more .shows));
+      shows =
+          rw (place, shown)
+          (ap (λ (l : List Shown). Record at (at + length s) (kindIn s) (indexIn s) (degreeIn s) ∷ l) (more .shows));
       ends = ap (goes (length ss) shelf) place ∙ more .ends ∙ sym far;
       leaves = ap (λ (k : ℕ). drop k shelf) far ∙ more .leaves;
     }

@@ -1,5 +1,5 @@
 -- For each input the contract of a public function leaves one outcome: two that meet it, as the checker reads it off
--- the clauses, have the same answer, and a part of a shelf that is handed back holds the same and lies at the same place.
+-- the clauses, have the same answer; a part of a shelf that is handed back holds the same and lies at the same place.
 use mathlib.Core.Path.{_≡_, sym, _∙_}
 use contract.Lifetimes.{Lfts}
 use borrow.Fn.Kinds.{endedOf}

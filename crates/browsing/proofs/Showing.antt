@@ -45,7 +45,8 @@ shown-cases P shelf at end refused good =
   where
     go : (b : Bool) → leb (length shelf) at ≡ b → (d : Bool) → eqb (lookCode (drop at shelf)) DONE ≡ d →
         P (cond b (End (length shelf)) (cond d
-        (Record at (at + sizeIn (drop at shelf)) (kindIn (drop at shelf)) (indexIn (drop at shelf)) (degreeIn (drop at shelf)))
+        (Record at (at + sizeIn (drop at shelf)) (kindIn (drop at shelf)) (indexIn (drop at shelf))
+        (degreeIn (drop at shelf)))
         (Refused (lookCode (drop at shelf)) at)))
     go true eb d ed = end (leb-true (length shelf) at eb)
     go false eb true ed = good (leb-false (length shelf) at eb) (eqb-true (lookCode (drop at shelf)) DONE ed)

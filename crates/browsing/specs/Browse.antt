@@ -52,8 +52,8 @@ lengthOf (Record start end kind n degree) = end - start
 lengthOf (Refused code start) = 0
 lengthOf (End start) = 0
 
--- A part of a slice that is lent: what stands in it, and where it lies, as many bytes on as the slice has. So it is that
--- very part, and no copy.
+-- A part of a slice that is lent: what stands in it, and where it lies, so many bytes past the start of the slice or,
+-- where it has fewer, at its end. So it is that very part, and no copy.
 unfoldable pub partOf : RefT (List ℕ) → (start length : ℕ) → List ℕ
 partOf s start k = take k (drop start (now s))
 

@@ -30,6 +30,6 @@ shown :
     ≡ (DONE ∷ 0 ∷ 13 ∷ 1 ∷ 6 ∷ 2 ∷ []) ∷ (DONE ∷ 13 ∷ 12 ∷ 2 ∷ 3 ∷ 1 ∷ []) ∷ (RWIDTH ∷ 25 ∷ 0 ∷ 0 ∷ 0 ∷ 0 ∷ [])
     ∷ (MARK ∷ 1 ∷ 0 ∷ 0 ∷ 0 ∷ 0 ∷ []) ∷ (CUT ∷ 30 ∷ 0 ∷ 0 ∷ 0 ∷ 0 ∷ []) ∷ (DONE ∷ 37 ∷ 0 ∷ 0 ∷ 0 ∷ 0 ∷ [])
     ∷ (DONE ∷ 37 ∷ 0 ∷ 0 ∷ 0 ∷ 0 ∷ []) ∷ []
-unfolding shelf row told shownAt shownOf lookCode readCode headerCode marked fieldCode knownKind oneOf degreeIn degree phi countTo
-    shareFactor someTo divides coefficientsIn sizeIn coefficientsAt signedOf number top width leastOf heightOf
+unfolding shelf row told shownAt shownOf lookCode readCode headerCode marked fieldCode knownKind oneOf degreeIn degree
+    phi countTo shareFactor someTo divides coefficientsIn sizeIn coefficientsAt signedOf number top width leastOf heightOf
 shown = refl

@@ -44,7 +44,7 @@ lookups :
     ∷ (ABSENT ∷ 0 ∷ 0 ∷ 0 ∷ 0 ∷ 0 ∷ []) ∷ (WIDTH ∷ 0 ∷ OWN ∷ 0 ∷ 0 ∷ 0 ∷ []) ∷ (DONE ∷ 0 ∷ 0 ∷ OWN ∷ 0 ∷ 13 ∷ [])
     ∷ (CUT ∷ 0 ∷ OWN ∷ 0 ∷ 0 ∷ 0 ∷ []) ∷ (MARK ∷ 12 ∷ HOUSE ∷ 0 ∷ 0 ∷ 0 ∷ []) ∷ (KIND ∷ 0 ∷ 0 ∷ 0 ∷ 0 ∷ 0 ∷ [])
     ∷ (INDEX ∷ 0 ∷ 0 ∷ 0 ∷ 0 ∷ 0 ∷ []) ∷ []
-unfolding F6 other I3 narrow row found foundBy refused walked walkFrom onward asked earlier shownAt shownOf lookCode readCode
-    headerCode marked fieldCode knownKind goodIndex oneOf degreeIn degree phi countTo shareFactor someTo divides
+unfolding F6 other I3 narrow row found foundBy refused walked walkFrom onward asked earlier shownAt shownOf lookCode
+    readCode headerCode marked fieldCode knownKind goodIndex oneOf degreeIn degree phi countTo shareFactor someTo divides
     coefficientsIn sizeIn coefficientsAt signedOf number top width leastOf heightOf
 lookups = refl

@@ -18,7 +18,8 @@ array-read-bv-lookup-2 : tie.Need-array-read-bv-lookup-2
 array-read-bv-lookup-2 c = search needs
 
 slice-aggregate-bv-lookup : tie.Need-slice-aggregate-bv-lookup
-slice-aggregate-bv-lookup c = sym (length-take-le _ (c .before .before .before .before .args .bytes .now) (c .before .place .ensures))
+slice-aggregate-bv-lookup c =
+    sym (length-take-le _ (c .before .before .before .before .args .bytes .now) (c .before .place .ensures))
 
 sub-bv-lookup : tie.Need-sub-bv-lookup
 sub-bv-lookup c = search needs

@@ -45,7 +45,8 @@ loop-again c =
     let start = loop .before .before in
     let taken = c .before .before .loop-test .taken in (
       look-turn (start .args .w) (start .args .k) (loop .loop .left) (loop .loop .at) (loop .loop .all) _ _
-          (start .args .bytes .now) (start .pre .0) taken (c .before .get .ensures .0) (c .class-of .ensures) (loop .loop .inv .0),
+          (start .args .bytes .now) (start .pre .0) taken (c .before .get .ensures .0) (c .class-of .ensures)
+          (loop .loop .inv .0),
       omega (arith, one-less (loop .loop .left) (start .args .w) taken),
     )
 
