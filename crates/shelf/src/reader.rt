@@ -18,7 +18,7 @@ ghost use Rattle.shelf.specs.Format.{coefficientsIn, sizeIn, readAnswer,
 // The bytes of a record with a right header.
 pub fn size_in(bytes: &[u8]) -> usize
     requires { ⌜ headerCode (now bytes) ≡ DONE ⌝ }
-    ensures { λ r. ⌜ (r ≡ sizeIn (now (bytes .entry))) × (r ≤ 524298) ⌝ }
+    ensures { λ r. ⌜ r ≡ sizeIn (now (bytes .entry)) ⌝ }
 {
     let w = width_in(bytes) as usize;
     let count = count_in(bytes) as usize;

@@ -17,7 +17,7 @@ earlier (Match start end) w = Match start end
 earlier (Stopped code start) w = Stopped code start
 earlier Ended w = w
 
--- a record that is asked for
+-- a record by itself: a match, if it is asked for
 unfoldable pub asked : (kind n : ℕ) → (k m start end : ℕ) → Walked
 asked kind n k m start end = cond (eqb k kind && eqb m n) (Match start end) Ended
 

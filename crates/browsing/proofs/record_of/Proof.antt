@@ -23,7 +23,7 @@ size-in-requires : tie.Need-size-in-requires
 size-in-requires c κs = right-read (c .before) .header
 
 add-t4 : tie.Need-add-t4
-add-t4 c = omega (arith, c .size-in .ensures .0, right-read (c .before .before) .long)
+add-t4 c = omega (arith, c .size-in .ensures, right-read (c .before .before) .long)
 
 kind-in-requires : tie.Need-kind-in-requires
 kind-in-requires c κs = long (c .before .before)
@@ -42,7 +42,7 @@ sub-t8 c =
 returns : tie.Need-returns
 returns c =
     let start = c .before .before .before .before .before in
-    sym (shown-record _ _ (start .pre .0) _ _ _ _ (c .before .before .before .size-in .ensures .0)
+    sym (shown-record _ _ (start .pre .0) _ _ _ _ (c .before .before .before .size-in .ensures)
     (c .before .before .kind-in .ensures) (c .before .index-in .ensures .0)
     (omega (arith, c .count-in .ensures, right _ (right-read start .header) .count)))
 

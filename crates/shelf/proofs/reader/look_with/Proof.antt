@@ -18,15 +18,15 @@ returns : tie.Need-returns
 unfolding lookCode
 returns c =
     let start = c .before .before .before in
-    sym (code-cut _ _ (start .pre) (omega (arith, c .before .size-in .ensures .0)))
+    sym (code-cut _ _ (start .pre) (omega (arith, c .before .size-in .ensures)))
 
 right-in-requires : tie.Need-right-in-requires
-right-in-requires c κs = (c .before .before .before .pre, omega (arith, c .before .size-in .ensures .0))
+right-in-requires c κs = (c .before .before .before .pre, omega (arith, c .before .size-in .ensures))
 
 -- the record is whole
 whole : (c : tie.Else1) → sizeIn (c .before .before .before .args .bytes .now)
     ≤ length (c .before .before .before .args .bytes .now)
-whole c = omega (arith, c .before .size-in .ensures .0)
+whole c = omega (arith, c .before .size-in .ensures)
 
 returns-2 : tie.Need-returns-2
 unfolding lookCode

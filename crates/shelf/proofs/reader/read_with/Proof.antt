@@ -32,7 +32,7 @@ degree-is c = omega (arith, c .count-in .ensures, header c .count)
 
 -- and past the tests of the record's length and of the room
 whole : (c : tie.Else1) → sizeIn (bytes (c .before)) ≤ length (bytes (c .before))
-whole c = omega (arith, c .before .before .size-in .ensures .0)
+whole c = omega (arith, c .before .before .size-in .ensures)
 
 size-in-requires : tie.Need-size-in-requires
 size-in-requires c κs = search needs
@@ -51,7 +51,7 @@ unfolding readTells byteOf
 returns c =
     let e = c .before .before in
     told (c .refused .ensures) (by-code (bytes e) (from e .args .coeffs .now) CUT
-    (code-cut _ _ (from e .pre) (omega (arith, e .before .size-in .ensures .0))))
+    (code-cut _ _ (from e .pre) (omega (arith, e .before .size-in .ensures))))
 
 refused-requires-2 : tie.Need-refused-requires-2
 refused-requires-2 c κs = search needs
@@ -115,7 +115,7 @@ returns-4 c =
     (sym (look .right-in .ensures) ∙ not-false _ (test .if3 .left))) in
     let left = filled-in (bytes e) _ _ (wide .width-in .ensures) (e .count-in .ensures) cs _ (omega arith)
     (c .before .before .before .fill .ensures) in
-    told (all-told _ _ _ _ _ (degree-is e) (e .before .size-in .ensures .0) (c .before .kind-in .ensures) (c .index-in .ensures .0))
+    told (all-told _ _ _ _ _ (degree-is e) (e .before .size-in .ensures) (c .before .kind-in .ensures) (c .index-in .ensures .0))
     (p .0, left ∙ p .1)
 
 pub read-with-spec : {M : Type 1} → statement M

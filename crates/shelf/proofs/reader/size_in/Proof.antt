@@ -27,7 +27,7 @@ add-result : tie.Need-add-result
 add-result c = omega (arith, small c)
 
 returns : tie.Need-returns
-returns c = (size-in _ _ _ (c .before .width-in .ensures) (c .count-in .ensures), omega (arith, small c))
+returns c = size-in _ _ _ (c .before .width-in .ensures) (c .count-in .ensures)
 
 pub size-in-spec : {M : Type 1} → statement M
 size-in-spec =
