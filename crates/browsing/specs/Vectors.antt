@@ -1,5 +1,5 @@
 -- What is shown of a shelf, computed from the definitions.
-use Prim.Native.Nat.{ℕ, _-_}
+use Prim.Native.Nat.{ℕ}
 use mathlib.Core.Path.{_≡_, refl}
 use mathlib.Core.List.{List, [], _∷_, map}
 use Rattle.definitions.specs.Codes.{DONE, CUT, MARK, RWIDTH}
