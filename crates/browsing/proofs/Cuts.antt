@@ -4,7 +4,7 @@ use Prim.Native.Nat.{ℕ, zero, suc, _+_, _<_, _≤_}
 use mathlib.Core.Path.{_≡_, refl, sym, ap, ap₂, _∙_}
 use mathlib.Core.Bool.{Bool, true, false}
 use mathlib.Core.List.{List, [], _∷_, _++_, append-assoc}
-use mathlib.Core.Logic.{_⊎_, inl, inr}
+use mathlib.Core.Logic.{inl, inr}
 use native.Mathlib.Omega.{arith}
 use native.Mathlib.Nat.{zero-add, suc-add, add-zero, add-assoc}
 use lib.ListN.{length, take, drop, length-append, length-drop, take-append-drop}
@@ -19,7 +19,7 @@ use Rattle.shelf.proofs.Alone.{size-least, size-front, look-front, whole-alone}
 use Rattle.browsing.specs.declared.Shown.{Shown}
 use Rattle.browsing.specs.declared.Shown.the-variants.{Record, End}
 use Rattle.browsing.specs.Browse.{shownOf, shownAt, placeAfter, turnAt}
-use Rattle.browsing.specs.Cut.{Whole, Records, laid, Cut, shownAs, restAs, gives, goes, repeated}
+use Rattle.browsing.specs.Cut.{Whole, Records, laid, Rest, Cut, shownAs, restAs, gives, goes, repeated}
 use Rattle.browsing.proofs.Showing.{shown-record, shown-end, shown-in, shown-refused}
 
 -- the records are in front of the rest
@@ -43,10 +43,6 @@ module _ (shelf s more : List ℕ) (at : ℕ) (e : drop at shelf ≡ s ++ more) 
       ∙ shown-record at (s ++ more) (look-front s more long (omega (arith, w .1)) ∙ w .0) (length s) (kindIn s)
       (indexIn s) (degreeIn s) (sym (size-front s more long ∙ w .1)) (sym (kind-front s more long))
       (sym (index-front s more long)) (sym (degree-front s more long))
-
-  pub moves : turnAt shelf at .at ≡ at + length s
-  unfolding turnAt placeAfter
-  moves = ap placeAfter shown-whole
 
   pub next-from : drop (at + length s) shelf ≡ more
   next-from = sym (drop-drop (length s) at shelf) ∙ ap (drop (length s)) e ∙ drop-at s more (length s) refl
@@ -77,11 +73,11 @@ given-records shelf (s ∷ ss) rest at e (w, ws) =
 
 -- the rest, where the reader stays
 module _ (shelf rest : List ℕ) (at : ℕ) (e : drop at shelf ≡ rest) (end : at ≤ length shelf) where
-  pub shown-rest : (rest ≡ []) ⊎ (lookCode rest ≡ DONE → ⊥) → shownAt shelf at ≡ restAs at rest
+  pub shown-rest : Rest rest → shownAt shelf at ≡ restAs at rest
   unfolding restAs
   shown-rest c = go rest e c
     where
-      go : (r : List ℕ) → drop at shelf ≡ r → (r ≡ []) ⊎ (lookCode r ≡ DONE → ⊥) → shownAt shelf at ≡ restAs at r
+      go : (r : List ℕ) → drop at shelf ≡ r → Rest r → shownAt shelf at ≡ restAs at r
       go [] f d =
           let same : length shelf ≡ at = omega (arith, length-drop at shelf, ap length f) in
           shown-end shelf at (omega arith) ∙ ap End same
@@ -95,7 +91,7 @@ module _ (shelf rest : List ℕ) (at : ℕ) (e : drop at shelf ≡ rest) (end : 
   stays-at [] = refl
   stays-at (b ∷ bs) = refl
 
-  gives-rest : (rest ≡ []) ⊎ (lookCode rest ≡ DONE → ⊥) → (k : ℕ) → gives k shelf at ≡ repeated k (restAs at rest)
+  gives-rest : Rest rest → (k : ℕ) → gives k shelf at ≡ repeated k (restAs at rest)
   unfolding gives repeated turnAt
   gives-rest c zero = refl
   gives-rest c (suc k) =
@@ -124,16 +120,13 @@ reader-cuts shelf ss rest (e, r, c) k =
     (omega (arith, ap length e, ap length (laid-front ss rest), length-append (laid ss []) rest)) c k)
 
 -- and every shelf has a cut
-no-bytes : (l : List ℕ) → length l ≤ 0 → l ≡ []
-no-bytes [] h = refl
-no-bytes (b ∷ bs) h = absurd (omega arith)
-
 abbrev Has-cut : List ℕ → Type 0
 Has-cut shelf = (ss : List (List ℕ)) × (rest : List ℕ) × Cut shelf ss rest
 
 cut-within : (most : ℕ) (shelf : List ℕ) → length shelf ≤ most → Has-cut shelf
 unfolding laid
-cut-within zero shelf h = ([], shelf, (refl, tt, inl (no-bytes shelf (omega arith))))
+cut-within zero [] h = ([], [], (refl, tt, inl refl))
+cut-within zero (b ∷ bs) h = absurd (omega arith)
 cut-within (suc most) shelf h =
     go (eqb (lookCode shelf) DONE) refl
     (cut-within most (drop (sizeIn shelf) shelf) (rw length-drop (omega (arith, size-least shelf))))

@@ -35,7 +35,7 @@ module _ (shelf : List ℕ) (at : ℕ) where
   shown-refused h code e z = rw (lt-leb (length shelf) at h, ← e, ne-eqb code DONE z)
 
 -- and back: what holds in each case holds of what is shown
-pub shown-cases : (P : Shown → Type 0) (shelf : List ℕ) (at : ℕ) → (length shelf ≤ at → P (End (length shelf)))
+shown-cases : (P : Shown → Type 0) (shelf : List ℕ) (at : ℕ) → (length shelf ≤ at → P (End (length shelf)))
     → (let bytes = drop at shelf in at < length shelf → (lookCode bytes ≡ DONE → ⊥) → P (Refused (lookCode bytes) at))
     → (let bytes = drop at shelf in at < length shelf → lookCode bytes ≡ DONE
     → P (Record at (at + sizeIn bytes) (kindIn bytes) (indexIn bytes) (degreeIn bytes))) → P (shownAt shelf at)

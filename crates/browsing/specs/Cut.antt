@@ -25,8 +25,11 @@ laid [] rest = rest
 laid (s ∷ ss) rest = s ++ laid ss rest
 
 -- the shelf is these records and then a rest, which is empty or doesn't read
+abbrev pub Rest : List ℕ → Type 0
+Rest bytes = (bytes ≡ []) ⊎ (lookCode bytes ≡ DONE → ⊥)
+
 abbrev pub Cut : List ℕ → List (List ℕ) → List ℕ → Type 0
-Cut shelf ss rest = (shelf ≡ laid ss rest) × Records ss × ((rest ≡ []) ⊎ (lookCode rest ≡ DONE → ⊥))
+Cut shelf ss rest = (shelf ≡ laid ss rest) × Records ss × Rest rest
 
 -- each record as it is shown, from a place on
 unfoldable pub shownAs : ℕ → List (List ℕ) → List Shown

@@ -31,5 +31,6 @@ shown :
     ∷ (MARK ∷ 1 ∷ 0 ∷ 0 ∷ 0 ∷ 0 ∷ []) ∷ (CUT ∷ 30 ∷ 0 ∷ 0 ∷ 0 ∷ 0 ∷ []) ∷ (DONE ∷ 37 ∷ 0 ∷ 0 ∷ 0 ∷ 0 ∷ [])
     ∷ (DONE ∷ 37 ∷ 0 ∷ 0 ∷ 0 ∷ 0 ∷ []) ∷ []
 unfolding shelf row told shownAt shownOf lookCode readCode headerCode marked fieldCode knownKind oneOf degreeIn degree
-    phi countTo shareFactor someTo divides coefficientsIn sizeIn coefficientsAt signedOf number top width leastOf heightOf
+    phi countTo shareFactor someTo divides coefficientsIn sizeIn coefficientsAt signedOf number top width leastOf
+    heightOf
 shown = refl

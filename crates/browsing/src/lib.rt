@@ -1,6 +1,6 @@
 // What stands at a place of a shelf, which is records one after another, for the browsing window: nothing is copied and
-// no coefficient is stored. Nothing is asked of the caller. `turn_at`, `stretch_of`, `part` and `between` are inner: the
-// reader and the crate `shelves` use them.
+// no coefficient is stored. Nothing is asked of the caller. `turn_at`, `stretch_of`, `part` and `between` are inner:
+// the reader and the crate `shelves` use them.
 pub mod reader;
 
 use record::count_in;

@@ -22,7 +22,7 @@ getD-front xs ys i h =
 
 -- the header
 module _ (xs ys : List ℕ) (long : 10 ≤ length xs) where
-  pub field-front : (f : Field) → f .first + f .long ≤ 10 → inField f (xs ++ ys) ≡ inField f xs
+  field-front : (f : Field) → f .first + f .long ≤ 10 → inField f (xs ++ ys) ≡ inField f xs
   field-front f h = ap number (part-front (f .first) (f .long) xs ys (omega arith))
 
   pub kind-front : kindIn (xs ++ ys) ≡ kindIn xs

@@ -47,7 +47,7 @@ four bs h =
     ∙ ap (_∷_ (getD bs 2 0)) (drop-cons bs 3 0 (omega arith)))) in
     ap (take 4) all
 
-and-both : (a b : Bool) → (a && b) ≡ true → (a ≡ true) × (b ≡ true)
+pub and-both : (a b : Bool) → (a && b) ≡ true → (a ≡ true) × (b ≡ true)
 and-both true b e = (refl, e)
 and-both false b e = absurd (true≢false (sym e))
 

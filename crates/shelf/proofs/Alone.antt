@@ -9,8 +9,7 @@ use lib.Seq.{drop-append-le, length-take-le}
 use Rattle.definitions.specs.Codes.{DONE}
 use Rattle.widths.specs.Numbers.{width}
 use Rattle.record.specs.Header.{widthIn, countIn}
-use Rattle.record.proofs.Fronts.{width-front, count-front, header-front}
-use Rattle.record.proofs.Fronts.{coefficients-front}
+use Rattle.record.proofs.Fronts.{width-front, count-front, header-front, coefficients-front}
 use Rattle.shelf.specs.Format.{coefficientsIn, sizeIn, readCode, lookCode}
 use Rattle.shelf.proofs.Reading.{code-done}
 use Rattle.shelf.proofs.Done.{Read-right, read-right}
@@ -51,13 +50,13 @@ module _ (bs : List ℕ) (good : lookCode bs ≡ DONE) where
   unfolding lookCode
   fits = read-right bs (countIn bs) good
 
-  abbrev pub alone : List ℕ
+  abbrev alone : List ℕ
   alone = take (sizeIn bs) bs
 
   abbrev after : List ℕ
   after = drop (sizeIn bs) bs
 
-  pub length-alone : length alone ≡ sizeIn bs
+  length-alone : length alone ≡ sizeIn bs
   length-alone = length-take-le (sizeIn bs) bs (fits .long)
 
   joined : alone ++ after ≡ bs

@@ -3,7 +3,7 @@ use Prim.Native.Nat.{ℕ, zero, suc, _+_, _-_, _≤_}
 use mathlib.Core.Path.{_≡_, refl, sym, ap, _∙_}
 use mathlib.Core.Bool.{Bool, true, false, cond, _&&_, true≢false}
 use mathlib.Core.List.{List, [], _∷_, _++_}
-use mathlib.Core.Logic.{_⊎_, inl, inr}
+use mathlib.Core.Logic.{inl, inr}
 use native.Mathlib.Omega.{arith}
 use native.Mathlib.Nat.{add-zero, add-assoc}
 use lib.ListN.{length, drop, length-append, length-drop}
@@ -11,10 +11,10 @@ use lib.Dec.{eqb}
 use borrow.Author.Tests.{eqb-true, eq-eqb}
 use Rattle.definitions.specs.Codes.{DONE}
 use Rattle.record.specs.Header.{kindIn, indexIn}
-use Rattle.shelf.specs.Format.{lookCode}
+use Rattle.record.proofs.HeaderTrips.{and-both}
 use Rattle.shelf.proofs.Alone.{size-least}
 use Rattle.browsing.specs.Browse.{shownAt}
-use Rattle.browsing.specs.Cut.{Records, laid, Cut, restAs}
+use Rattle.browsing.specs.Cut.{Records, laid, Rest, Cut, restAs}
 use Rattle.browsing.proofs.Cuts.{shown-whole, next-from, shown-rest}
 use Rattle.shelves.specs.declared.Walked.{Walked}
 use Rattle.shelves.specs.declared.Walked.the-variants.{Match, Stopped, Ended}
@@ -33,7 +33,7 @@ module _ (kind n : ℕ) where
       go true = refl
       go false = refl
 
-  module _ (shelf rest : List ℕ) (c : (rest ≡ []) ⊎ (lookCode rest ≡ DONE → ⊥)) where
+  module _ (shelf rest : List ℕ) (c : Rest rest) where
     -- no record is left
     walk-rest : (most at : ℕ) (r : List ℕ) → drop at shelf ≡ r → shownAt shelf at ≡ restAs at r
         → length shelf - at ≤ most → walkFrom most kind n shelf at ≡ firstOf kind n at [] r
@@ -74,15 +74,12 @@ module _ (kind n : ℕ) where
   other k m e (ek, em) = true≢false (sym (rw (eq-eqb k kind ek, eq-eqb m n em) refl) ∙ e)
 
   this : (k m : ℕ) → (eqb k kind && eqb m n) ≡ true → (k ≡ kind) × (m ≡ n)
-  this k m e = go (eqb k kind) refl (eqb m n) refl e
-    where
-      go : (a : Bool) → eqb k kind ≡ a → (b : Bool) → eqb m n ≡ b → (a && b) ≡ true → (k ≡ kind) × (m ≡ n)
-      go true ea true eb f = (eqb-true k kind ea, eqb-true m n eb)
-      go true ea false eb f = absurd (true≢false (sym f))
-      go false ea b eb f = absurd (true≢false (sym f))
+  this k m e =
+      let b = and-both (eqb k kind) (eqb m n) e in
+      (eqb-true k kind (b .0), eqb-true m n (b .1))
 
   pub first-from : (ss : List (List ℕ)) (rest : List ℕ) (at : ℕ) → Records ss
-      → (rest ≡ []) ⊎ (lookCode rest ≡ DONE → ⊥) → FirstFrom (laid ss rest) at (firstOf kind n at ss rest)
+      → Rest rest → FirstFrom (laid ss rest) at (firstOf kind n at ss rest)
   unfolding firstOf laid
   first-from [] [] at r c = ([], refl, tt, tt)
   first-from [] (b ∷ bs) at r (inl e) = absurd (omega (arith, ap length e))

@@ -60,6 +60,20 @@ module _ (kind n : ℕ) where
     abbrev pub Handed : Found → Type 0
     Handed f = ((f .from ≡ OWN) × Very lent-own f) ⊎ ((f .from ≡ HOUSE) × None kind n own × Very lent-house f)
 
+    -- what holds of each answer holds of the one that is given
+    abbrev decided : Found
+    decided = foundBy OWN (walked kind n own) (foundBy HOUSE (walked kind n house) (refused ABSENT 0 0))
+
+    found-cases : (P : Found → Type 0) → P (refused KIND 0 0) → P (refused INDEX 0 0) → P decided
+        → P (found kind n own house)
+    unfolding found
+    found-cases P kinds indices others = go (knownKind kind) (goodIndex n)
+      where
+        go : (k g : Bool) → P (cond (not k) (refused KIND 0 0) (cond (not g) (refused INDEX 0 0) decided))
+        go false g = kinds
+        go true false = indices
+        go true true = others
+
     abbrev Good : Found → Type 0
     Good f = f .code ≡ DONE → Handed f
 
@@ -94,27 +108,18 @@ module _ (kind n : ℕ) where
     by-own Ended f others g d = g f d
 
     pub handed-back : found kind n own house .code ≡ DONE → Handed (found kind n own house)
-    unfolding found
-    handed-back = go (knownKind kind) (goodIndex n)
-      where
-        both : Good (foundBy OWN (walked kind n own) (foundBy HOUSE (walked kind n house) (refused ABSENT 0 0)))
-        both =
-            by-own (walked kind n own) (walk-first own) _
-            (λ none. by-house none (walked kind n house) (walk-first house))
-
-        go : (k g : Bool) → Good (cond (not k) (refused KIND 0 0) (cond (not g) (refused INDEX 0 0)
-            (foundBy OWN (walked kind n own) (foundBy HOUSE (walked kind n house) (refused ABSENT 0 0)))))
-        go false g = not-good KIND 0 0 (λ z. omega arith)
-        go true false = not-good INDEX 0 0 (λ z. omega arith)
-        go true true = both
+    handed-back =
+        found-cases Good (not-good KIND 0 0 (λ z. omega arith)) (not-good INDEX 0 0 (λ z. omega arith))
+        (by-own (walked kind n own) (walk-first own) _
+        (λ none. by-house none (walked kind n house) (walk-first house)))
 
     -- neither shelf has one
-    Absent : Found → Type 0
+    abbrev Absent : Found → Type 0
     Absent f = f ≡ refused ABSENT 0 0 → None kind n own × None kind n house
 
     none-in : (w v : Walked) → FirstFrom kind n own 0 w → FirstFrom kind n house 0 v
         → Absent (foundBy OWN w (foundBy HOUSE v (refused ABSENT 0 0)))
-    unfolding foundBy refused Absent
+    unfolding foundBy refused
     none-in (Match start end) v f g e = absurd (omega (arith, ap (λ x. x .code) e))
     none-in (Stopped code start) v f g e = absurd (omega (arith, ap (λ x. x .shelf) e))
     none-in Ended (Match start end) f g e = absurd (omega (arith, ap (λ x. x .code) e))
@@ -122,11 +127,8 @@ module _ (kind n : ℕ) where
     none-in Ended Ended f g e = (f, g)
 
     pub absent : found kind n own house ≡ refused ABSENT 0 0 → None kind n own × None kind n house
-    unfolding found Absent refused
-    absent = go (knownKind kind) (goodIndex n)
-      where
-        go : (k g : Bool) → Absent (cond (not k) (refused KIND 0 0) (cond (not g) (refused INDEX 0 0)
-            (foundBy OWN (walked kind n own) (foundBy HOUSE (walked kind n house) (refused ABSENT 0 0)))))
-        go false g = λ e. absurd (omega (arith, ap (λ x. x .code) e))
-        go true false = λ e. absurd (omega (arith, ap (λ x. x .code) e))
-        go true true = none-in (walked kind n own) (walked kind n house) (walk-first own) (walk-first house)
+    unfolding refused
+    absent =
+        found-cases Absent (λ e. absurd (omega (arith, ap (λ x. x .code) e)))
+        (λ e. absurd (omega (arith, ap (λ x. x .code) e)))
+        (none-in (walked kind n own) (walked kind n house) (walk-first own) (walk-first house))

@@ -45,6 +45,6 @@ lookups :
     ∷ (CUT ∷ 0 ∷ OWN ∷ 0 ∷ 0 ∷ 0 ∷ []) ∷ (MARK ∷ 12 ∷ HOUSE ∷ 0 ∷ 0 ∷ 0 ∷ []) ∷ (KIND ∷ 0 ∷ 0 ∷ 0 ∷ 0 ∷ 0 ∷ [])
     ∷ (INDEX ∷ 0 ∷ 0 ∷ 0 ∷ 0 ∷ 0 ∷ []) ∷ []
 unfolding F6 other I3 narrow row found foundBy refused walked walkFrom onward asked earlier shownAt shownOf lookCode
-    readCode headerCode marked fieldCode knownKind goodIndex oneOf degreeIn degree phi countTo shareFactor someTo divides
-    coefficientsIn sizeIn coefficientsAt signedOf number top width leastOf heightOf
+    readCode headerCode marked fieldCode knownKind goodIndex oneOf degreeIn degree phi countTo shareFactor someTo
+    divides coefficientsIn sizeIn coefficientsAt signedOf number top width leastOf heightOf
 lookups = refl

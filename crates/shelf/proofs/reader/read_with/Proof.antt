@@ -115,7 +115,8 @@ returns-4 c =
     (sym (look .right-in .ensures) ∙ not-false _ (test .if3 .left))) in
     let left = filled-in (bytes e) _ _ (wide .width-in .ensures) (e .count-in .ensures) cs _ (omega arith)
     (c .before .before .before .fill .ensures) in
-    told (all-told _ _ _ _ _ (degree-is e) (e .before .size-in .ensures) (c .before .kind-in .ensures) (c .index-in .ensures .0))
+    told (all-told _ _ _ _ _ (degree-is e) (e .before .size-in .ensures) (c .before .kind-in .ensures)
+    (c .index-in .ensures .0))
     (p .0, left ∙ p .1)
 
 pub read-with-spec : {M : Type 1} → statement M
