@@ -1,9 +1,9 @@
--- `joining::negates` meets its contract, by kind.
+-- `negates`: by kind.
 use mathlib.Core.Path.{refl}
 use borrow.Author.Tests.{eq-eqb, ne-eqb}
-use Rattle.cyclotomic.specs.Mirrors.{negates}
-use Rattle.second_engine.proofs.joining.negates.Statement.{statement}
-use Rattle.second_engine.proofs.joining.negates.Tie as tie
+use Rattle.definitions.specs.Halves.{negates}
+use Rattle.answers.proofs.negates.Statement.{statement}
+use Rattle.answers.proofs.negates.Tie as tie
 
 returns : tie.Need-returns
 unfolding negates
