@@ -108,10 +108,6 @@ module _ (negate : Bool) (cs : List ℤ) where
           sym (ap (image negate) (rw back at (first (n - 1 - i) (omega arith))) ∙ image-image negate _)
 
   -- so the first half rebuilds the whole
-  pub length-half : length (firstHalf cs) ≡ halfOf (length cs)
-  unfolding firstHalf
-  length-half = length-take-le (halfOf (length cs)) cs (omega arith)
-
   pub rebuilt-half : uneven negate cs ≡ false → rebuilt negate (length cs) (firstHalf cs) ≡ cs
   unfolding rebuilt mirroredUp firstHalf entries
   rebuilt-half e =
@@ -131,6 +127,25 @@ module _ (negate : Bool) (cs : List ℤ) where
           rw (le-ltb i (halfOf n) (omega arith), getD-take (halfOf n) cs (n - 1 - i) 0ℤ (omega arith))
           (sym (rw back at m))
 
+pub length-half : (cs : List ℤ) → length (firstHalf cs) ≡ halfOf (length cs)
+unfolding firstHalf
+length-half cs = length-take-le (halfOf (length cs)) cs (omega arith)
+
+-- no entry is larger than the height
+pub entry-within : (l : List ℤ) (k : ℕ) → k < length l → natAbs (entries l k) ≤ heightOf l
+entry-within l k h = rw (firsts-entries l) at (entry-height (length l) (entries l) k h)
+
+-- the mirror looks at the first half alone
+pub mirror-same : (negate : Bool) (n : ℕ) (f g : Series) → ((j : ℕ) → j < halfOf n → f j ≡ g j)
+    → (i : ℕ) → i < n → mirroredUp negate n f i ≡ mirroredUp negate n g i
+unfolding mirroredUp
+mirror-same negate n f g h i l = go (decLt i (halfOf n))
+  where
+    go : Dec (i < halfOf n) → cond (ltb i (halfOf n)) (f i) (image negate (f (n - 1 - i)))
+        ≡ cond (ltb i (halfOf n)) (g i) (image negate (g (n - 1 - i)))
+    go (yes b) = rw (lt-ltb i (halfOf n) b) (h i b)
+    go (no b) = rw (le-ltb i (halfOf n) (omega arith)) (ap (image negate) (h (n - 1 - i) (omega arith)))
+
 -- what is rebuilt
 module _ (negate : Bool) (n : ℕ) (half : List ℤ) where
   pub length-rebuilt : length (rebuilt negate n half) ≡ n
@@ -141,7 +156,7 @@ module _ (negate : Bool) (n : ℕ) (half : List ℤ) where
   unfolding rebuilt mirroredUp
   first-entry i l h = firsts-here n _ i l ∙ rw (lt-ltb i (halfOf n) h)
 
-  other-entry : (i : ℕ) → i < n → halfOf n ≤ i
+  pub other-entry : (i : ℕ) → i < n → halfOf n ≤ i
       → entries (rebuilt negate n half) i ≡ image negate (entries half (n - 1 - i))
   unfolding rebuilt mirroredUp
   other-entry i l h = firsts-here n _ i l ∙ rw (le-ltb i (halfOf n) h)
@@ -165,15 +180,11 @@ module _ (negate : Bool) (n : ℕ) (half : List ℤ) where
     unfolding rebuilt mirroredUp
     height-rebuilt = le-antisymm upper lower
       where
-        inside : (k : ℕ) → k < halfOf n → natAbs (entries half k) ≤ heightOf half
-        inside k h =
-            rw (firsts-entries half) at (entry-height (length half) (entries half) k (omega (arith, long)))
-
         each : (i : ℕ) → i < n → Dec (i < halfOf n) → natAbs (mirroredUp negate n (entries half) i) ≤ heightOf half
-        each i l (yes h) = rw (lt-ltb i (halfOf n) h) (inside i h)
+        each i l (yes h) = rw (lt-ltb i (halfOf n) h) (entry-within half i (omega (arith, long)))
         each i l (no h) =
             rw (le-ltb i (halfOf n) (omega arith), abs-image negate (entries half (n - 1 - i)))
-            (inside (n - 1 - i) (omega arith))
+            (entry-within half (n - 1 - i) (omega (arith, long)))
 
         upper : heightOf (rebuilt negate n half) ≤ heightOf half
         upper =
