@@ -6,3 +6,5 @@ pub mod Rebuilding
 pub mod Writing
 pub mod WriteRead
 pub mod ReadWrite
+pub mod RoundTrips
+pub mod OneOutcome

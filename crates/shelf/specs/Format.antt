@@ -1,0 +1,35 @@
+-- The shelf record in its old form (docs/RULES.md, 'The record'): what `forms/Format` says of both, of this one.
+use Prim.Native.Nat.{ℕ}
+use mathlib.Core.List.{List}
+use lib.IntN.{ℤ}
+use Rattle.forms.specs.Format as Forms
+use Rattle.forms.specs.declared.Form.the-variants.{Whole}
+use Rattle.forms.specs.declared.Written.{Written}
+use Rattle.forms.specs.declared.Record.{Record}
+
+abbrev pub oldMark : ℕ
+oldMark = Forms.mark Whole
+
+-- what the writer answers and leaves
+abbrev pub writeAnswer : ℕ → ℕ → List ℤ → ℕ → Written
+writeAnswer = Forms.writeAnswer Whole
+
+abbrev pub writeLeaves : ℕ → ℕ → List ℤ → List ℕ → List ℕ
+writeLeaves = Forms.writeLeaves Whole
+
+-- the coefficients and the bytes of a record, and its code by every test but that of the room
+abbrev pub coefficientsIn : List ℕ → List ℤ
+coefficientsIn = Forms.coefficientsIn Whole
+
+abbrev pub sizeIn : List ℕ → ℕ
+sizeIn = Forms.sizeIn Whole
+
+abbrev pub lookCode : List ℕ → ℕ
+lookCode = Forms.lookCode Whole
+
+-- what the reader answers and leaves
+abbrev pub readAnswer : List ℕ → ℕ → Record
+readAnswer = Forms.readAnswer Whole
+
+abbrev pub readLeaves : List ℕ → List ℤ → List ℤ
+readLeaves = Forms.readLeaves Whole

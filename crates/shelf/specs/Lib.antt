@@ -1,0 +1,2 @@
+-- The shelf record in its old form.
+pub mod Format
