@@ -8,7 +8,7 @@ use lib.ListN.{length, take, drop, length-append, length-drop, take-append-drop}
 use lib.Seq.{drop-append-le, length-take-le}
 use Rattle.definitions.specs.Codes.{DONE}
 use Rattle.widths.specs.Numbers.{width}
-use Rattle.record.specs.Header.{widthIn, countIn}
+use Rattle.record.specs.Header.{widthIn, countIn, headerCode}
 use Rattle.record.proofs.Fronts.{width-front, count-front, header-front, coefficients-front}
 use Rattle.forms.specs.declared.Form.the-variants.{Whole}
 use Rattle.forms.specs.Format as Forms
@@ -47,11 +47,17 @@ module _ (s rest : List ℕ) (long : 10 ≤ length s) where
           le-ltb (length s) (sizeIn s) room,
         )
 
--- and taken out
+-- what the look passes has a right header, and is whole; and taken out
 module _ (bs : List ℕ) (good : lookCode bs ≡ DONE) where
   fits : Read-right Whole bs (countIn bs)
   unfolding Forms.lookCode
   fits = read-right Whole bs (countIn bs) good
+
+  pub header-looked : headerCode oldMark bs ≡ DONE
+  header-looked = fits .header
+
+  pub size-looked : sizeIn bs ≤ length bs
+  size-looked = fits .long
 
   abbrev alone : List ℕ
   alone = take (sizeIn bs) bs
