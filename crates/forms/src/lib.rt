@@ -5,6 +5,7 @@ mod reader;
 mod writer;
 
 pub use reader::look;
+pub use reader::negates_in;
 pub use reader::read;
 pub use reader::size_in;
 pub use writer::write;

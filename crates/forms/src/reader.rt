@@ -25,17 +25,17 @@ ghost use Rattle.record.specs.Header.{widthIn, kindIn, indexIn, countIn, header
 ghost use Rattle.forms.specs.Format.{mark, stored, storedIn, coefficientsIn, sizeIn, unevenIn, readCode, lookCode};
 ghost use Rattle.forms.specs.Format.{readTells, readAnswer, readLeaves};
 
-// How many coefficients are stored in a record with a right header.
+// How many coefficients a form stores where the header, whatever its mark, is right.
 fn stored_in(bytes: &[u8], form: Form) -> usize
-    requires { ⌜ headerCode (mark form) (now bytes) ≡ DONE ⌝ }
+    requires { ⌜ ((m : ℕ) × (headerCode m (now bytes) ≡ DONE)) ⌝ }
     ensures { λ r. ⌜ (r ≡ stored form (countIn (now (bytes .entry)))) × (r ≤ 65536) ⌝ }
 {
     stored_of(form, count_in(bytes) as usize)
 }
 
-// Its bytes.
+// And the bytes of its record.
 pub fn size_in(bytes: &[u8], form: Form) -> usize
-    requires { ⌜ headerCode (mark form) (now bytes) ≡ DONE ⌝ }
+    requires { ⌜ ((m : ℕ) × (headerCode m (now bytes) ≡ DONE)) ⌝ }
     ensures { λ r. ⌜ r ≡ sizeIn form (now (bytes .entry)) ⌝ }
 {
     let w = width_in(bytes) as usize;
@@ -51,7 +51,7 @@ fn right_in(bytes: &[u8], form: Form) -> bool
 }
 
 // Does the whole change its sign when it is mirrored?
-fn negates_in(bytes: &[u8]) -> bool
+pub fn negates_in(bytes: &[u8]) -> bool
     requires { ⌜ 10 ≤ length (now bytes) ⌝ }
     ensures { λ r. ⌜ r ≡ negates (kindIn (now (bytes .entry))) (indexIn (now (bytes .entry))) ⌝ }
 {

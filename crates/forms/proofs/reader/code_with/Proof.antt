@@ -24,7 +24,7 @@ room : (c : tie.Else2) → countIn (from (c .before .before) .args .bytes .now) 
 room c = omega (arith, c .before .count-in .ensures)
 
 size-in-requires : tie.Need-size-in-requires
-size-in-requires c κs = search needs
+size-in-requires c κs = (_, c .before .pre)
 
 returns : tie.Need-returns
 returns c =

@@ -18,7 +18,7 @@ width-in-requires : tie.Need-width-in-requires
 width-in-requires c κs = right _ _ (good (c .before) .header) .long
 
 stored-in-requires : tie.Need-stored-in-requires
-stored-in-requires c κs = good (c .before .before) .header
+stored-in-requires c κs = (_, good (c .before .before) .header)
 
 fill-requires : tie.Need-fill-requires
 fill-requires c κs =

@@ -11,7 +11,7 @@ width-in-requires : tie.Need-width-in-requires
 width-in-requires c κs = right _ _ (c .before .pre .0) .long
 
 stored-in-requires : tie.Need-stored-in-requires
-stored-in-requires c κs = search needs
+stored-in-requires c κs = (_, c .before .before .pre .0)
 
 right-width-requires : tie.Need-right-width-requires
 right-width-requires c κs =

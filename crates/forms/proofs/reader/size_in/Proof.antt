@@ -8,7 +8,7 @@ use Rattle.forms.proofs.reader.size_in.Statement.{statement}
 use Rattle.forms.proofs.reader.size_in.Tie as tie
 
 width-in-requires : tie.Need-width-in-requires
-width-in-requires c κs = right _ _ (c .before .pre) .long
+width-in-requires c κs = right _ _ (c .before .pre .1) .long
 
 stored-in-requires : tie.Need-stored-in-requires
 stored-in-requires c κs = search needs
@@ -17,7 +17,7 @@ small : (c : tie.After-stored-in) → c .stored-in .result * c .before .width-in
 small c =
     let wide = c .before in
     few-in (c .stored-in .result) (wide .width-in .result) (c .stored-in .ensures .1)
-    (in-bounds _ _ _ (wide .width-in .ensures) (wide .before .before .pre) .1)
+    (in-bounds _ _ _ (wide .width-in .ensures) (wide .before .before .pre .1) .1)
 
 mul-result : tie.Need-mul-result
 mul-result c = omega (arith, small c)

@@ -10,7 +10,7 @@ use Rattle.forms.proofs.reader.stored_in.Statement.{statement}
 use Rattle.forms.proofs.reader.stored_in.Tie as tie
 
 count-in-requires : tie.Need-count-in-requires
-count-in-requires c κs = right _ _ (c .before .pre) .long
+count-in-requires c κs = right _ _ (c .before .pre .1) .long
 
 small : (c : tie.After-count-in) → c .count-in .result ≤ 65536
 small c =
@@ -19,7 +19,7 @@ small c =
     omega (
       arith,
       c .count-in .ensures,
-      count-small _ bs (known .before .pre) (bytes-each bs (λ i. known .shared-slice-known .given i .fits)),
+      count-small _ bs (known .before .pre .1) (bytes-each bs (λ i. known .shared-slice-known .given i .fits)),
     )
 
 stored-of-requires : tie.Need-stored-of-requires

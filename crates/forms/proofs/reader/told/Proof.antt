@@ -26,7 +26,7 @@ sub-t6 : tie.Need-sub-t6
 sub-t6 c = omega (arith, c .count-in .ensures, right _ _ (done (c .before)) .count)
 
 size-in-requires : tie.Need-size-in-requires
-size-in-requires c κs = done (c .before)
+size-in-requires c κs = (_, done (c .before))
 
 kind-in-requires : tie.Need-kind-in-requires
 kind-in-requires c κs = right _ _ (done (c .before .before)) .long
