@@ -53,14 +53,14 @@ even-read Half bs e =
     rebuilt-uneven (negates (kindIn bs) (indexIn bs)) (countIn bs) (storedIn Half bs) (length-stored Half bs) ∙ e
 
 module _ (form : Form) (bs : List ℕ) (room : ℕ) (p : Bytes bs) (g : Read-right form bs room) where
-  wide : width (coefficientsIn form bs) ≡ widthIn bs
-  wide = width-read form bs ∙ g .wide
+  pub width-whole : width (coefficientsIn form bs) ≡ widthIn bs
+  width-whole = width-read form bs ∙ g .wide
 
   pub storable-read : Storable form (kindIn bs) (indexIn bs) (coefficientsIn form bs)
   storable-read =
       let r = right (mark form) bs (g .header) in
       let f = width-some (coefficientsIn form bs)
-      (λ z. omega (arith, wide, width-bounds (widthIn bs) (r .wide) .0)) in
+      (λ z. omega (arith, width-whole, width-bounds (widthIn bs) (r .wide) .0)) in
       record {
         known = r .kind;
         good = good-index (indexIn bs) (pos-of-ne-zero (r .index)) (index-small bs (r .long) p);
@@ -71,7 +71,7 @@ module _ (form : Form) (bs : List ℕ) (room : ℕ) (p : Bytes bs) (g : Read-rig
 
   pub size-read : size form (coefficientsIn form bs) ≡ sizeIn form bs
   unfolding size sizeIn
-  size-read = ap₂ (λ (k v : ℕ). 10 + stored form k * v) (length-whole form bs) wide
+  size-read = ap₂ (λ (k v : ℕ). 10 + stored form k * v) (length-whole form bs) width-whole
 
   pub record-same : recordOf form (kindIn bs) (indexIn bs) (coefficientsIn form bs) ≡ take (sizeIn form bs) bs
   unfolding recordOf sizeIn storedIn
@@ -82,9 +82,9 @@ module _ (form : Form) (bs : List ℕ) (room : ℕ) (p : Bytes bs) (g : Read-rig
       let cs = coefficientsIn form bs in
       let long : 10 + k * v ≤ length bs = g .long in
       let head : headerOf (mark form) (kindIn bs) (width cs) (indexIn bs) (length cs) ≡ take 10 bs =
-      ap₂ (λ (x y : ℕ). headerOf (mark form) (kindIn bs) x (indexIn bs) y) wide (length-whole form bs)
+      ap₂ (λ (x y : ℕ). headerOf (mark form) (kindIn bs) x (indexIn bs) y) width-whole (length-whole form bs)
       ∙ header-same (mark form) bs p r in
       let tail : body (width cs) (part form cs) ≡ take (k * v) (drop 10 bs) =
-      ap₂ body wide (part-read form bs)
+      ap₂ body width-whole (part-read form bs)
       ∙ body-coefficients v k (drop 10 bs) (rw length-drop (omega arith)) (bytes-drop 10 bs p) in
       ap₂ _++_ head tail ∙ sym (take-add 10 (k * v) bs)

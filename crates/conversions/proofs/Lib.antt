@@ -1,0 +1,3 @@
+-- What the functions' proofs share, and the round trips.
+pub mod Converting
+pub mod RoundTrips
