@@ -15,7 +15,7 @@ use Rattle.widths.proofs.Digits.{Bytes, bytes-each}
 use Rattle.forms.specs.declared.Form.{Form}
 use Rattle.forms.specs.declared.Form.the-variants.{Whole, Half}
 use Rattle.forms.specs.Format.{recordOf, size, unevenFor, coefficientsIn, sizeIn, lookCode, writeLeaves, writeAnswer}
-use Rattle.forms.proofs.Done.{Storable}
+use Rattle.forms.proofs.Done.{Storable, Read-right}
 use Rattle.forms.proofs.Writing.{stored-whole}
 use Rattle.forms.proofs.WriteRead.{Back, back}
 use Rattle.forms.proofs.ReadWrite.{storable-read, size-read, record-same}
@@ -111,4 +111,40 @@ module _ (from : Form) (bs out b : List ℕ) (done : converted from bs out .code
       (converted (other from) (convertLeaves from bs out) b
       ≡ record { code = DONE; degree = r .degree; read = r .written; written = r .read; byte = 0 })
       × (convertLeaves (other from) (convertLeaves from bs out) b ≡ take (r .read) bs ++ drop (r .read) b)
-  there-and-back room = ?t
+  unfolding convertAnswer convertTells byteOf lookCode degreeIn
+  there-and-back room =
+      let q = by-code (other from) bs₂ b DONE code-back in
+      rw done
+      (
+        sym (q .0) ∙ rw (degree-back, reads-back .size-in, size-back),
+        sym (q .1) ∙ rw (record-back, size-back),
+      )
+    where
+      bs₂ : List ℕ
+      bs₂ = convertLeaves from bs out
+
+      good : Read-right from bs (countIn bs)
+      good = looked from bs (given .look)
+
+      degree-back : degreeIn bs₂ ≡ degreeIn bs
+      degree-back = reads-back .degree-in
+
+      even-back : unevenFor (other (other from)) (kindIn bs₂) (indexIn bs₂) (coefficientsIn (other from) bs₂) ≡ false
+      even-back =
+          rw (twice from, reads-back .kind-in, reads-back .index-in, reads-back .whole)
+          (back-even from bs (length out) p given)
+
+      size-back : size (other (other from)) (coefficientsIn (other from) bs₂) ≡ sizeIn from bs
+      size-back = rw (twice from, reads-back .whole) (size-read from bs (countIn bs) p good)
+
+      record-back : recordOf (other (other from)) (kindIn bs₂) (indexIn bs₂) (coefficientsIn (other from) bs₂)
+          ≡ take (sizeIn from bs) bs
+      record-back =
+          rw (twice from, reads-back .kind-in, reads-back .index-in, reads-back .whole)
+          (record-same from bs (countIn bs) p good)
+
+      code-back : convertCode (other from) bs₂ (length b) ≡ DONE
+      code-back =
+          code-done (other from) bs₂ (length b)
+          (reads-back .code (countIn bs₂) (omega (arith, reads-back .count-in))) even-back
+          (omega (arith, size-back, rw done at room))
