@@ -355,8 +355,8 @@ fn outcome(code: u64, degree: Option<u64>, byte: u64) -> Result<(), Refusal> {
     if code == 0 { Ok(()) } else { Err(Refusal::of(code, degree, byte)) }
 }
 
-/// A delivered polynomial or cascade: its coefficients, a part of the buffer that was lent, and what the library tells of
-/// it.
+/// A delivered polynomial or cascade: its coefficients, a part of the buffer that was lent, and what the library tells
+/// of it.
 #[derive(Debug)]
 pub struct Polynomial<'a> {
     pub coeffs: &'a mut [i64],
