@@ -35,28 +35,39 @@ fn filled() -> [u8; 65536]
     [170; 65536]
 }
 
-// How much of it is lent.
-fn room(asked: Row) -> usize
-    ensures { λ r. ⌜ r ≤ 65536 ⌝ }
+// How much of it is lent: as much as the first number says, or all.
+fn room(asked: Row, len: usize) -> usize
+    ensures { λ r. ⌜ r ≤ len ⌝ }
 {
     let v = asked.bits;
-    if v[0] < 65536 { v[0] as usize } else { 65536 }
+    if v[0] < len as u64 { v[0] as usize } else { len }
 }
 
-fn to_half(asked: Row, bytes: &[u8]) {
-    let mut out = filled();
-    let k = room(asked);
-    let a = bonvedrick::bv_to_half(bytes, &mut out[..k]);
+fn to_half(bytes: &[u8], out: &mut [u8]) {
+    let a = bonvedrick::bv_to_half(bytes, out);
     trial_output::numbers(&[a.code, a.degree, a.read, a.written, a.byte]);
-    trial_output::bytes(&out[..k]);
+    trial_output::bytes(out);
 }
 
-fn to_whole(asked: Row, bytes: &[u8]) {
-    let mut out = filled();
-    let k = room(asked);
-    let a = bonvedrick::bv_to_whole(bytes, &mut out[..k]);
+fn to_whole(bytes: &[u8], out: &mut [u8]) {
+    let a = bonvedrick::bv_to_whole(bytes, out);
     trial_output::numbers(&[a.code, a.degree, a.read, a.written, a.byte]);
-    trial_output::bytes(&out[..k]);
+    trial_output::bytes(out);
+}
+
+// A conversion of the bytes, to the half form or to the whole one, into as much of the space as is lent.
+fn convert(asked: Row, half: bool, bytes: &[u8], space: &mut [u8]) {
+    let k = room(asked, space.len());
+    if half {
+        to_half(bytes, &mut space[..k]);
+    } else {
+        to_whole(bytes, &mut space[..k]);
+    }
+}
+
+fn converted(asked: Row, half: bool, bytes: &[u8]) {
+    let mut space = filled();
+    convert(asked, half, bytes, &mut space);
 }
 
 // A request by its name; tells whether it is one of these.
@@ -64,8 +75,8 @@ pub fn ask(name: u64, asked: Row, entries: &mut [i64], bytes: &mut [u8]) -> bool
     match name {
         WRITE_HALF => write_half(asked, entries, bytes),
         READ_HALF => read_half(entries, bytes),
-        TO_HALF => to_half(asked, bytes),
-        TO_WHOLE => to_whole(asked, bytes),
+        TO_HALF => converted(asked, true, bytes),
+        TO_WHOLE => converted(asked, false, bytes),
         _ => return false,
     }
     true
