@@ -40,7 +40,11 @@ fn room(asked: Row, len: usize) -> usize
     ensures { λ r. ⌜ r ≤ len ⌝ }
 {
     let v = asked.bits;
-    if v[0] < len as u64 { v[0] as usize } else { len }
+    if v[0] < len as u64 {
+        v[0] as usize
+    } else {
+        len
+    }
 }
 
 fn to_half(bytes: &[u8], out: &mut [u8]) {
