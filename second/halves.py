@@ -203,6 +203,13 @@ def unevenly():
         wrong = half + [-c for c in rebuilt(kind, n, half)[len(half):]]
         yield writing_half(kind, n, wrong, 50)
         yield halving(stored(MARK, kind, n, 1, wrong), 50)
+    for width, v in ((2, 128), (4, 1 - 2**31), (8, 2**31)):
+        # one that needs the width, in one half alone
+        for kind, n in ((1, 1), (1, 6), (2, 6)):
+            zeros = [0] * degree(kind, n)
+            for coeffs in ([v] + zeros, zeros + [v]):
+                yield writing_half(kind, n, coeffs, 50)
+                yield halving(stored(MARK, kind, n, width, coeffs), 50)
 
 
 def middles():

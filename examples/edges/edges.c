@@ -1044,10 +1044,17 @@ static void each_half(const half_case *p, size_t width) {
         }
         c[at] = was;
     }
+    if (count == 1)
+        return;
     /* negated for copied, and the other way round */
     c[count - 1] = -c[count - 1];
     put_form(other, 0x50, p, width, c, count);
-    if (count > 1) {
+    half_written(p, c, most, BV_REFUSED_UNEVEN, NULL, 0);
+    converted(bv_to_half, p, other, all, most, BV_REFUSED_UNEVEN, 0, NULL, 0);
+    /* one that needs the width, in one half alone */
+    for (size_t at = 0; at < count; at += count - 1) {
+        c[at] = top, c[count - 1 - at] = 1;
+        put_form(other, 0x50, p, width, c, count);
         half_written(p, c, most, BV_REFUSED_UNEVEN, NULL, 0);
         converted(bv_to_half, p, other, all, most, BV_REFUSED_UNEVEN, 0, NULL, 0);
     }
