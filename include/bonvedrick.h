@@ -414,8 +414,8 @@ bv_written bv_write_half(uint64_t kind, uint64_t n, const int64_t *coeffs, size_
 bv_record bv_read_half(const uint8_t *bytes, size_t len, int64_t *coeffs, size_t count);
 
 /*
- * Converts a record: the one of bv_write that the bytes start with to the half record of the same polynomial, and the
- * half record that they start with to the record. What follows it is not looked at. Each undoes the other: what one has
+ * Converts the record that the bytes start with: bv_to_half one of bv_write to the half record of the same polynomial,
+ * bv_to_whole a half record to the record. What follows it is not looked at. Each undoes the other: what one has
  * written the other turns into the very bytes that were read.
  *
  *   code                given where                                     degree told   byte   out
@@ -438,8 +438,8 @@ bv_record bv_read_half(const uint8_t *bytes, size_t len, int64_t *coeffs, size_t
  *   BV_REFUSED_SHORT    room is below the size of the other record      yes           0      untouched
  *
  * The order is that of the table: the room is looked at last. On refusal read and written are 0. bytes is only read.
- * The half record is never longer than the record, so a room of len is always enough for bv_to_half; for bv_to_whole 2
- * len is.
+ * The half record is never longer than the record, so a room of len is always enough for bv_to_half; for bv_to_whole
+ * twice as many are.
  */
 bv_converted bv_to_half(const uint8_t *bytes, size_t len, uint8_t *out, size_t room);
 bv_converted bv_to_whole(const uint8_t *bytes, size_t len, uint8_t *out, size_t room);
