@@ -17,6 +17,9 @@ use Rattle.answers.proofs.known_kind.Reads as known-kind-reads
 use Rattle.answers.proofs.good_index as good-index
 use Rattle.answers.proofs.good_index.Kinds as good-index-kinds
 use Rattle.answers.proofs.good_index.Reads as good-index-reads
+use Rattle.answers.proofs.negates as negates
+use Rattle.answers.proofs.negates.Kinds as negates-kinds
+use Rattle.answers.proofs.negates.Reads as negates-reads
 
 pub answer-one :
     (κs : Lfts 0) (a : ArgsD answer.signature κs) (z z′ : ResD answer.signature κs)
@@ -41,3 +44,9 @@ pub good-index-one :
     (e e′ : AtExit (endedOf 0 good-index-kinds.ps good-index-kinds.r) κs)
     → good-index-reads.Post κs a z e → good-index-reads.Post κs a z′ e′ → z ≡ z′
 good-index-one κs a z z′ e e′ p p′ = p ∙ sym p′
+
+pub negates-one :
+    (κs : Lfts 0) (a : ArgsD negates.signature κs) (z z′ : ResD negates.signature κs)
+    (e e′ : AtExit (endedOf 0 negates-kinds.ps negates-kinds.r) κs)
+    → negates-reads.Post κs a z e → negates-reads.Post κs a z′ e′ → z ≡ z′
+negates-one κs a z z′ e e′ p p′ = p ∙ sym p′

@@ -4,6 +4,7 @@
 ghost use mathlib.Core.Path.{_≡_};
 ghost use lib.IntN.{pos};
 ghost use Rattle.definitions.specs.Requests.{knownKind, goodIndex};
+ghost use Rattle.definitions.specs.Halves.{negates};
 
 pub const DONE: u64 = 0;
 
@@ -38,6 +39,8 @@ pub const RCOUNT: u64 = 15;
 pub const LIST: u64 = 16;
 
 pub const ABSENT: u64 = 17;
+
+pub const UNEVEN: u64 = 18;
 
 // A polynomial request's answer.
 #[repr(C)]
@@ -102,4 +105,14 @@ pub fn good_index(n: u64) -> bool
     ensures { λ r. ⌜ r ≡ goodIndex n ⌝ }
 {
     0 < n && n <= 65535
+}
+
+// Does the polynomial of a kind and an index change its sign when it is mirrored?
+pub fn negates(kind: u64, n: u64) -> bool
+    ensures { λ r. ⌜ r ≡ negates kind n ⌝ }
+{
+    if kind == 1 {
+        return n == 1;
+    }
+    1 < n
 }

@@ -8,9 +8,9 @@ use lib.ListN.{length, drop, length-drop}
 use lib.Dec.{leb, eqb}
 use borrow.Author.Tests.{le-leb, lt-leb, leb-true, leb-false, ne-eqb, eqb-true, eqb-false}
 use Rattle.definitions.specs.Codes.{DONE}
-use Rattle.record.specs.Header.{kindIn, indexIn, countIn, degreeIn}
+use Rattle.record.specs.Header.{kindIn, indexIn, degreeIn}
 use Rattle.shelf.specs.Format.{sizeIn, lookCode}
-use Rattle.shelf.proofs.Done.{read-right}
+use Rattle.shelf.proofs.Alone.{size-least, size-looked}
 use Rattle.browsing.specs.declared.Shown.{Shown}
 use Rattle.browsing.specs.declared.Shown.the-variants.{Record, Refused, End}
 use Rattle.browsing.specs.Browse.{shownOf, shownAt, placeAfter}
@@ -60,11 +60,10 @@ isRecord (End start) = false
 
 pub record-bounds : (shelf : List ℕ) (at : ℕ) (s : Shown) → shownAt shelf at ≡ s → isRecord s ≡ true
     → (at < placeAfter s) × (placeAfter s ≤ length shelf)
-unfolding placeAfter lookCode sizeIn
+unfolding placeAfter
 record-bounds shelf at s e =
     subst (λ x. isRecord x ≡ true → (at < placeAfter x) × (placeAfter x ≤ length shelf)) e
     (shown-cases (λ x. isRecord x ≡ true → (at < placeAfter x) × (placeAfter x ≤ length shelf)) shelf at
     (λ l f. absurd (true≢false (sym f))) (λ l z f. absurd (true≢false (sym f))) (λ l good f.
     let bytes = drop at shelf in
-    let g = read-right bytes (countIn bytes) good in
-    (omega arith, omega (arith, g .long, length-drop at shelf))))
+    (omega (arith, size-least bytes), omega (arith, size-looked bytes good, length-drop at shelf))))

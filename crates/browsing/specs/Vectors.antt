@@ -9,7 +9,7 @@ use Rattle.definitions.specs.Requests.{knownKind}
 use Rattle.definitions.specs.Answer.{heightOf}
 use Rattle.widths.specs.Numbers.{number, top, signedOf, coefficientsAt, oneOf, leastOf, width}
 use Rattle.record.specs.Header.{marked, degreeIn, fieldCode, headerCode}
-use Rattle.shelf.specs.Format.{coefficientsIn, sizeIn, readCode, lookCode}
+use Rattle.forms.specs.Format.{storedIn, sizeIn, readCode, lookCode}
 use Rattle.browsing.specs.declared.Browsed.{Browsed}
 use Rattle.browsing.specs.Browse.{shownOf, shownAt, told}
 
@@ -31,6 +31,6 @@ shown :
     ∷ (MARK ∷ 1 ∷ 0 ∷ 0 ∷ 0 ∷ 0 ∷ []) ∷ (CUT ∷ 30 ∷ 0 ∷ 0 ∷ 0 ∷ 0 ∷ []) ∷ (DONE ∷ 37 ∷ 0 ∷ 0 ∷ 0 ∷ 0 ∷ [])
     ∷ (DONE ∷ 37 ∷ 0 ∷ 0 ∷ 0 ∷ 0 ∷ []) ∷ []
 unfolding shelf row told shownAt shownOf lookCode readCode headerCode marked fieldCode knownKind oneOf degreeIn degree
-    phi countTo shareFactor someTo divides coefficientsIn sizeIn coefficientsAt signedOf number top width leastOf
+    phi countTo shareFactor someTo divides storedIn sizeIn coefficientsAt signedOf number top width leastOf
     heightOf
 shown = refl

@@ -3,19 +3,20 @@
 -- that is `mirrored` and, with n = 1 in it, `mirrored-any`.
 use Prim.Native.Nat.{ℕ, _*_, _-_, _≤_, _<_, _∣_}
 use mathlib.Core.Path.{_≡_, refl, sym, _∙_, ap, ap₂}
-use mathlib.Core.Bool.{Bool, true, false, cond, not}
+use mathlib.Core.Bool.{Bool, true, false, cond}
 use mathlib.Core.Logic.{_≢_}
 use mathlib.Core.List.{[], _∷_}
 use native.Mathlib.Omega.{arith}
 use native.Mathlib.Nat as NatL
 use native.Mathlib.Decide.{decDvd, ℕ-discrete}
-use borrow.Author.Tests.{eq-eqb, ne-eqb}
+use borrow.Author.Tests.{eq-eqb, ne-eqb, lt-ltb}
 use lib.IntN.{ℤ}
-use lib.Dec.{eqb}
+use lib.Dec.{eqb, ltb}
 use Rattle.definitions.specs.Integers.{⊖, 0ℤ}
 use Rattle.definitions.specs.Series.{_·_, -ˢ, spread}
 use Rattle.definitions.specs.Numbers.{phi}
 use Rattle.definitions.specs.Polynomials.{z^-1, F, I, polynomial, degree}
+use Rattle.definitions.specs.Halves.{negates}
 use Rattle.integers.specs.Solver.{:1, _:*_, :-, x, y}
 use Rattle.integers.specs.Whole.{⊖-zero, ringℤ}
 use Rattle.series.specs.Laws.{at--ˢ, cancel, ·-comm, ringˢ}
@@ -105,14 +106,11 @@ mirrored kind n l i = go (eqb kind 1)
     go true h = sym (mirror-in (phi n) (F n) i h) ∙ ap (λ q. q i) (mirror-F n l)
     go false h = sym (mirror-in (n - phi n) (I n) i h) ∙ ap (λ q. q i) (mirror-I n l) ∙ at--ˢ (I n) i
 
--- of 1 too: which polynomials change their sign when they are mirrored, F(1) = z - 1 and I(n) above 1
-unfoldable pub negates : ℕ → ℕ → Bool
-negates kind n = cond (eqb kind 1) (eqb n 1) (not (eqb n 1))
-
 first-mirrored : (i : ℕ) → i ≤ 1 → z^-1 1 (1 - i) ≡ ⊖ (z^-1 1 i)
 first-mirrored i h =
     sym (mirror-in 1 (z^-1 1) i h) ∙ ap (λ q. q i) (mirror-z^-1 1 (omega arith)) ∙ at--ˢ (z^-1 1) i
 
+-- of 1 too: F(1) = z - 1 and I(n) above 1 change their sign when they are mirrored
 pub mirrored-any : (kind n : ℕ) → 0 < n → (i : ℕ) → i ≤ degree kind n → polynomial kind n (degree kind n - i)
     ≡ cond (negates kind n) (⊖ (polynomial kind n i)) (polynomial kind n i)
 unfolding negates turned degree polynomial
@@ -129,8 +127,8 @@ mirrored-any kind n pos i = go (ℕ-discrete n 1)
 
     go : Dec (n ≡ 1) → i ≤ cond (eqb kind 1) (phi n) (n - phi n)
         → cond (eqb kind 1) (F n) (I n) (cond (eqb kind 1) (phi n) (n - phi n) - i)
-        ≡ cond (cond (eqb kind 1) (eqb n 1) (not (eqb n 1))) (⊖ (cond (eqb kind 1) (F n) (I n) i))
+        ≡ cond (cond (eqb kind 1) (eqb n 1) (ltb 1 n)) (⊖ (cond (eqb kind 1) (F n) (I n) i))
         (cond (eqb kind 1) (F n) (I n) i)
     go (yes e) h = rw (e, eq-eqb 1 1 refl) (one (eqb kind 1) (rw e at h))
     go (no u) h =
-        mirrored kind n (omega arith) i h ∙ rw (ne-eqb n 1 u) (above (eqb kind 1) (cond (eqb kind 1) (F n) (I n) i))
+        mirrored kind n (omega arith) i h ∙ rw (ne-eqb n 1 u, lt-ltb 1 n (omega arith)) (above (eqb kind 1) (cond (eqb kind 1) (F n) (I n) i))

@@ -52,3 +52,6 @@ LIST = 16
 
 abbrev pub ABSENT : ℕ
 ABSENT = 17
+
+abbrev pub UNEVEN : ℕ
+UNEVEN = 18

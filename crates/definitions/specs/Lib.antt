@@ -10,3 +10,4 @@ pub mod Answer
 pub mod Requests
 pub mod Cascades
 pub mod Second
+pub mod Halves

@@ -29,7 +29,8 @@ use Rattle.cyclotomic.specs.Family.{F-one}
 use Rattle.cyclotomic.specs.Degrees.{monic-F}
 use Rattle.cyclotomic.specs.Mirrors.{mirror-F}
 use Rattle.index.specs.declared.Parts.{Parts}
-use Rattle.shapes.specs.Shapes.{InRange, mirroredUp}
+use Rattle.definitions.specs.Halves.{mirroredUp}
+use Rattle.shapes.specs.Shapes.{InRange}
 use Rattle.shapes.proofs.Shaping.{mirrored-low, mirrored-high}
 use Rattle.next_factor.specs.Times.{Asked, Turns, Multiplied, signed}
 

@@ -41,19 +41,19 @@ module _ (xs ys : List ℕ) (long : 10 ≤ length xs) where
   unfolding degreeIn
   degree-front = ap₂ degree kind-front index-front
 
-  marked-front : marked (xs ++ ys) ≡ marked xs
+  marked-front : (mark : ℕ) → marked mark (xs ++ ys) ≡ marked mark xs
   unfolding marked
-  marked-front = rw (getD-front xs ys 0 (omega arith), getD-front xs ys 1 (omega arith))
+  marked-front mark = rw (getD-front xs ys 0 (omega arith), getD-front xs ys 1 (omega arith))
 
   fields-front : fieldCode fields (xs ++ ys) ≡ fieldCode fields xs
   unfolding fieldCode
   fields-front = rw (kind-front, width-front, index-front, count-front, degree-front)
 
-  pub header-front : headerCode (xs ++ ys) ≡ headerCode xs
+  pub header-front : (mark : ℕ) → headerCode mark (xs ++ ys) ≡ headerCode mark xs
   unfolding headerCode
-  header-front =
+  header-front mark =
       rw (
-        marked-front,
+        marked-front mark,
         fields-front,
         le-ltb (length (xs ++ ys)) 10 (rw length-append (omega arith)),
         le-ltb (length xs) 10 long,

@@ -10,12 +10,12 @@ use Rattle.definitions.specs.Polynomials.{degree}
 use Rattle.definitions.specs.Requests.{knownKind}
 use Rattle.widths.specs.Numbers.{bytesOf, number, widths, oneOf}
 
--- mark C9 50; kind, 1 byte; width, 1 byte; n, 2 bytes; number of coefficients, 4 bytes
-unfoldable pub headerOf : ℕ → ℕ → ℕ → ℕ → List ℕ
-headerOf kind w n count = 0xC9 ∷ 0x50 ∷ kind ∷ w ∷ bytesOf 2 n ++ bytesOf 4 count
+-- mark C9 and the byte of a form; kind, 1 byte; width, 1 byte; n, 2 bytes; number of coefficients, 4 bytes
+unfoldable pub headerOf : ℕ → ℕ → ℕ → ℕ → ℕ → List ℕ
+headerOf mark kind w n count = 0xC9 ∷ mark ∷ kind ∷ w ∷ bytesOf 2 n ++ bytesOf 4 count
 
-unfoldable pub marked : List ℕ → Bool
-marked bytes = eqb (getD bytes 0 0) 0xC9 && eqb (getD bytes 1 0) 0x50
+unfoldable pub marked : ℕ → List ℕ → Bool
+marked mark bytes = eqb (getD bytes 0 0) 0xC9 && eqb (getD bytes 1 0) mark
 
 -- A field: the code where it is wrong, its first byte, its length, and what is right in it, d being the degree of the
 -- kind at the index that stand in the header.
@@ -65,8 +65,9 @@ unfoldable pub fieldCode : List Field → List ℕ → ℕ
 fieldCode [] bytes = DONE
 fieldCode (f ∷ fs) bytes = cond (f .right (degreeIn bytes) (inField f bytes)) (fieldCode fs bytes) (f .code)
 
-unfoldable pub headerCode : List ℕ → ℕ
-headerCode bytes = cond (ltb (length bytes) 10) CUT (cond (not (marked bytes)) MARK (fieldCode fields bytes))
+unfoldable pub headerCode : ℕ → List ℕ → ℕ
+headerCode mark bytes =
+    cond (ltb (length bytes) 10) CUT (cond (not (marked mark bytes)) MARK (fieldCode fields bytes))
 
 -- the byte at which the field of a code starts, 0 for every other code
 unfoldable pub byteOf : List Field → ℕ → ℕ

@@ -17,7 +17,7 @@ pub(crate) fn wide(b: u8) -> u64
 }
 
 // v in w bytes, from `at` on.
-pub(crate) fn put(bytes: &mut [u8], at: usize, w: usize, v: u64)
+pub fn put(bytes: &mut [u8], at: usize, w: usize, v: u64)
     requires { ⌜ at + w ≤ length (now bytes) ⌝ }
     ensures { λ r. ⌜ now (bytes .exit) ≡ sets (now (bytes .entry)) at (bytesOf w v) ⌝ }
 {
@@ -62,7 +62,7 @@ fn eight(bytes: &[u8], at: usize) -> u64
 }
 
 // The number in the w bytes from `at` on.
-pub(crate) fn get(bytes: &[u8], at: usize, w: usize) -> u64
+pub fn get(bytes: &[u8], at: usize, w: usize) -> u64
     requires { ⌜ (oneOf widths w ≡ true) × (at + w ≤ length (now bytes)) ⌝ }
     ensures { λ r. ⌜ Held w at (now (bytes .entry)) r ⌝ }
 {
@@ -75,7 +75,7 @@ pub(crate) fn get(bytes: &[u8], at: usize, w: usize) -> u64
 }
 
 // The coefficient in the w bytes from `at` on.
-fn coefficient(bytes: &[u8], at: usize, w: usize) -> i64
+pub fn coefficient(bytes: &[u8], at: usize, w: usize) -> i64
     requires { ⌜ (oneOf widths w ≡ true) × (at + w ≤ length (now bytes)) ⌝ }
     ensures { λ r. ⌜ r ≡ signedOf w (numberAt w at (now (bytes .entry))) ⌝ }
 {

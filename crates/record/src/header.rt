@@ -1,4 +1,4 @@
-// The header: 10 bytes, the same in every form of a record.
+// The header: 10 bytes, the same in every form of a record but for the second, which marks the form.
 use super::bytes::four;
 use super::bytes::one;
 use super::bytes::put;
@@ -14,23 +14,23 @@ ghost use Rattle.record.specs.Header.{headerOf, marked, fields};
 ghost use Rattle.record.specs.Header.{kindIn, widthIn, indexIn, countIn, fieldCode, headerCode, byteOf};
 
 // The 10 bytes before the coefficients.
-pub fn put_header(bytes: &mut [u8], kind: u8, w: u8, n: u64, count: u64)
+pub fn put_header(bytes: &mut [u8], mark: u8, kind: u8, w: u8, n: u64, count: u64)
     requires { ⌜ 10 ≤ length (now bytes) ⌝ }
-    ensures { λ r. ⌜ now (bytes .exit) ≡ sets (now (bytes .entry)) 0 (headerOf kind w n count) ⌝ }
+    ensures { λ r. ⌜ now (bytes .exit) ≡ sets (now (bytes .entry)) 0 (headerOf mark kind w n count) ⌝ }
 {
     bytes[0] = 0xC9;
-    bytes[1] = 0x50;
+    bytes[1] = mark;
     bytes[2] = kind;
     bytes[3] = w;
     put(bytes, 4, 2, n);
     put(bytes, 6, 4, count);
 }
 
-fn is_marked(bytes: &[u8]) -> bool
+fn is_marked(bytes: &[u8], mark: u8) -> bool
     requires { ⌜ 10 ≤ length (now bytes) ⌝ }
-    ensures { λ r. ⌜ r ≡ marked (now (bytes .entry)) ⌝ }
+    ensures { λ r. ⌜ r ≡ marked mark (now (bytes .entry)) ⌝ }
 {
-    bytes[0] == 0xC9 && bytes[1] == 0x50
+    bytes[0] == 0xC9 && bytes[1] == mark
 }
 
 // What stands in the fields.
@@ -87,13 +87,13 @@ fn field_code(bytes: &[u8]) -> u64
 }
 
 // What the header says by itself: CUT, MARK, a wrong field, or nothing wrong.
-pub fn header_code(bytes: &[u8]) -> u64
-    ensures { λ r. ⌜ r ≡ headerCode (now (bytes .entry)) ⌝ }
+pub fn header_code(bytes: &[u8], mark: u8) -> u64
+    ensures { λ r. ⌜ r ≡ headerCode mark (now (bytes .entry)) ⌝ }
 {
     if bytes.len() < 10 {
         return answers::CUT;
     }
-    if !is_marked(bytes) {
+    if !is_marked(bytes, mark) {
         return answers::MARK;
     }
     field_code(bytes)

@@ -5,7 +5,10 @@ mod bytes;
 mod header;
 mod look;
 
+pub use bytes::coefficient;
 pub use bytes::fill;
+pub use bytes::get;
+pub use bytes::put;
 pub use bytes::put_body;
 pub use header::byte_of;
 pub use header::count_in;

@@ -17,9 +17,9 @@ use Rattle.definitions.specs.KeptHalf.{halfDegree}
 use Rattle.step_laws.specs.Tests.{by-order}
 use Rattle.step_laws.specs.Firsts.{length-firsts, firsts-here}
 use Rattle.cyclotomic.specs.Degrees.{monic}
-use Rattle.cyclotomic.specs.Mirrors.{negates, mirrored-any}
+use Rattle.definitions.specs.Halves.{negates, mirroredUp}
+use Rattle.cyclotomic.specs.Mirrors.{mirrored-any}
 use Rattle.never_over.specs.Heights.{coefficient-fits}
-use Rattle.shapes.specs.Shapes.{mirroredUp}
 use Rattle.shapes.proofs.Shaping.{mirrored-low, mirrored-high}
 use Rattle.shapes.proofs.Stretches.{put-before, put-in}
 use Rattle.second_engine.specs.Halves.{Half, HalfFrom, Filled}

@@ -6,21 +6,12 @@ ghost use mathlib.Core.Path.{_≡_};
 ghost use lib.ListN.{length};
 ghost use Rattle.definitions.specs.Series.{Series, _·_, _÷_, spread};
 ghost use Rattle.definitions.specs.Polynomials.{z^-1, degree};
-ghost use Rattle.cyclotomic.specs.Mirrors as Mirrors;
 ghost use Rattle.spread_products.specs.Rows.{Made};
 ghost use Rattle.second_engine.specs.Halves.{Half, HalfFrom, Part, Filled, Joining};
+use answers::negates;
 use shapes::mirror;
 use spread_products::divide;
 use spread_products::times_spread;
-
-fn negates(kind: u64, m: u64) -> bool
-    ensures { λ r. ⌜ r ≡ Mirrors.negates kind m ⌝ }
-{
-    if kind == 1 {
-        return m == 1;
-    }
-    m != 1
-}
 
 // From the lower half that stands at `from` to the whole polynomial of m.
 pub(crate) fn fill(b: &mut [i64], from: usize, to: usize, kind: u64, m: u64)

@@ -17,7 +17,8 @@ use Rattle.series.specs.Maps.{alternate-even, alternate-odd}
 use Rattle.entry_steps.specs.Passes.{Split, All, putFour, setFour}
 use Rattle.entry_steps.proofs.Split.{moved-up, all-firsts, all-below}
 use Rattle.entry_steps.proofs.FourEntries.{four-is, moved-four-up}
-use Rattle.shapes.specs.Shapes.{InRange, mirroredUp, MirroredTo, negatedCopy}
+use Rattle.definitions.specs.Halves.{mirroredUp}
+use Rattle.shapes.specs.Shapes.{InRange, MirroredTo, negatedCopy}
 
 -- ---- zeros
 none-firsts : (n : ℕ) → firsts n (λ k. 0ℤ) ≡ replicate n 0ℤ

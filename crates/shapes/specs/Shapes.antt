@@ -8,6 +8,7 @@ use lib.Dec.{ltb}
 use Rattle.definitions.specs.Integers.{⊖}
 use Rattle.definitions.specs.Series.{Series}
 use Rattle.definitions.specs.Steps.{entries, largest}
+use Rattle.definitions.specs.Halves.{mirroredUp}
 use Rattle.entry_steps.specs.Passes.{Split}
 
 -- each of the first n entries can be negated
@@ -17,10 +18,6 @@ InRange n l = (i : ℕ) → i < n → natAbs (entries l i) ≤ largest
 -- entry k, or its negative
 abbrev pub signedEntry : Bool → List ℤ → ℕ → ℤ
 signedEntry negate l k = cond negate (⊖ (entries l k)) (entries l k)
-
--- the upper half of n entries mirrors the lower
-unfoldable pub mirroredUp : Bool → ℕ → Series → Series
-mirroredUp negate n f i = cond (ltb i ((n + 1) / 2)) (f i) (cond negate (⊖ (f (n - 1 - i))) (f (n - 1 - i)))
 
 -- the mirror got up to the place i of l, which left m
 pub record MirroredTo (negate : Bool) (l m : List ℤ) (i : ℕ) : Type 0 where

@@ -5,7 +5,8 @@ ghost use mathlib.Core.Path.{_≡_};
 ghost use lib.ListN.{length};
 ghost use Rattle.definitions.specs.Steps.{entries};
 ghost use Rattle.entry_steps.specs.Passes.{setFour};
-ghost use Rattle.shapes.specs.Shapes.{InRange, MirroredTo, mirroredUp};
+ghost use Rattle.definitions.specs.Halves.{mirroredUp};
+ghost use Rattle.shapes.specs.Shapes.{InRange, MirroredTo};
 use crate::signed_entry;
 use entry_steps::put_four;
 

@@ -1,6 +1,6 @@
 -- A record by itself: the stretch of a shelf from which a record reads, taken out, reads as it did in its place.
 use Prim.Native.Nat.{ℕ, _+_, _≤_}
-use mathlib.Core.Path.{_≡_, sym, ap, _∙_}
+use mathlib.Core.Path.{_≡_, refl, sym, ap, _∙_}
 use mathlib.Core.List.{List, _++_}
 use native.Mathlib.Omega.{arith}
 use borrow.Author.Tests.{le-ltb, eq-eqb}
@@ -8,47 +8,56 @@ use lib.ListN.{length, take, drop, length-append, length-drop, take-append-drop}
 use lib.Seq.{drop-append-le, length-take-le}
 use Rattle.definitions.specs.Codes.{DONE}
 use Rattle.widths.specs.Numbers.{width}
-use Rattle.record.specs.Header.{widthIn, countIn}
+use Rattle.record.specs.Header.{widthIn, countIn, headerCode}
 use Rattle.record.proofs.Fronts.{width-front, count-front, header-front, coefficients-front}
-use Rattle.shelf.specs.Format.{coefficientsIn, sizeIn, readCode, lookCode}
-use Rattle.shelf.proofs.Reading.{code-done}
-use Rattle.shelf.proofs.Done.{Read-right, read-right}
+use Rattle.forms.specs.declared.Form.the-variants.{Whole}
+use Rattle.forms.specs.Format as Forms
+use Rattle.forms.specs.Format.{storedIn, readCode}
+use Rattle.forms.proofs.Reading.{code-done}
+use Rattle.forms.proofs.Done.{Read-right, read-right}
+use Rattle.shelf.specs.Format.{oldMark, sizeIn, lookCode}
 
 pub size-least : (bs : List ℕ) → 10 ≤ sizeIn bs
-unfolding sizeIn
+unfolding Forms.sizeIn
 size-least bs = omega arith
 
 -- in front of others it is what it is by itself
 module _ (s rest : List ℕ) (long : 10 ≤ length s) where
   pub size-front : sizeIn (s ++ rest) ≡ sizeIn s
-  unfolding sizeIn
+  unfolding Forms.sizeIn
   size-front = rw (count-front s rest long, width-front s rest long)
 
   module _ (room : sizeIn s ≤ length s) where
-    coefficients-in-front : coefficientsIn (s ++ rest) ≡ coefficientsIn s
-    unfolding coefficientsIn sizeIn
-    coefficients-in-front =
+    stored-front : storedIn Whole (s ++ rest) ≡ storedIn Whole s
+    unfolding storedIn Forms.sizeIn
+    stored-front =
         rw (count-front s rest long, width-front s rest long, drop-append-le 10 s rest long)
         (coefficients-front (widthIn s) (countIn s) (drop 10 s) rest (rw length-drop (omega arith)))
 
     pub look-front : lookCode (s ++ rest) ≡ lookCode s
-    unfolding lookCode readCode
+    unfolding Forms.lookCode readCode
     look-front =
         rw (
-          header-front s rest long,
+          header-front s rest long oldMark,
           count-front s rest long,
           width-front s rest long,
           size-front,
-          coefficients-in-front,
+          stored-front,
           le-ltb (length (s ++ rest)) (sizeIn s) (rw length-append (omega arith)),
           le-ltb (length s) (sizeIn s) room,
         )
 
--- and taken out
+-- what the look passes has a right header, and is whole; and taken out
 module _ (bs : List ℕ) (good : lookCode bs ≡ DONE) where
-  fits : Read-right bs (countIn bs)
-  unfolding lookCode
-  fits = read-right bs (countIn bs) good
+  fits : Read-right Whole bs (countIn bs)
+  unfolding Forms.lookCode
+  fits = read-right Whole bs (countIn bs) good
+
+  pub header-looked : headerCode oldMark bs ≡ DONE
+  header-looked = fits .header
+
+  pub size-looked : sizeIn bs ≤ length bs
+  size-looked = fits .long
 
   abbrev alone : List ℕ
   alone = take (sizeIn bs) bs
@@ -76,8 +85,8 @@ module _ (bs : List ℕ) (good : lookCode bs ≡ DONE) where
   )
 
 -- what the look passes is read, wherever there is room for its coefficients
-pub reads : (s : List ℕ) (room : ℕ) → lookCode s ≡ DONE → countIn s ≤ room → readCode s room ≡ DONE
-unfolding lookCode
+pub reads : (s : List ℕ) (room : ℕ) → lookCode s ≡ DONE → countIn s ≤ room → readCode Whole s room ≡ DONE
+unfolding Forms.lookCode
 reads s room good fits =
-    let g = read-right s (countIn s) good in
-    code-done s room (g .header) (g .long) fits (eq-eqb (width (coefficientsIn s)) (widthIn s) (g .wide))
+    let g = read-right Whole s (countIn s) good in
+    code-done Whole s room (g .header) (g .long) fits (eq-eqb (width (storedIn Whole s)) (widthIn s) (g .wide)) refl

@@ -1,10 +1,3 @@
--- What the functions' proofs share: the answers by their codes, and the round trips.
-pub mod Told
-pub mod Writing
-pub mod Reading
-pub mod Done
-pub mod WriteRead
-pub mod ReadWrite
-pub mod RoundTrips
+-- A record by itself, and one outcome for each input.
 pub mod Alone
 pub mod OneOutcome

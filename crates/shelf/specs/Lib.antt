@@ -1,3 +1,2 @@
--- The shelf record: its bytes, and what the writer and the reader answer and leave. `Vectors` computes some records.
+-- The shelf record in its old form.
 pub mod Format
-pub mod Vectors

@@ -10,7 +10,7 @@ use Rattle.definitions.specs.Requests.{knownKind, goodIndex}
 use Rattle.definitions.specs.Answer.{heightOf}
 use Rattle.widths.specs.Numbers.{number, top, signedOf, coefficientsAt, oneOf, leastOf, width}
 use Rattle.record.specs.Header.{marked, degreeIn, fieldCode, headerCode}
-use Rattle.shelf.specs.Format.{coefficientsIn, sizeIn, readCode, lookCode}
+use Rattle.forms.specs.Format.{storedIn, sizeIn, readCode, lookCode}
 use Rattle.browsing.specs.Browse.{shownOf, shownAt}
 use Rattle.shelves.specs.declared.Found.{Found}
 use Rattle.shelves.specs.Walk.{earlier, asked, onward, walkFrom, walked}
@@ -46,5 +46,5 @@ lookups :
     ∷ (INDEX ∷ 0 ∷ 0 ∷ 0 ∷ 0 ∷ 0 ∷ []) ∷ []
 unfolding F6 other I3 narrow row found foundBy refused walked walkFrom onward asked earlier shownAt shownOf lookCode
     readCode headerCode marked fieldCode knownKind goodIndex oneOf degreeIn degree phi countTo shareFactor someTo
-    divides coefficientsIn sizeIn coefficientsAt signedOf number top width leastOf heightOf
+    divides storedIn sizeIn coefficientsAt signedOf number top width leastOf heightOf
 lookups = refl

@@ -26,7 +26,8 @@ use Rattle.numbers.specs.Phi.{phi-pos, phi-le}
 use Rattle.cyclotomic.specs.Mirrors.{turned, mirrored}
 use Rattle.cyclotomic.specs.Degrees.{monic-I}
 use Rattle.cyclotomic.specs.Apart.{first-copy, second-copy}
-use Rattle.shapes.specs.Shapes.{mirroredUp, negatedCopy}
+use Rattle.definitions.specs.Halves.{mirroredUp}
+use Rattle.shapes.specs.Shapes.{negatedCopy}
 use Rattle.squarefree_from_half.specs.Growth.{Lower, FirstCopy}
 use Rattle.step_laws.specs.Signed.{abs-⊖}
 use Rattle.shapes.proofs.Stretches.{put-before, put-in, put-length}

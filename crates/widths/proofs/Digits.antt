@@ -1,15 +1,15 @@
 -- Numbers and their bytes, coefficients and theirs, each way and back, all over the width w.
 use Prim.Native.Nat.{ℕ, zero, suc, _+_, _*_, _-_, _/_, _%_, _≤_, _<_, _^_}
-use mathlib.Core.Path.{_≡_, refl, ap, _∙_}
+use mathlib.Core.Path.{_≡_, refl, sym, ap, _∙_}
 use mathlib.Core.Bool.{Bool, true, false, cond}
-use lib.Dec.{leb}
+use lib.Dec.{leb, eqb, eqb·suc-zero}
 use mathlib.Core.List.{List, [], _∷_, _++_, append-assoc}
 use native.Mathlib.Omega.{arith}
 use native.Mathlib.Nat.{zero-mul, suc-mul}
 use lib.ListN.{length, getD, take, drop, length-drop}
 use lib.Seq.{take-at, drop-at, take-add, length-take-le}
 use lib.IntN.{ℤ, pos, negsuc, natAbs}
-use borrow.Author.Tests.{le-leb, lt-leb}
+use borrow.Author.Tests.{le-leb, lt-leb, leb-false, ne-eqb}
 use Rattle.definitions.specs.Answer.{heightOf}
 use Rattle.widths.specs.Numbers.{bytesOf, number, top, twos, signedOf, body, coefficientsAt}
 use Rattle.widths.proofs.Widths.{full, full-suc}
@@ -82,6 +82,16 @@ twos-signed w v h = go (leb v (top w))
     go : (b : Bool) → twos w (cond b (pos v) (negsuc (2 ^ (8 * w) - suc v))) ≡ v
     go true = refl
     go false = omega arith
+
+-- the number 0
+pub zero-signed : (w v : ℕ) → eqb (natAbs (signedOf w v)) 0 ≡ eqb v 0
+unfolding signedOf
+zero-signed w v = go (leb v (top w)) refl
+  where
+    go : (b : Bool) → leb v (top w) ≡ b
+        → eqb (natAbs (cond b (pos v) (negsuc (2 ^ (8 * w) - suc v)))) 0 ≡ eqb v 0
+    go true e = refl
+    go false e = eqb·suc-zero (2 ^ (8 * w) - suc v) ∙ sym (ne-eqb v 0 (λ z. omega (arith, leb-false v (top w) e)))
 
 -- coefficients
 pub coefficients-body : (w : ℕ) (cs : List ℤ) (rest : List ℕ) → 0 < w → heightOf cs ≤ top w →

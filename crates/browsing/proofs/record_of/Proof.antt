@@ -3,27 +3,25 @@ use Prim.Native.Nat.{_≤_}
 use mathlib.Core.Path.{sym}
 use native.Mathlib.Omega.{arith}
 use lib.ListN.{length}
-use Rattle.record.specs.Header.{countIn}
-use Rattle.record.proofs.Headers.{right}
-use Rattle.shelf.specs.Format.{lookCode}
-use Rattle.shelf.proofs.Done.{Read-right, read-right}
+use Rattle.record.proofs.Headers.{Right, right}
+use Rattle.shelf.specs.Format.{oldMark}
+use Rattle.shelf.proofs.Alone.{header-looked, size-looked}
 use Rattle.browsing.proofs.Showing.{shown-record}
 use Rattle.browsing.proofs.record_of.Statement.{statement}
 use Rattle.browsing.proofs.record_of.Tie as tie
 
--- what reads well has a right header, and is long enough
-right-read : (start : tie.Start) → Read-right (start .args .bytes .now) (countIn (start .args .bytes .now))
-unfolding lookCode
-right-read start = read-right _ _ (start .pre .0)
+-- what reads well has a right header
+header : (start : tie.Start) → Right oldMark (start .args .bytes .now)
+header start = right _ _ (header-looked _ (start .pre .0))
 
 long : (start : tie.Start) → 10 ≤ length (start .args .bytes .now)
-long start = right _ (right-read start .header) .long
+long start = header start .long
 
 size-in-requires : tie.Need-size-in-requires
-size-in-requires c κs = right-read (c .before) .header
+size-in-requires c κs = header-looked _ (c .before .pre .0)
 
 add-t4 : tie.Need-add-t4
-add-t4 c = omega (arith, c .size-in .ensures, right-read (c .before .before) .long)
+add-t4 c = omega (arith, c .size-in .ensures, size-looked (c .before .before .args .bytes .now) (c .before .before .pre .0))
 
 kind-in-requires : tie.Need-kind-in-requires
 kind-in-requires c κs = long (c .before .before)
@@ -37,14 +35,14 @@ count-in-requires c κs = long (c .before .before .before .before)
 sub-t8 : tie.Need-sub-t8
 sub-t8 c =
     let start = c .before .before .before .before .before in
-    omega (arith, c .count-in .ensures, right _ (right-read start .header) .count)
+    omega (arith, c .count-in .ensures, header start .count)
 
 returns : tie.Need-returns
 returns c =
     let start = c .before .before .before .before .before in
     sym (shown-record _ _ (start .pre .0) _ _ _ _ (c .before .before .before .size-in .ensures)
     (c .before .before .kind-in .ensures) (c .before .index-in .ensures .0)
-    (omega (arith, c .count-in .ensures, right _ (right-read start .header) .count)))
+    (omega (arith, c .count-in .ensures, header start .count)))
 
 pub record-of-spec : {M : Type 1} → statement M
 record-of-spec =

@@ -8,7 +8,7 @@ use Rattle.definitions.specs.Steps.{entries}
 use Rattle.definitions.specs.Series.{firsts}
 use Rattle.definitions.specs.Polynomials.{degree, polynomial}
 use Rattle.step_laws.specs.Firsts.{firsts-same}
-use Rattle.shapes.specs.Shapes.{mirroredUp}
+use Rattle.definitions.specs.Halves.{mirroredUp}
 use Rattle.squarefree_from_half.proofs.Growing.{half-number, mirror-grows}
 use borrow.Author.Needs.{needs}
 use Rattle.squarefree_from_half.proofs.mirrored.Statement.{statement}

@@ -7,14 +7,14 @@ use Rattle.record.proofs.header.header_code.Statement.{statement}
 use Rattle.record.proofs.header.header_code.Tie as tie
 
 returns : tie.Need-returns
-returns c = sym (header-short _ (c .if1 .taken))
+returns c = sym (header-short _ _ (c .if1 .taken))
 
 is-marked-requires : tie.Need-is-marked-requires
 is-marked-requires c κs = search needs
 
 returns-2 : tie.Need-returns-2
 returns-2 c =
-    sym (header-unmarked _ (c .before .before .if1 .left) (sym (c .before .is-marked .ensures)
+    sym (header-unmarked _ _ (c .before .before .if1 .left) (sym (c .before .is-marked .ensures)
     ∙ not-true _ (c .if2 .taken)))
 
 field-code-requires : tie.Need-field-code-requires
@@ -23,7 +23,7 @@ field-code-requires c κs = search needs
 returns-3 : tie.Need-returns-3
 returns-3 c =
     let e = c .before in
-    c .field-code .ensures ∙ sym (header-fields _ (e .before .before .if1 .left) (sym (e .before .is-marked .ensures)
+    c .field-code .ensures ∙ sym (header-fields _ _ (e .before .before .if1 .left) (sym (e .before .is-marked .ensures)
     ∙ not-false _ (e .if2 .left)))
 
 pub header-code-spec : {M : Type 1} → statement M

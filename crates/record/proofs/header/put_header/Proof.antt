@@ -25,18 +25,18 @@ put-requires c κs = simp length-set (omega arith)
 put-requires-2 : tie.Need-put-requires-2
 put-requires-2 c κs =
     let a = c .before .before .before .before .before .before .args in
-    omega (arith, c .before .before .before .put .kept .0, four-long (a .bytes .now) (a .kind) (a .w))
+    omega (arith, c .before .before .before .put .kept .0, four-long (a .bytes .now) (a .mark) (a .kind) (a .w))
 
 same-length : tie.Need-same-length
 same-length c =
     let a = c .before .before .before .before .before .before .before .before .before .args in
     c .before .before .put2 .kept .0 ∙ c .before .before .before .before .before .before .put .kept .0
-    ∙ four-long (a .bytes .now) (a .kind) (a .w)
+    ∙ four-long (a .bytes .now) (a .mark) (a .kind) (a .w)
 
 returns : tie.Need-returns
 returns c =
     let a = c .before .before .before .before .before .before .before .before .before .args in
-    header-stored (a .bytes .now) _ _ (a .kind) (a .w) (a .n) (a .count)
+    header-stored (a .bytes .now) _ _ (a .mark) (a .kind) (a .w) (a .n) (a .count)
     (c .before .before .before .before .before .before .put .ensures)
     (c .before .before .put2 .ensures)
 

@@ -1,0 +1,2 @@
+-- From one form of a record to the other.
+pub mod Converting

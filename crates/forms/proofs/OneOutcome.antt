@@ -1,0 +1,45 @@
+-- For each input the contract of a function that asks nothing leaves one outcome: two that meet it, as the checker reads
+-- it off the clauses, have the same answer and leave the same in the lent buffer.
+use mathlib.Core.Path.{_≡_, sym, _∙_}
+use contract.Lifetimes.{Lfts}
+use borrow.Fn.Kinds.{endedOf}
+use borrow.Fn.World.{ArgsD, ResD}
+use denote.Triple.Clauses.{AtExit}
+use denote.Ref.{now}
+use Rattle.forms.proofs.mark_of as mark-of
+use Rattle.forms.proofs.mark_of.Kinds as mark-of-kinds
+use Rattle.forms.proofs.mark_of.Reads as mark-of-reads
+use Rattle.forms.proofs.writer.write as write
+use Rattle.forms.proofs.writer.write.Kinds as write-kinds
+use Rattle.forms.proofs.writer.write.Reads as write-reads
+use Rattle.forms.proofs.reader.read as read
+use Rattle.forms.proofs.reader.read.Kinds as read-kinds
+use Rattle.forms.proofs.reader.read.Reads as read-reads
+use Rattle.forms.proofs.reader.look as look
+use Rattle.forms.proofs.reader.look.Kinds as look-kinds
+use Rattle.forms.proofs.reader.look.Reads as look-reads
+
+pub mark-of-one :
+    (κs : Lfts 0) (a : ArgsD mark-of.signature κs) (z z′ : ResD mark-of.signature κs)
+    (e e′ : AtExit (endedOf 0 mark-of-kinds.ps mark-of-kinds.r) κs)
+    → mark-of-reads.Post κs a z e → mark-of-reads.Post κs a z′ e′ → z ≡ z′
+mark-of-one κs a z z′ e e′ p p′ = p ∙ sym p′
+
+pub write-one :
+    (κs : Lfts 2) (a : ArgsD write.signature κs) (z z′ : ResD write.signature κs)
+    (e e′ : AtExit (endedOf 2 write-kinds.ps write-kinds.r) κs) →
+    write-reads.Post κs a z e → write-reads.Post κs a z′ e′
+    → (z ≡ z′) × (now (e .1 .1 .1 .1 .0) ≡ now (e′ .1 .1 .1 .1 .0))
+write-one κs a z z′ e e′ p p′ = (p .0 ∙ sym (p′ .0), p .1 ∙ sym (p′ .1))
+
+pub read-one :
+    (κs : Lfts 2) (a : ArgsD read.signature κs) (z z′ : ResD read.signature κs)
+    (e e′ : AtExit (endedOf 2 read-kinds.ps read-kinds.r) κs) →
+    read-reads.Post κs a z e → read-reads.Post κs a z′ e′ → (z ≡ z′) × (now (e .1 .1 .0) ≡ now (e′ .1 .1 .0))
+read-one κs a z z′ e e′ p p′ = (p .0 ∙ sym (p′ .0), p .1 ∙ sym (p′ .1))
+
+pub look-one :
+    (κs : Lfts 1) (a : ArgsD look.signature κs) (z z′ : ResD look.signature κs)
+    (e e′ : AtExit (endedOf 1 look-kinds.ps look-kinds.r) κs)
+    → look-reads.Post κs a z e → look-reads.Post κs a z′ e′ → z ≡ z′
+look-one κs a z z′ e e′ p p′ = p ∙ sym p′
