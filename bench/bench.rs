@@ -1,9 +1,10 @@
 //! F for all odd n to 65,535: our library, plain Rust, and FLINT where it is there (`--cfg flint`), one after the other
 //! at each n. The buffers are cleared before the clock runs. Prints the median over the rounds of each total, and its
 //! ratio to plain Rust. Then how the time grows with the additions (growth.rs), and what a working limit costs
-//! (limits.rs), the stored record (records.rs), and the walk over a shelf (shelves.rs).
+//! (limits.rs), the stored record (records.rs), the walk over a shelf (shelves.rs), and half records (halves.rs).
 
 mod growth;
+mod halves;
 mod limits;
 mod plain;
 mod records;
@@ -158,4 +159,5 @@ fn main() {
     limits::print();
     records::print();
     shelves::print();
+    halves::print();
 }

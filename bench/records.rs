@@ -16,8 +16,8 @@ pub struct Written {
 }
 
 #[repr(C)]
-struct Record {
-    code: u64,
+pub struct Record {
+    pub code: u64,
     degree: u64,
     used: u64,
     kind: u64,
@@ -27,7 +27,7 @@ struct Record {
 
 extern "C" {
     pub fn bv_write(kind: u64, n: u64, coeffs: *const i64, count: usize, bytes: *mut u8, len: usize) -> Written;
-    fn bv_read(bytes: *const u8, len: usize, coeffs: *mut i64, count: usize) -> Record;
+    pub fn bv_read(bytes: *const u8, len: usize, coeffs: *mut i64, count: usize) -> Record;
 }
 
 fn write(coeffs: &[i64], bytes: &mut [u8]) {

@@ -5,8 +5,8 @@
  *   I(n)  the inverse one: F(n) times I(n) is z^n - 1.
  *
  * for n from 1 to 65535, and cascades, which are products of up to eight F(n); with whole 64-bit coefficients, lowest
- * degree first: coeffs[i] belongs to z^i. And stored: a record is a polynomial in bytes, and a shelf is records one
- * after another.
+ * degree first: coeffs[i] belongs to z^i. And stored: a record is a polynomial in bytes, a half record is one that
+ * leaves out the half that the other tells, and a shelf is records one after another.
  *
  * Link with libbonvedrick.a (`rt staticlib bonvedrick` writes target/staticlib/libbonvedrick.a, for x86-64).
  *
@@ -49,7 +49,7 @@ extern "C" {
  * PATCH moves for everything else.
  */
 #define BV_VERSION_MAJOR 1
-#define BV_VERSION_MINOR 3
+#define BV_VERSION_MINOR 4
 #define BV_VERSION_PATCH 0
 
 /* The two kinds of polynomial. */
@@ -85,22 +85,24 @@ extern "C" {
 #define BV_REFUSED_INDEX UINT64_C(2)   /* n is 0 or above 65535; bv_partial: also where n has no odd prime factor */
 #define BV_REFUSED_LIMIT UINT64_C(3)   /* the height limit h or the working limit w is below 1 */
 #define BV_REFUSED_SHORT UINT64_C(4)   /* the slice to be filled is too short; bv_cascade, bv_second: or the scratch */
-#define BV_REFUSED_OVER UINT64_C(5)    /* a step would pass w in magnitude; bv_write: a coefficient is -2^63;
+#define BV_REFUSED_OVER UINT64_C(5)    /* a step would pass w in magnitude; writing: a coefficient is -2^63;
                                           bv_cascade: a product of first factors is out of range;
                                           bv_second: never */
 #define BV_REFUSED_TALL UINT64_C(6)    /* a coefficient is larger in magnitude than h */
 #define BV_REFUSED_STEP UINT64_C(7)    /* size is 0 or above 65535; bv_partial: there are fewer than j divisors */
 #define BV_REFUSED_CUT UINT64_C(8)     /* reading: the record ends early */
-#define BV_REFUSED_MARK UINT64_C(9)    /* reading: the first two bytes are not those of a record */
-#define BV_REFUSED_WIDTH UINT64_C(11)  /* reading: the coefficients are not in the width that bv_write would choose */
+#define BV_REFUSED_MARK UINT64_C(9)    /* reading: the first two bytes are not those of such a record */
+#define BV_REFUSED_WIDTH UINT64_C(11)  /* reading: the coefficients are not in the width that writing would choose */
 #define BV_REFUSED_RKIND UINT64_C(12)  /* reading: the header's kind, at byte 2, is not 1 or 2 */
 #define BV_REFUSED_RWIDTH UINT64_C(13) /* reading: the header's width, at byte 3, is not 1, 2, 4 or 8 */
 #define BV_REFUSED_RINDEX UINT64_C(14) /* reading: the header's n, at byte 4, is 0 */
-#define BV_REFUSED_RCOUNT UINT64_C(15) /* bv_write: count is not degree + 1; reading: nor is the header's, at byte 6 */
+#define BV_REFUSED_RCOUNT UINT64_C(15) /* writing: count is not degree + 1; reading: nor is the header's, at byte 6 */
 #define BV_REFUSED_LIST UINT64_C(16)   /* bv_cascade: no index, more than 8, or a total degree above 65535 */
 #define BV_REFUSED_ABSENT UINT64_C(17) /* bv_lookup: neither shelf has such a record */
-/* 'reading' is bv_read, and bv_lookup and bv_browse for a record that they meet. 10 was given where any field of a
-   header was wrong; it is given no more. */
+#define BV_REFUSED_UNEVEN UINT64_C(18) /* half records: the halves of the polynomial don't match (bv_write_half) */
+/* 'writing' is bv_write and bv_write_half; 'reading' is bv_read, bv_read_half, bv_to_half and bv_to_whole, and
+   bv_lookup and bv_browse for a record that they meet. 10 was given where any field of a header was wrong; it is given
+   no more. */
 
 /* The name of a code, as after BV_ or BV_REFUSED_: "DONE", "KIND", ..; "?" for any other number, 10 too. */
 static inline const char *bv_name(uint64_t code) {
@@ -122,6 +124,7 @@ static inline const char *bv_name(uint64_t code) {
     case BV_REFUSED_RCOUNT: return "RCOUNT";
     case BV_REFUSED_LIST: return "LIST";
     case BV_REFUSED_ABSENT: return "ABSENT";
+    case BV_REFUSED_UNEVEN: return "UNEVEN";
     default: return "?";
     }
 }
@@ -183,6 +186,14 @@ typedef struct bv_browsed {
     uint64_t n;      /* of the record: 1 to 65535 */
     uint64_t degree; /* of its polynomial: it has degree + 1 coefficients */
 } bv_browsed;
+
+typedef struct bv_converted {
+    uint64_t code;
+    uint64_t degree;  /* of the record's polynomial: degree + 1 coefficients */
+    uint64_t read;    /* the bytes of the record that was read: the next one, if any, starts there */
+    uint64_t written; /* the bytes of the record that was written */
+    uint64_t byte;    /* where a field is wrong, the byte of the record at which it starts: 2, 3, 4 or 6; else 0 */
+} bv_converted;
 
 /*
  * The polynomial of a kind and an index n, unless a step on the way would make a value larger in magnitude than w, or a
@@ -347,6 +358,91 @@ bv_found bv_lookup(uint64_t kind, uint64_t n, const uint8_t *own, size_t own_len
  * ends. The shelf is only read.
  */
 bv_browsed bv_browse(const uint8_t *shelf, size_t len, uint64_t at);
+
+/*
+ * Writes a half record. Half of each polynomial repeats the other: the coefficient at degree - i is the one at i,
+ * negated for F(1) and for I(n) with n > 1, and as it is for F(n) with n > 1 and for I(1). Coefficients of which that
+ * is so for each i from 0 to degree are said to have halves that match. Where it negates, one in the middle, which an
+ * odd number of them has, is then 0.
+ *
+ * A half record is C9 51; the header of bv_write's record, whose number of coefficients is that of the whole
+ * polynomial; then only the first half of them, the middle one included: (degree + 2) / 2 of them, rounded down, in
+ * width bytes each, two's complement. The width is the least that takes these, as for bv_write, and so the least for
+ * all. The half record has 10 + (degree + 2) / 2 * width bytes. Here too the coefficients may be any numbers but
+ * -2^63, where their halves match. F(6) is C9 51 01 01 06 00 03 00 00 00 01 FF, and I(6) is C9 51 02 01 06 00 05 00 00
+ * 00 FF FF 00.
+ *
+ *   code                given where                                degree told   byte   bytes
+ *   BV_DONE             nothing below applies                      yes           0      bytes 0 to used - 1: the half
+ *                                                                                       record
+ *   BV_REFUSED_KIND     kind is not 1 or 2                         0             0      untouched
+ *   BV_REFUSED_INDEX    n is 0 or above 65535                      0             0      untouched
+ *   BV_REFUSED_RCOUNT   count is not degree + 1                    0             6      untouched
+ *   BV_REFUSED_OVER     a coefficient is -2^63                     yes           0      untouched
+ *   BV_REFUSED_UNEVEN   the halves of coeffs don't match           0             0      untouched
+ *   BV_REFUSED_SHORT    len is below the size of the half record   yes           0      untouched
+ *
+ * The order is that of the table. On refusal used is 0. coeffs is the whole polynomial, and only read.
+ */
+bv_written bv_write_half(uint64_t kind, uint64_t n, const int64_t *coeffs, size_t count, uint8_t *bytes, size_t len);
+
+/*
+ * Reads the half record that the bytes start with, and rebuilds the whole polynomial; what follows it is not looked at.
+ * Here `count` is the number of entries lent. Any bytes get their answer.
+ *
+ *   code                given where                                     degree told   byte   coeffs
+ *   BV_DONE             nothing below applies                           yes           0      entries 0 to degree: the
+ *                                                                                            coefficients, all of them
+ *   BV_REFUSED_CUT      len is below 10                                 0             0      untouched
+ *   BV_REFUSED_MARK     the first two bytes are not C9 51               0             0      untouched
+ *   BV_REFUSED_RKIND    the kind is not 1 or 2                          0             2      untouched
+ *   BV_REFUSED_RWIDTH   the width is not 1, 2, 4 or 8                   0             3      untouched
+ *   BV_REFUSED_RINDEX   n is 0                                          0             4      untouched
+ *   BV_REFUSED_RCOUNT   the number of coefficients is not the degree    0             6      untouched
+ *                       of that kind at that n, plus 1
+ *   BV_REFUSED_CUT      len is below the size of the half record        0             0      untouched
+ *   BV_REFUSED_SHORT    count is below the number of coefficients of    yes           0      untouched
+ *                       the whole polynomial
+ *   BV_REFUSED_WIDTH    the width is not the one that bv_write_half     0             0      untouched
+ *                       would choose, or a coefficient is -2^63
+ *   BV_REFUSED_UNEVEN   there is a coefficient in the middle, it is     0             0      untouched
+ *                       not 0, and rebuilding negates
+ *
+ * The order is that of the table. On refusal used, kind and n are 0. bytes is only read. bv_read gives BV_REFUSED_MARK
+ * for a half record, as bv_lookup and bv_browse do, and this one for a record of bv_write: the mark tells which it is.
+ */
+bv_record bv_read_half(const uint8_t *bytes, size_t len, int64_t *coeffs, size_t count);
+
+/*
+ * Converts the record that the bytes start with: bv_to_half one of bv_write to the half record of the same polynomial,
+ * bv_to_whole a half record to the record. What follows it is not looked at. Each undoes the other: what one has
+ * written the other turns into the very bytes that were read.
+ *
+ *   code                given where                                     degree told   byte   out
+ *   BV_DONE             nothing below applies                           yes           0      bytes 0 to written - 1:
+ *                                                                                            the other record
+ *   BV_REFUSED_CUT      len is below 10                                 0             0      untouched
+ *   BV_REFUSED_MARK     the first two bytes are not C9 50;              0             0      untouched
+ *                       bv_to_whole: not C9 51
+ *   BV_REFUSED_RKIND    the kind is not 1 or 2                          0             2      untouched
+ *   BV_REFUSED_RWIDTH   the width is not 1, 2, 4 or 8                   0             3      untouched
+ *   BV_REFUSED_RINDEX   n is 0                                          0             4      untouched
+ *   BV_REFUSED_RCOUNT   the number of coefficients is not the degree    0             6      untouched
+ *                       of that kind at that n, plus 1
+ *   BV_REFUSED_CUT      len is below the size of the record             0             0      untouched
+ *   BV_REFUSED_WIDTH    the width is not the one that writing would     0             0      untouched
+ *                       choose, or a coefficient is -2^63
+ *   BV_REFUSED_UNEVEN   the halves of its coefficients don't match;     0             0      untouched
+ *                       bv_to_whole: there is one in the middle, it
+ *                       is not 0, and rebuilding negates
+ *   BV_REFUSED_SHORT    room is below the size of the other record      yes           0      untouched
+ *
+ * The order is that of the table: the room is looked at last. On refusal read and written are 0. bytes is only read.
+ * The half record is never longer than the record, so a room of len is always enough for bv_to_half; for bv_to_whole
+ * twice as many are.
+ */
+bv_converted bv_to_half(const uint8_t *bytes, size_t len, uint8_t *out, size_t room);
+bv_converted bv_to_whole(const uint8_t *bytes, size_t len, uint8_t *out, size_t room);
 
 /*
  * A cascade: the product of F(n) over a list of indices, in which an index may come again. That is a filter made of

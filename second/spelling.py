@@ -5,6 +5,7 @@ fields in their order, and what then stands in each buffer that can be written.
 """
 
 import answers
+import halves
 import shelf
 import shelves
 import steps
@@ -58,7 +59,23 @@ def browse(numbers, data):
     return (shelves.browse(data, *numbers),)
 
 
-REQUESTS = (polynomial, partial, comb, accumulate, write, read, cascade, second, lookup, browse)
+def writehalf(numbers, coeffs, lent):
+    return halves.write(*numbers, coeffs, lent)
+
+
+def readhalf(numbers, lent, data):
+    return halves.read(data, lent)
+
+
+def tohalf(numbers, data):
+    return halves.to_half(data, *numbers)
+
+
+def towhole(numbers, data):
+    return halves.to_whole(data, *numbers)
+
+
+REQUESTS = (polynomial, partial, comb, accumulate, write, read, cascade, second, lookup, browse, writehalf, readhalf, tohalf, towhole)
 ANSWERS = {f.__name__: f for f in REQUESTS}
 
 

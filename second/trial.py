@@ -2,6 +2,7 @@
 
 import cascades
 import choice
+import halves
 import over
 import refusals
 import shelf
@@ -51,6 +52,6 @@ def stops():
 
 
 def cases():
-    parts = (edges, steps.cases, shelf.cases, stops, over.cases, cascades.cases, table, seconds, shelves.cases)
+    parts = (edges, steps.cases, shelf.cases, stops, over.cases, cascades.cases, table, seconds, shelves.cases, halves.cases)
     for some in parts:
         yield from some()

@@ -878,11 +878,322 @@ static void shelves(void) {
     HOLD(memcmp(before, good, sizeof good) == 0);
 }
 
+/* Half records: a kind and an index, how many coefficients it has, and whether the other half is negated. */
+typedef struct half_case {
+    uint64_t kind, n;
+    size_t count;
+    int negates;
+} half_case;
+
+static const half_case HALVES[] = {
+    {1, 1, 2, 1}, {2, 1, 1, 0}, {1, 2, 2, 0}, {2, 2, 2, 1}, {1, 3, 3, 0},  {2, 3, 2, 1},
+    {2, 4, 3, 1}, {1, 6, 3, 0}, {2, 6, 5, 1}, {1, 9, 7, 0}, {1, 15, 9, 0}, {2, 15, 8, 1},
+};
+
+/* what is written to: every byte 7 */
+static uint8_t out[200];
+
+static void fresh_out(void) {
+    memset(out, 7, sizeof out);
+}
+
+/* its first so many are these, and the others stand as they were */
+static int out_holds(const uint8_t *bytes, size_t size) {
+    for (size_t i = size; i < sizeof out; i++)
+        if (out[i] != 7)
+            return 0;
+    return size == 0 || memcmp(out, bytes, size) == 0;
+}
+
+/* The degree that a refusal or a delivery tells. */
+static uint64_t told(uint64_t code, size_t count) {
+    return code == BV_DONE || code == BV_REFUSED_SHORT || code == BV_REFUSED_OVER ? count - 1 : 0;
+}
+
+/* A record of either form: so many of some coefficients, in a width that need not be right; then two bytes more. */
+static size_t put_form(uint8_t *to, uint8_t mark, const half_case *p, size_t width, const int64_t *c, size_t stored) {
+    put(to, p->kind, p->n, width, p->count, 0);
+    to[1] = mark;
+    for (size_t i = 0; i < stored * width; i++)
+        to[10 + i] = (uint8_t)((uint64_t)c[i / width] >> (8 * (i % width)));
+    to[10 + stored * width] = to[11 + stored * width] = 0xEE;
+    return 10 + stored * width;
+}
+
+/* Each of the four, held to a code; on BV_DONE it gives these bytes, or these coefficients. */
+static void half_written(const half_case *p, const int64_t *c, size_t room, uint64_t code, const uint8_t *half,
+                         size_t size) {
+    fresh_out();
+    bv_written a = bv_write_half(p->kind, p->n, c, p->count, room == 0 ? NULL : out, room);
+    size_t used = code == BV_DONE ? size : 0;
+    HOLD(wrote(a, code, told(code, p->count), used) && out_holds(half, used));
+}
+
+static void half_read(const half_case *p, const uint8_t *half, size_t len, size_t entries, uint64_t code,
+                      const int64_t *c, size_t size) {
+    for (size_t i = 0; i < 20; i++)
+        buf[i] = 77;
+    bv_record a = bv_read_half(len == 0 ? NULL : half, len, entries == 0 ? NULL : buf, entries);
+    size_t filled = code == BV_DONE ? p->count : 0;
+    int same = 1;
+    for (size_t i = 0; i < 20; i++)
+        same = same && buf[i] == (i < filled ? c[i] : 77);
+    HOLD(same && reads(a, code, told(code, p->count), filled ? size : 0, filled ? p->kind : 0, filled ? p->n : 0));
+}
+
+static int converts(bv_converted a, uint64_t code, uint64_t degree, uint64_t read, uint64_t written, uint64_t byte) {
+    return a.code == code && a.degree == degree && a.read == read && a.written == written && a.byte == byte;
+}
+
+typedef bv_converted converter(const uint8_t *, size_t, uint8_t *, size_t);
+
+static void converted(converter *convert, const half_case *p, const uint8_t *bytes, size_t len, size_t room,
+                      uint64_t code, size_t size, const uint8_t *other, size_t written) {
+    fresh_out();
+    bv_converted a = convert(len == 0 ? NULL : bytes, len, room == 0 ? NULL : out, room);
+    if (code != BV_DONE)
+        size = written = 0;
+    HOLD(converts(a, code, told(code, p->count), size, written, 0) && out_holds(other, written));
+}
+
+/* All four at one kind and index, in one width: coefficients of it whose halves match. */
+static void each_half(const half_case *p, size_t width) {
+    const size_t count = p->count, stored = (count + 1) / 2, most = sizeof out;
+    const int64_t top = INT64_MAX >> (64 - 8 * width), low = -top - 1;
+    int64_t c[20] = {0};
+    uint8_t record[100], half[100], other[200];
+    for (size_t i = 0; i < stored; i++)
+        c[i] = i == 0 ? top : (int64_t)(i % 3) - 1;
+    if (p->negates && count % 2)
+        c[stored - 1] = 0;
+    for (size_t i = 0; i < count / 2; i++)
+        c[count - 1 - i] = p->negates ? -c[i] : c[i];
+    const size_t all = put_form(record, 0x50, p, width, c, count), less = put_form(half, 0x51, p, width, c, stored);
+
+    /* every room, and every end */
+    for (size_t room = 0; room <= all + 2; room++) {
+        half_written(p, c, room, room < less ? BV_REFUSED_SHORT : BV_DONE, half, less);
+        converted(bv_to_half, p, record, all, room, room < less ? BV_REFUSED_SHORT : BV_DONE, all, half, less);
+        converted(bv_to_whole, p, half, less, room, room < all ? BV_REFUSED_SHORT : BV_DONE, less, record, all);
+    }
+    for (size_t entries = 0; entries <= count + 2; entries++)
+        half_read(p, half, less, entries, entries < count ? BV_REFUSED_SHORT : BV_DONE, c, less);
+    for (size_t len = 0; len <= all + 2; len++) {
+        converted(bv_to_half, p, record, len, most, len < all ? BV_REFUSED_CUT : BV_DONE, all, half, less);
+        converted(bv_to_half, p, record, len, 0, len < all ? BV_REFUSED_CUT : BV_REFUSED_SHORT, 0, NULL, 0);
+        if (len > less + 2)
+            continue;
+        converted(bv_to_whole, p, half, len, most, len < less ? BV_REFUSED_CUT : BV_DONE, less, record, all);
+        converted(bv_to_whole, p, half, len, 0, len < less ? BV_REFUSED_CUT : BV_REFUSED_SHORT, 0, NULL, 0);
+        half_read(p, half, len, 20, len < less ? BV_REFUSED_CUT : BV_DONE, c, less);
+        half_read(p, half, len, 0, len < less ? BV_REFUSED_CUT : BV_REFUSED_SHORT, c, 0);
+    }
+
+    /* each mark is the other's, and none of the old readers' */
+    converted(bv_to_half, p, half, less, most, BV_REFUSED_MARK, 0, NULL, 0);
+    converted(bv_to_whole, p, record, all, most, BV_REFUSED_MARK, 0, NULL, 0);
+    half_read(p, record, all, 20, BV_REFUSED_MARK, c, 0);
+    HOLD(wrong(bv_read(half, less, buf, 20), BV_REFUSED_MARK, 0));
+    HOLD(shows_none(bv_browse(half, less, 0), BV_REFUSED_MARK, 0));
+    HOLD(refuses(bv_lookup(p->kind, p->n, half, less, record, all), BV_REFUSED_MARK, 0, BV_OWN));
+
+    for (size_t at = 0; at < count; at++) {
+        const int64_t was = c[at];
+        const int middle = 2 * at + 1 == count;
+        const uint64_t code = middle && !p->negates ? BV_DONE : BV_REFUSED_UNEVEN;
+        /* one that is off by 1: only a middle may be anything, where the other half is copied */
+        c[at] += was > 0 ? -1 : 1;
+        put_form(other, 0x50, p, width, c, count);
+        uint8_t changed[100];
+        put_form(changed, 0x51, p, width, c, stored);
+        half_written(p, c, most, code, changed, less);
+        half_written(p, c, 0, code == BV_DONE ? BV_REFUSED_SHORT : code, NULL, 0);
+        converted(bv_to_half, p, other, all, most, code, all, changed, less);
+        converted(bv_to_half, p, other, all, 0, code == BV_DONE ? BV_REFUSED_SHORT : code, 0, NULL, 0);
+        converted(bv_to_half, p, other, all - 1, most, BV_REFUSED_CUT, 0, NULL, 0);
+        if (middle) {
+            converted(bv_to_whole, p, changed, less, most, code, less, other, all);
+            converted(bv_to_whole, p, changed, less, 0, code == BV_DONE ? BV_REFUSED_SHORT : code, 0, NULL, 0);
+            converted(bv_to_whole, p, changed, less - 1, most, BV_REFUSED_CUT, 0, NULL, 0);
+            half_read(p, changed, less, 20, code, c, less);
+            half_read(p, changed, less, count - 1, BV_REFUSED_SHORT, c, 0);
+        }
+        if (width < 8) { /* too wide, which comes before UNEVEN */
+            size_t end = put_form(other, 0x50, p, 2 * width, c, count);
+            converted(bv_to_half, p, other, end, most * (at % 2), BV_REFUSED_WIDTH, 0, NULL, 0);
+            end = put_form(other, 0x51, p, 2 * width, c, stored);
+            converted(bv_to_whole, p, other, end, most * (at % 2), BV_REFUSED_WIDTH, 0, NULL, 0);
+            half_read(p, other, end, count, BV_REFUSED_WIDTH, c, 0);
+            half_read(p, other, end, count - 1, BV_REFUSED_SHORT, c, 0);
+        }
+        /* the lowest number of the width, which that width doesn't take, and no half matches in 8 bytes */
+        c[at] = low;
+        put_form(other, 0x50, p, width, c, count);
+        converted(bv_to_half, p, other, all, most, BV_REFUSED_WIDTH, 0, NULL, 0);
+        converted(bv_to_half, p, other, all, 0, BV_REFUSED_WIDTH, 0, NULL, 0);
+        if (width == 8) {
+            half_written(p, c, most, BV_REFUSED_OVER, NULL, 0);
+            half_written(p, c, 0, BV_REFUSED_OVER, NULL, 0);
+        }
+        if (at < stored) {
+            put_form(other, 0x51, p, width, c, stored);
+            converted(bv_to_whole, p, other, less, most, BV_REFUSED_WIDTH, 0, NULL, 0);
+            converted(bv_to_whole, p, other, less, 0, BV_REFUSED_WIDTH, 0, NULL, 0);
+            half_read(p, other, less, 20, BV_REFUSED_WIDTH, c, 0);
+            half_read(p, other, less, count - 1, BV_REFUSED_SHORT, c, 0);
+        }
+        c[at] = was;
+    }
+    if (count == 1)
+        return;
+    /* negated for copied, and the other way round */
+    c[count - 1] = -c[count - 1];
+    put_form(other, 0x50, p, width, c, count);
+    half_written(p, c, most, BV_REFUSED_UNEVEN, NULL, 0);
+    converted(bv_to_half, p, other, all, most, BV_REFUSED_UNEVEN, 0, NULL, 0);
+    /* one that needs the width, in one half alone */
+    for (size_t at = 0; at < count; at += count - 1) {
+        c[at] = top, c[count - 1 - at] = 1;
+        put_form(other, 0x50, p, width, c, count);
+        half_written(p, c, most, BV_REFUSED_UNEVEN, NULL, 0);
+        converted(bv_to_half, p, other, all, most, BV_REFUSED_UNEVEN, 0, NULL, 0);
+    }
+}
+
+/* KIND, then INDEX, then RCOUNT, before anything that the coefficients are. */
+static void no_halves(void) {
+    const int64_t over[] = {1, INT64_MIN, 2, 5}; /* and uneven */
+    fresh_out();
+    for (size_t room = 0; room <= 40; room += 40) {
+        for (size_t count = 0; count <= 4; count++) {
+            const int64_t *c = count == 0 ? NULL : over;
+            uint8_t *to = room == 0 ? NULL : out;
+            for (size_t i = 0; i < 3; i++) {
+                HOLD(wrote(bv_write_half(NO_KIND[i], NO_INDEX[i], c, count, to, room), BV_REFUSED_KIND, 0, 0));
+                HOLD(wrote(bv_write_half(NO_KIND[i], 6, c, count, to, room), BV_REFUSED_KIND, 0, 0));
+                HOLD(wrote(bv_write_half(1 + i % 2, NO_INDEX[i], c, count, to, room), BV_REFUSED_INDEX, 0, 0));
+            }
+            HOLD(wrote(bv_write_half(1, 6, c, count, to, room), count == 3 ? BV_REFUSED_OVER : BV_REFUSED_RCOUNT,
+                       count == 3 ? 2 : 0, 0));
+            HOLD(wrote(bv_write_half(2, 6, c, count, to, room), BV_REFUSED_RCOUNT, 0, 0));
+        }
+        HOLD(out_holds(NULL, 0));
+    }
+    HOLD(wrong(bv_read_half(NULL, 0, NULL, 0), BV_REFUSED_CUT, 0));
+    HOLD(converts(bv_to_half(NULL, 0, NULL, 0), BV_REFUSED_CUT, 0, 0, 0, 0));
+    HOLD(converts(bv_to_whole(NULL, 0, NULL, 0), BV_REFUSED_CUT, 0, 0, 0, 0));
+}
+
+/* Each byte of a header changed alone, and with the byte of each later field; then n = 0. No length and no room
+ * counts. */
+static void wrong_halves(const half_case *p) {
+    static const uint64_t codes[] = {BV_REFUSED_MARK, BV_REFUSED_MARK, BV_REFUSED_RKIND, BV_REFUSED_RWIDTH};
+    static const uint64_t places[] = {0, 0, 2, 3};
+    const int64_t zeros[20] = {0};
+    uint8_t bytes[100];
+    for (uint8_t mark = 0x50; mark <= 0x51; mark++)
+        for (size_t at = 0; at < 10; at++)
+            for (size_t also = at; also < 11; also++)
+                for (size_t k = 0; k < 4; k++) {
+                    uint64_t code = at < 4 ? codes[at] : BV_REFUSED_RCOUNT, byte = at < 4 ? places[at] : 6;
+                    size_t len = put_form(bytes, mark, p, 1, zeros, p->count);
+                    bytes[at] = bytes[also] = 0xAA;
+                    if (also == 10 && at >= 4) { /* n = 0, whatever the number of coefficients is */
+                        bytes[4] = bytes[5] = 0;
+                        code = BV_REFUSED_RINDEX, byte = 4;
+                    }
+                    len = k / 2 ? len : 10;
+                    size_t room = k % 2 ? sizeof out : 0;
+                    fresh_out(), fresh();
+                    converter *convert = mark == 0x50 ? bv_to_half : bv_to_whole;
+                    HOLD(converts(convert(bytes, len, room == 0 ? NULL : out, room), code, 0, 0, 0, byte) &&
+                         out_holds(NULL, 0));
+                    HOLD(converts(convert(bytes, 9, out, room), BV_REFUSED_CUT, 0, 0, 0, 0) && out_holds(NULL, 0));
+                    if (mark == 0x51)
+                        HOLD(wrong(bv_read_half(bytes, len, room == 0 ? NULL : buf, room), code, byte) &&
+                             untouched_from(0));
+                }
+}
+
+/* Polynomials of every sort, written, read and converted both ways; the longest; and lengths above 2^32. */
+static void long_halves(void) {
+    static int64_t c[65536], again[65536];
+    static uint8_t record[10 + 8 * 65536], half[10 + 8 * 65536], back[10 + 8 * 65536];
+    for (size_t i = 0; i < COUNT(POLYNOMIALS); i++) {
+        const polynomial_case *p = &POLYNOMIALS[i];
+        const uint64_t size = 10 + p->degree + 1, less = 10 + (p->degree + 2) / 2;
+        HOLD(bv_polynomial(p->kind, p->n, NONE, NONE, c, 65536).code == BV_DONE);
+        HOLD(wrote(bv_write(p->kind, p->n, c, p->degree + 1, record, sizeof record), BV_DONE, p->degree, size));
+        HOLD(wrote(bv_write_half(p->kind, p->n, c, p->degree + 1, half, less), BV_DONE, p->degree, less));
+        HOLD(half[1] == 0x51 && memcmp(half + 2, record + 2, less - 2) == 0);
+        HOLD(reads(bv_read_half(half, less, again, p->degree + 1), BV_DONE, p->degree, less, p->kind, p->n) &&
+             memcmp(again, c, (p->degree + 1) * sizeof *c) == 0);
+        HOLD(converts(bv_to_half(record, size, back, less), BV_DONE, p->degree, size, less, 0) &&
+             memcmp(back, half, less) == 0);
+        HOLD(converts(bv_to_whole(half, less, back, size), BV_DONE, p->degree, less, size, 0) &&
+             memcmp(back, record, size) == 0);
+        HOLD(converts(bv_to_whole(half, less, back, size - 1), BV_REFUSED_SHORT, p->degree, 0, 0, 0));
+        HOLD(converts(bv_to_half(record, size, back, less - 1), BV_REFUSED_SHORT, p->degree, 0, 0, 0));
+    }
+    /* F(65521) in 8 bytes each, at addresses of any alignment */
+    for (size_t i = 0; i < 65521; i++)
+        c[i] = i % 2 ? INT64_MIN + 1 : (int64_t)i * (int64_t)(65520 - i);
+    for (size_t shift = 0; shift < 8; shift++) {
+        const size_t size = 10 + 8 * 65521, less = 10 + 8 * 32761;
+        HOLD(wrote(bv_write(1, 65521, c, 65521, record + shift, size), BV_DONE, 65520, size));
+        HOLD(wrote(bv_write_half(1, 65521, c, 65521, half + shift, less), BV_DONE, 65520, less));
+        HOLD(converts(bv_to_whole(half + shift, less, back, size), BV_DONE, 65520, less, size, 0) &&
+             memcmp(back, record + shift, size) == 0);
+        HOLD(converts(bv_to_half(record + shift, size, back, less), BV_DONE, 65520, size, less, 0) &&
+             memcmp(back, half + shift, less) == 0);
+        for (size_t at = 32761 + shift; at < 65521; at += 4099) {
+            record[shift + 10 + 8 * at] ^= 2;
+            HOLD(converts(bv_to_half(record + shift, size, back, less), BV_REFUSED_UNEVEN, 0, 0, 0, 0));
+            record[shift + 10 + 8 * at] ^= 2;
+        }
+    }
+
+    const size_t far = (size_t)1 << 32, page = 65536;
+    uint8_t *wide = mmap(NULL, far + page, PROT_READ | PROT_WRITE, MAP_PRIVATE | MAP_ANONYMOUS | MAP_NORESERVE, -1, 0);
+    if (wide == MAP_FAILED) {
+        printf("edges.c: there is no room for 2^32 bytes\n");
+        exit(1);
+    }
+    const int64_t six[] = {1, -1, 1};
+    const half_case p = {1, 6, 3, 0};
+    const size_t size = put_form(record, 0x50, &p, 1, six, 3), less = put_form(half, 0x51, &p, 1, six, 2);
+    for (size_t more = 0; more < 2; more++) { /* so many are 0 or 1 in 32 bits */
+        memset(wide, 7, 16);
+        HOLD(converts(bv_to_half(record, size, wide, far + more), BV_DONE, 2, size, less, 0));
+        HOLD(memcmp(wide, half, less) == 0 && wide[less] == 7);
+        HOLD(converts(bv_to_whole(wide, far + more, back, size), BV_DONE, 2, less, size, 0));
+        HOLD(reads(bv_read_half(wide, far + more, buf, 3), BV_DONE, 2, less, 1, 6));
+        HOLD(converts(bv_to_whole(half, less, wide, far + more), BV_DONE, 2, less, size, 0));
+        HOLD(memcmp(wide, record, size) == 0 && wide[size] == 7);
+        HOLD(converts(bv_to_half(wide, far + more, back, less), BV_DONE, 2, size, less, 0));
+        HOLD(wrote(bv_write_half(1, 6, six, 3, wide, far + more), BV_DONE, 2, less));
+        HOLD(memcmp(wide, half, less) == 0 && wide[size] == 7);
+        HOLD(wrote(bv_write_half(1, 6, (const int64_t *)(const void *)wide, (far >> 3) + more, out, 40),
+                   BV_REFUSED_RCOUNT, 0, 0));
+    }
+    munmap(wide, far + page);
+}
+
+static void halves(void) {
+    no_halves();
+    for (size_t i = 0; i < COUNT(HALVES); i++) {
+        for (size_t width = 1; width <= 8; width *= 2)
+            each_half(&HALVES[i], width);
+        wrong_halves(&HALVES[i]);
+    }
+    long_halves();
+}
+
 /* Each code has its name, and no other number has one. */
 static void names(void) {
-    static const char *const of[] = {"DONE",   "KIND",   "INDEX", "LIMIT",  "SHORT", "OVER",  "TALL",
-                                     "STEP",   "CUT",    "MARK",  "?",      "WIDTH", "RKIND", "RWIDTH",
-                                     "RINDEX", "RCOUNT", "LIST",  "ABSENT", "?",     "?",     "?"};
+    static const char *const of[] = {"DONE",   "KIND",   "INDEX", "LIMIT",  "SHORT",  "OVER",  "TALL",
+                                     "STEP",   "CUT",    "MARK",  "?",      "WIDTH",  "RKIND", "RWIDTH",
+                                     "RINDEX", "RCOUNT", "LIST",  "ABSENT", "UNEVEN", "?",     "?"};
     for (size_t code = 0; code < COUNT(of); code++)
         HOLD(strcmp(bv_name(code), of[code]) == 0);
     HOLD(strcmp(bv_name(UINT64_MAX), "?") == 0);
@@ -902,6 +1213,7 @@ int main(void) {
     no_seconds();
     seconds();
     shelves();
+    halves();
     names();
     printf("%d outcomes, all as told in bonvedrick.h\n", calls);
     return 0;

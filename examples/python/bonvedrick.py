@@ -8,7 +8,7 @@ not fit its C type is an OverflowError, and what is no whole number is a TypeErr
 number is what operator.index takes for one: True is 1, numpy's whole numbers are good, 1.0 and "1" are not.
 
 Shelves are never copied: C looks at the bytes where they are, those of a file that is mapped too, and what it finds
-comes out as a memoryview of them, which can be read as it is. Nobody may write to them during a call.
+comes out as a memoryview of them, which can be read and converted as it is. Nobody may write to them during a call.
 
 CPython 3.8 or later; nothing but the standard library.
 """
@@ -28,6 +28,7 @@ OWN, HOUSE = 1, 2  # the shelves of a lookup
 NO_LIMIT = 2**63 - 1  # as h or w
 MOST_ENTRIES = 65536  # no polynomial has more
 MOST_SCRATCH = 131086  # the second engine needs no more
+MOST_BYTES = 10 + 8 * MOST_ENTRIES  # no record has more
 SIZE_MAX = 2 ** (8 * ctypes.sizeof(c_size_t)) - 1
 
 # Every code; 10 is given no more.
@@ -49,6 +50,7 @@ NAMES = {
     15: "RCOUNT",
     16: "LIST",
     17: "ABSENT",
+    18: "UNEVEN",
 }
 # The codes that tell a degree, where the answer has one.
 TELL_DEGREE = {"SHORT", "OVER", "TALL"}
@@ -128,6 +130,16 @@ class Browsed(NamedTuple):
     degree: int
 
 
+class Converted(NamedTuple):
+    """What is told of a record that was converted: the degree of its polynomial, and its bytes in both forms."""
+
+    code: int
+    degree: int
+    read: int
+    written: int
+    byte: int
+
+
 class Entry(NamedTuple):
     """A record on a shelf: what its header says, the byte of the shelf at which it starts, and its bytes, a part of
     the shelf itself."""
@@ -154,6 +166,10 @@ FUNCTIONS = {  # what each answers and takes
     "bv_second": (Answer, c_uint64, c_uint64, c_int64, *WORDS, *WORDS),
     "bv_lookup": (Found, c_uint64, c_uint64, *SHELF, *SHELF),
     "bv_browse": (Browsed, *SHELF, c_uint64),
+    "bv_write_half": (Written, c_uint64, c_uint64, *WORDS, *BYTES),
+    "bv_read_half": (Record, *SHELF, *WORDS),
+    "bv_to_half": (Converted, *SHELF, *BYTES),
+    "bv_to_whole": (Converted, *SHELF, *BYTES),
 }
 
 
@@ -251,17 +267,48 @@ class Bonvedrick:
 
     def write(self, kind: SupportsIndex, n: SupportsIndex, coeffs: Iterable[SupportsIndex]) -> bytes:
         """The record's bytes."""
+        return self._write("bv_write", kind, n, coeffs)
+
+    def write_half(self, kind: SupportsIndex, n: SupportsIndex, coeffs: Iterable[SupportsIndex]) -> bytes:
+        """The bytes of the half record. The coefficients are those of the whole polynomial."""
+        return self._write("bv_write_half", kind, n, coeffs)
+
+    def _write(self, function, kind, n, coeffs):
         words = _words("coeffs", coeffs)
         buf = (c_uint8 * (10 + 8 * len(words)))()
-        a = self._ask("bv_write", _u64("kind", kind), _u64("n", n), words, buf)
+        a = self._ask(function, _u64("kind", kind), _u64("n", n), words, buf)
         return bytes(buf[: a.used])
 
     def read(self, data: Shelf, room: SupportsIndex = MOST_ENTRIES) -> tuple[int, int, list[int], int]:
         """The kind, the index and the coefficients of the record that the bytes start with, and the bytes it uses."""
+        return self._read("bv_read", data, room)
+
+    def read_half(self, data: Shelf, room: SupportsIndex = MOST_ENTRIES) -> tuple[int, int, list[int], int]:
+        """The same of the half record that the bytes start with: the coefficients are those of the whole polynomial."""
+        return self._read("bv_read_half", data, room)
+
+    def _read(self, function, data, room):
         buf = _room("room", room)
         with _bytes(data) as view:
-            a = self._ask("bv_read", *_address(view), buf)
+            a = self._ask(function, *_address(view), buf)
         return a.kind, a.n, buf[: a.degree + 1], a.used
+
+    def to_half(self, data: Shelf, room: SupportsIndex = MOST_BYTES) -> tuple[bytes, Converted]:
+        """The half record of the record that the bytes start with, and the answer. `room` is how many bytes are lent to
+        write it to."""
+        return self._convert("bv_to_half", data, room, 1)
+
+    def to_whole(self, data: Shelf, room: SupportsIndex = MOST_BYTES) -> tuple[bytes, Converted]:
+        """The record of the half record that the bytes start with, and the answer. `room` is as for `to_half`."""
+        return self._convert("bv_to_whole", data, room, 2)
+
+    def _convert(self, function, data, room, times):
+        """What is written is at most so many times as long as what is read: so more is not lent."""
+        room = _within("room", room, 0, SIZE_MAX)
+        with _bytes(data) as view:
+            buf = (c_uint8 * min(room, MOST_BYTES, times * len(view)))()
+            a = self._ask(function, *_address(view), buf)
+        return bytes(memoryview(buf)[: a.written]), a
 
     def cascade(
         self,

@@ -17,7 +17,8 @@ import unittest
 from unittest import mock
 
 import bonvedrick
-from bonvedrick import F, HOUSE, I, NAMES, NO_LIMIT, OWN, Answer, Bonvedrick, Entry, Found, Refused, Stop, registers
+from bonvedrick import F, HOUSE, I, NAMES, NO_LIMIT, OWN, registers
+from bonvedrick import Answer, Bonvedrick, Converted, Entry, Found, Refused, Stop
 
 CDLL = ctypes.CDLL
 LIBRARY = None  # the path, from the command line
@@ -33,6 +34,9 @@ F15, I15 = [1, -1, 0, 1, -1, 1, 0, -1, 1], [-1, -1, -1, 0, 0, 1, 1, 1]
 I6_RECORD = bytes.fromhex("c9 50 02 02 06 00 05 00 00 00 ff ff ff ff 00 00 01 00 2c 01")
 I1_RECORD = bytes.fromhex("c9 50 02 01 01 00 01 00 00 00 7f")
 OTHER_F6 = F6_RECORD[:10] + bytes([5, 5, 5])
+F6_HALF = bytes.fromhex("c9 51 01 01 06 00 03 00 00 00 01 ff")
+I6, EVEN_I6 = [-1, -1, 0, 1, 1], bytes.fromhex("c9 50 02 01 06 00 05 00 00 00 ff ff 00 01 01")
+I6_HALF = bytes.fromhex("c9 51 02 01 06 00 05 00 00 00 ff ff 00")
 
 
 class Counting:
@@ -105,6 +109,14 @@ def record_of(coeffs):
     return bytes([0xC9, 0x50, 1, width, 6, 0, 3, 0, 0, 0]) + body
 
 
+def half_of(coeffs):
+    """The half record of three coefficients of F(6)."""
+    whole = record_of(coeffs)
+    if not isinstance(whole, bytes):
+        return whole
+    return refused("UNEVEN") if coeffs[0] != coeffs[2] else b"\xc9\x51" + whole[2 : 10 + 2 * whole[3]]
+
+
 def cascade_of(indices):
     """By plain multiplication, of indices that `small` knows, under a height limit of 2."""
     if not all(1 <= n <= 65535 for n in indices):
@@ -132,6 +144,7 @@ I15_STOP = ([-1, -1, -1, -1], Stop(0, 3, 3, 2))
 BY_8 = ([1] * 8, Answer(0, 7, 0, 1, 0, 8))
 F15_SECOND, I15_SECOND = (F15, Answer(0, 8, 0, 1, 0, 1)), (I15, Answer(0, 7, 0, 1, 0, 0))
 F6_FOUND = (F6_RECORD, Found(0, 0, 0, HOUSE, 20, 13))
+TO_HALF, TO_WHOLE = (F6_HALF, Converted(0, 2, 13, 12, 0)), (F6_RECORD, Converted(0, 2, 12, 13, 0))
 
 # For each function good arguments, and for each number among them what fits its C type and what the rules give then.
 REQUESTS = {
@@ -192,12 +205,29 @@ REQUESTS = {
             n=only(6, F6_FOUND, "INDEX"),
         ),
     ),
+    "write_half": (
+        dict(kind=F, n=6, coeffs=F6),
+        dict(kind=kinds(F6_HALF, refused("RCOUNT", byte=6)), n=only(6, F6_HALF, "INDEX")),
+    ),
+    "read_half": (
+        dict(data=F6_HALF, room=3),
+        dict(room=entries(3, (F, 6, F6, 12), 2)),
+    ),
+    "to_half": (
+        dict(data=F6_RECORD, room=12),
+        dict(room=entries(12, TO_HALF, 2)),
+    ),
+    "to_whole": (
+        dict(data=F6_HALF, room=13),
+        dict(room=entries(13, TO_WHOLE, 2)),
+    ),
 }
 # The lists among the arguments, what fits their C type, and what the rules give for any numbers of 64 bits in them.
 LISTS = {
     "comb": ("entries", dict(size=1, w=NO_LIMIT), [0, 0, 0], i64, comb_of),
     "accumulate": ("entries", dict(size=1, w=NO_LIMIT), [0, 0, 0], i64, accumulate_of),
     "write": ("coeffs", dict(kind=F, n=6), F6, i64, record_of),
+    "write_half": ("coeffs", dict(kind=F, n=6), F6, i64, half_of),
     "cascade": ("indices", dict(h=2), [1, 2, 3], u64, cascade_of),
 }
 
@@ -318,30 +348,37 @@ class Lists(Wrapper):
             self.assertEqual(self.bv.accumulate(65535, empty), [])
             self.assertEqual(self.outcome("comb", size=0, entries=empty), (refused("STEP"), 1))
             self.assertEqual(self.outcome("comb", size=1, entries=empty, w=0), (refused("LIMIT"), 1))
-            self.assertEqual(self.outcome("write", kind=F, n=6, coeffs=empty), (refused("RCOUNT", byte=6), 1))
+            for write in "write", "write_half":
+                self.assertEqual(self.outcome(write, kind=F, n=6, coeffs=empty), (refused("RCOUNT", byte=6), 1))
             self.assertEqual(self.outcome("cascade", indices=empty, h=0), (refused("LIST"), 1))
         for empty in b"", bytearray(), memoryview(b""):
-            self.assertEqual(self.outcome("read", data=empty), (refused("CUT"), 1))
-            self.assertEqual(self.outcome("read", data=empty, room=0), (refused("CUT"), 1))
+            for ask in "read", "read_half", "to_half", "to_whole":
+                self.assertEqual(self.outcome(ask, data=empty), (refused("CUT"), 1))
+                self.assertEqual(self.outcome(ask, data=empty, room=0), (refused("CUT"), 1))
 
     def test_bytes_of_every_sort(self):
-        told = (F, 6, F6, 13)
-        twice = bytes(b for byte in F6_RECORD for b in (byte, 0))
-        pairs = memoryview(array.array("H", F6_RECORD + b"more."))  # nine items, all of their bytes
-        lent = bytearray(F6_RECORD)
-        foreign = memoryview((ctypes.c_uint8 * 13)(*F6_RECORD))
-        mapped = mmap.mmap(-1, 13)
-        mapped[:] = F6_RECORD
-        sorts = [F6_RECORD, lent, memoryview(F6_RECORD), memoryview(lent), memoryview(twice)[::2], pairs, foreign]
-        for data in [*sorts, mapped]:
-            with self.subTest(sort=type(data)):
-                self.assertEqual(self.outcome("read", data=data), (told, 1))
-        mapped.close()
-        self.assertEqual(lent, F6_RECORD)
-        self.assertEqual(self.bv.read(F6_RECORD + b"more"), told)
-        for data in "c950", list(F6_RECORD), None, 13, array.array("B", F6_RECORD), 1.5, {}:
-            with self.subTest(sort=type(data)):
-                self.assertEqual(self.outcome("read", data=data), (TypeError, 0))
+        for function, record, told in [
+            ("read", F6_RECORD, (F, 6, F6, 13)),
+            ("read_half", F6_HALF, (F, 6, F6, 12)),
+            ("to_half", F6_RECORD, TO_HALF),
+            ("to_whole", F6_HALF, TO_WHOLE),
+        ]:
+            twice = bytes(b for byte in record for b in (byte, 0))
+            pairs = memoryview(array.array("H", record + b"more.."[len(record) % 2 :]))  # all of their bytes
+            lent = bytearray(record)
+            foreign = memoryview((ctypes.c_uint8 * len(record))(*record))
+            mapped = mmap.mmap(-1, len(record))
+            mapped[:] = record
+            sorts = [record, lent, memoryview(record), memoryview(lent), memoryview(twice)[::2], pairs, foreign]
+            for data in [*sorts, mapped]:
+                with self.subTest(function=function, sort=type(data)):
+                    self.assertEqual(self.outcome(function, data=data), (told, 1))
+            mapped.close()
+            self.assertEqual(lent, record)
+            self.assertEqual(self.outcome(function, data=record + b"more"), (told, 1))
+            for data in "c950", list(record), None, 13, array.array("B", record), 1.5, {}:
+                with self.subTest(function=function, sort=type(data)):
+                    self.assertEqual(self.outcome(function, data=data), (TypeError, 0))
 
     def test_cascades(self):
         """In as many entries as are needed, and with the order of the list."""
@@ -394,6 +431,66 @@ def damaged(at, byte):
 BROKEN = [("CUT", F6_RECORD[:end]) for end in range(1, 13)]
 BROKEN += [(name, damaged(at, byte)) for at, byte, name in [(0, 0, "MARK"), (2, 3, "RKIND"), (3, 3, "RWIDTH")]]
 BROKEN += [(name, damaged(at, byte)) for at, byte, name in [(4, 0, "RINDEX"), (6, 9, "RCOUNT"), (12, 128, "WIDTH")]]
+
+
+class Halves(Wrapper):
+    def test_there_and_back(self):
+        for n in 1, 2, 3, 4, 6, 105, 32768, 40755, 62205, 65521, 65535:
+            for kind in F, I:
+                coeffs, answer = self.bv.polynomial(kind, n)
+                record, half = self.bv.write(kind, n, coeffs), self.bv.write_half(kind, n, coeffs)
+                self.assertEqual(len(half), 10 + record[3] * (len(coeffs) + 1 >> 1))
+                self.assertEqual(self.bv.read_half(half), (kind, n, coeffs, len(half)))
+                told = Converted(0, answer.degree, len(record), len(half), 0)
+                self.assertEqual(self.bv.to_half(record), (half, told))
+                self.assertEqual(self.bv.to_half(memoryview(record), len(half)), (half, told))
+                told = Converted(0, answer.degree, len(half), len(record), 0)
+                self.assertEqual(self.bv.to_whole(half + b"more"), (record, told))
+                self.assertEqual(self.bv.to_whole(bytearray(half), len(record)), (record, told))
+
+    def refusals(self, function, data, name, **told):
+        for room in 0, 12:
+            self.assertEqual(self.outcome(function, data=data, room=room), (refused(name, **told), 1))
+
+    def test_what_is_wrong_with_a_record(self):
+        for at, byte, name in [(0, 0, "MARK"), (2, 3, "RKIND"), (3, 3, "RWIDTH"), (4, 0, "RINDEX"), (6, 9, "RCOUNT")]:
+            told = {} if name == "MARK" else dict(byte=at)
+            self.refusals("to_half", EVEN_I6[:at] + bytes([byte]) + EVEN_I6[at + 1 :], name, **told)
+            for function in "read_half", "to_whole":
+                self.refusals(function, I6_HALF[:at] + bytes([byte]) + I6_HALF[at + 1 :], name, **told)
+        # the middle is 128, which takes two bytes, or 1, which has no opposite
+        self.refusals("to_half", EVEN_I6[:12] + b"\x80\1\1", "WIDTH")
+        self.refusals("to_half", EVEN_I6[:12] + b"\1\1\1", "UNEVEN")
+        self.refusals("to_half", EVEN_I6[:14] + b"\2", "UNEVEN")
+        self.refusals("to_whole", I6_HALF[:12] + b"\x80", "WIDTH")
+        self.refusals("to_whole", I6_HALF[:12] + b"\1", "UNEVEN")
+        for byte, name in (128, "WIDTH"), (1, "UNEVEN"):
+            data = I6_HALF[:12] + bytes([byte])
+            self.assertEqual(self.outcome("read_half", data=data), (refused(name), 1))
+            self.assertEqual(self.outcome("read_half", data=data, room=4), (refused("SHORT", 4), 1))
+        for coeffs in [-1, -1, 1, 1, 1], [-1, -1, 0, 1, -1], [-1, -1, 0, -1, -1]:
+            self.assertEqual(self.outcome("write_half", kind=I, n=6, coeffs=coeffs), (refused("UNEVEN"), 1))
+
+    def test_each_form_has_its_mark(self):
+        self.refusals("to_half", F6_HALF, "MARK")
+        for function in "to_whole", "read_half":
+            self.refusals(function, F6_RECORD, "MARK")
+        self.refusals("read", F6_HALF, "MARK")
+        self.assertEqual(self.outcome("lookup", kind=F, n=6, own=F6_HALF, house=F6_RECORD)[0][1], "MARK")
+
+    def test_c_is_lent_the_very_bytes_and_no_more_room_than_is_needed(self):
+        shelf = I1_RECORD + EVEN_I6 + F6_HALF
+        start = ctypes.cast(ctypes.c_char_p(shelf), ctypes.c_void_p).value
+        self.bv.to_half(memoryview(shelf)[11:])
+        self.assertEqual((Counting.arguments[:2], Counting.arguments[3]), ((start + 11, 27), 27))
+        self.bv.to_whole(memoryview(shelf)[26:])
+        self.assertEqual((Counting.arguments[:2], Counting.arguments[3]), ((start + 26, 12), 24))
+        self.bv.read_half(memoryview(shelf)[26:])
+        self.assertEqual(Counting.arguments[:2], (start + 26, 12))
+        large = bytearray(EVEN_I6 + bytes(2**22))
+        self.assertEqual(self.bv.to_half(large)[0], I6_HALF)
+        self.assertEqual(Counting.arguments[3], bonvedrick.MOST_BYTES)
+        large.clear()  # nothing of it is held any more
 
 
 class Shelves(Wrapper):
@@ -557,6 +654,9 @@ class Refusals(Wrapper):
             ("WIDTH", lambda: self.bv.lookup(F, 6, I6_RECORD + damaged(10, 128), F6_RECORD)),
             ("RCOUNT", lambda: self.bv.lookup(F, 6, I6_RECORD, damaged(6, 9))),
             ("RKIND", lambda: list(self.bv.records(F6_RECORD + damaged(2, 3)))),
+            ("UNEVEN", lambda: self.bv.to_half(damaged(12, 2))),
+            ("SHORT", lambda: self.bv.to_whole(F6_HALF, 12)),
+            ("RWIDTH", lambda: self.bv.read_half(F6_HALF[:3] + b"\3" + F6_HALF[4:])),
         ]
         for at, byte, name in [(0, 0, "MARK"), *fields, (10, 128, "WIDTH")]:
             asked.append((name, lambda at=at, byte=byte: self.bv.read(damaged(at, byte))))
@@ -593,6 +693,9 @@ class Refusals(Wrapper):
                 "RCOUNT (15), the record at byte 0 of the house shelf doesn't read: its number of coefficients is"
                 " wrong: right is the degree of that kind at that index, plus 1",
                 "RKIND (12), the record at byte 13 of the shelf doesn't read: its kind is wrong: right is 1 or 2",
+                "UNEVEN (18)",
+                "SHORT (4), degree 2",
+                "RWIDTH (13), the record's width, at byte 3, is wrong: right is 1, 2, 4 or 8",
                 "MARK (9)",
                 "RKIND (12), the record's kind, at byte 2, is wrong: right is 1 or 2",
                 "RWIDTH (13), the record's width, at byte 3, is wrong: right is 1, 2, 4 or 8",

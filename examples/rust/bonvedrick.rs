@@ -72,6 +72,15 @@ mod c {
         pub degree: u64,
     }
 
+    #[repr(C)]
+    pub struct Converted {
+        pub code: u64,
+        pub degree: u64,
+        pub read: u64,
+        pub written: u64,
+        pub byte: u64,
+    }
+
     unsafe extern "C" {
         pub fn bv_polynomial(kind: u64, n: u64, h: i64, w: i64, buf: *mut i64, len: usize) -> Answer;
         pub fn bv_partial(kind: u64, n: u64, j: u64, w: i64, buf: *mut i64, len: usize) -> Stop;
@@ -88,6 +97,17 @@ mod c {
             house_len: usize,
         ) -> Found;
         pub fn bv_browse(shelf: *const u8, len: usize, at: u64) -> Browsed;
+        pub fn bv_write_half(
+            kind: u64,
+            n: u64,
+            coeffs: *const i64,
+            count: usize,
+            bytes: *mut u8,
+            len: usize,
+        ) -> Written;
+        pub fn bv_read_half(bytes: *const u8, len: usize, coeffs: *mut i64, count: usize) -> Record;
+        pub fn bv_to_half(bytes: *const u8, len: usize, out: *mut u8, room: usize) -> Converted;
+        pub fn bv_to_whole(bytes: *const u8, len: usize, out: *mut u8, room: usize) -> Converted;
         pub fn bv_cascade(
             indices: *const u64,
             count: usize,
@@ -192,10 +212,11 @@ impl fmt::Display for Fault {
 }
 
 /// Why nothing was delivered. The degree is that of the polynomial, and for `partial` that of its lower half; it is
-/// `None` where the request tells none, as a step does. `Field` is of `write` and `read`: the field that is wrong, and
-/// the byte of the record at which it starts. `List` is of `cascade`. `Record` is of `lookup` and `records`: a record
-/// on the way doesn't read; the byte is that of the shelf at which it starts, and the shelf is `None` where there is
-/// only one. `Absent` is of `lookup`.
+/// `None` where the request tells none, as a step does. `Field` is of what writes, reads or converts a record: the
+/// field that is wrong, and the byte of the record at which it starts. `List` is of `cascade`. `Record` is of `lookup`
+/// and `records`: a record on the way doesn't read; the byte is that of the shelf at which it starts, and the shelf is
+/// `None` where there is only one. `Absent` is of `lookup`. `Uneven` is of half records: the halves of the polynomial
+/// don't match.
 #[derive(Clone, Copy, Debug, PartialEq, Eq)]
 pub enum Refusal {
     Kind,
@@ -212,6 +233,7 @@ pub enum Refusal {
     List,
     Record { fault: Fault, byte: usize, shelf: Option<Shelf> },
     Absent,
+    Uneven,
     /// A code that this wrapper doesn't know: a later library.
     Unknown(u64),
 }
@@ -239,6 +261,7 @@ impl Refusal {
             15 => wrong(Field::Count),
             16 => Refusal::List,
             17 => Refusal::Absent,
+            18 => Refusal::Uneven,
             other => Refusal::Unknown(other),
         }
     }
@@ -280,6 +303,7 @@ impl Refusal {
             },
             Refusal::List => 16,
             Refusal::Absent => 17,
+            Refusal::Uneven => 18,
             Refusal::Unknown(code) => code,
         }
     }
@@ -297,7 +321,7 @@ impl fmt::Display for Refusal {
             Refusal::Tall { .. } => f.write_str("a coefficient is larger in magnitude than the height limit"),
             Refusal::Step => f.write_str("there is no such step"),
             Refusal::Cut => f.write_str("the record ends early"),
-            Refusal::Mark => f.write_str("the bytes are not those of a record"),
+            Refusal::Mark => f.write_str("the bytes are not those of such a record"),
             Refusal::Width => f.write_str("the record's coefficients are not in the width that `write` would choose"),
             Refusal::Field { field, byte } => {
                 write!(f, "the record's {}, at byte {byte}, is wrong: right is {}", field.name(), field.right())
@@ -312,6 +336,7 @@ impl fmt::Display for Refusal {
                 write!(f, "the record at byte {byte} of the {whose}shelf doesn't read: {fault}")
             }
             Refusal::Absent => f.write_str("neither shelf has such a record"),
+            Refusal::Uneven => f.write_str("the halves of the polynomial don't match"),
             Refusal::Unknown(code) => write!(f, "code {code}"),
         }
     }
@@ -330,7 +355,8 @@ fn outcome(code: u64, degree: Option<u64>, byte: u64) -> Result<(), Refusal> {
     if code == 0 { Ok(()) } else { Err(Refusal::of(code, degree, byte)) }
 }
 
-/// A delivered polynomial or cascade: its coefficients, a part of the buffer that was lent, and what the library tells of it.
+/// A delivered polynomial or cascade: its coefficients, a part of the buffer that was lent, and what the library tells
+/// of it.
 #[derive(Debug)]
 pub struct Polynomial<'a> {
     pub coeffs: &'a mut [i64],
@@ -356,6 +382,15 @@ pub struct Record<'a> {
     pub n: u64,
     pub coeffs: &'a mut [i64],
     pub used: usize,
+}
+
+/// A record that was converted: the degree of its polynomial, the bytes that it has in the form that was read, and the
+/// record in the other form, a part of the buffer that was lent.
+#[derive(Debug)]
+pub struct Converted<'a> {
+    pub degree: usize,
+    pub read: usize,
+    pub bytes: &'a mut [u8],
 }
 
 /// A record that `lookup` found, where it stands: its bytes, a part of the shelf itself, which shelf that is, and the
@@ -423,8 +458,44 @@ pub fn write<'a>(kind: Kind, n: u64, coeffs: &[i64], bytes: &'a mut [u8]) -> Res
 
 pub fn read<'a>(bytes: &[u8], coeffs: &'a mut [i64]) -> Result<Record<'a>, Refusal> {
     let a = unsafe { c::bv_read(bytes.as_ptr(), bytes.len(), coeffs.as_mut_ptr(), coeffs.len()) };
+    record(a, coeffs)
+}
+
+fn record(a: c::Record, coeffs: &mut [i64]) -> Result<Record<'_>, Refusal> {
     outcome(a.code, Some(a.degree), a.byte)?;
     Ok(Record { kind: kind_of(a.kind), n: a.n, coeffs: &mut coeffs[..=place(a.degree)], used: place(a.used) })
+}
+
+/// Writes the half record of a polynomial, which is passed whole, and answers its bytes.
+pub fn write_half<'a>(kind: Kind, n: u64, coeffs: &[i64], bytes: &'a mut [u8]) -> Result<&'a mut [u8], Refusal> {
+    let a = unsafe {
+        c::bv_write_half(kind as u64, n, coeffs.as_ptr(), coeffs.len(), bytes.as_mut_ptr(), bytes.len())
+    };
+    outcome(a.code, Some(a.degree), a.byte)?;
+    Ok(&mut bytes[..place(a.used)])
+}
+
+/// Reads a half record: the coefficients are those of the whole polynomial.
+pub fn read_half<'a>(bytes: &[u8], coeffs: &'a mut [i64]) -> Result<Record<'a>, Refusal> {
+    let a = unsafe { c::bv_read_half(bytes.as_ptr(), bytes.len(), coeffs.as_mut_ptr(), coeffs.len()) };
+    record(a, coeffs)
+}
+
+/// The half record of the record that the bytes start with. As many bytes as they are have room for it.
+pub fn to_half<'a>(bytes: &[u8], out: &'a mut [u8]) -> Result<Converted<'a>, Refusal> {
+    let a = unsafe { c::bv_to_half(bytes.as_ptr(), bytes.len(), out.as_mut_ptr(), out.len()) };
+    converted(a, out)
+}
+
+/// The record of the half record that the bytes start with. Twice as many bytes as they are have room for it.
+pub fn to_whole<'a>(bytes: &[u8], out: &'a mut [u8]) -> Result<Converted<'a>, Refusal> {
+    let a = unsafe { c::bv_to_whole(bytes.as_ptr(), bytes.len(), out.as_mut_ptr(), out.len()) };
+    converted(a, out)
+}
+
+fn converted(a: c::Converted, out: &mut [u8]) -> Result<Converted<'_>, Refusal> {
+    outcome(a.code, Some(a.degree), a.byte)?;
+    Ok(Converted { degree: place(a.degree), read: place(a.read), bytes: &mut out[..place(a.written)] })
 }
 
 /// The kind that the library told of a record: 1 or 2.
@@ -477,7 +548,8 @@ impl<'a> Iterator for Records<'a> {
 
 impl FusedIterator for Records<'_> {}
 
-/// The product of F(n) over the indices. The scratch is to work in, and needs as many entries as the longest factor has.
+/// The product of F(n) over the indices. The scratch is to work in, and needs as many entries as the longest factor
+/// has.
 pub fn cascade<'a>(
     indices: &[u64],
     h: i64,

@@ -1,12 +1,12 @@
 //! A mains notch in Rust, over the safe wrapper. At 750 samples a second 50 Hz is one turn in 15 samples, so F(15)
 //! stops it. It asks, grows the buffer as the refusal tells, shows how the polynomial grows divisor by divisor, and
-//! stores it. Then it asks which registers of a chip the steps of a larger one fit, for a cascade, and both engines; and
-//! finds the record on a shelf.
+//! stores it. Then it asks which registers of a chip the steps of a larger one fit, for a cascade, and both engines;
+//! finds the record on a shelf, and halves it.
 mod bonvedrick;
 
 use bonvedrick::{
-    Kind, NO_LIMIT, Refusal, accumulate, cascade, comb, lookup, partial, polynomial, read, records, registers, second,
-    write,
+    Kind, NO_LIMIT, Refusal, accumulate, cascade, comb, lookup, partial, polynomial, read, read_half, records,
+    registers, second, to_half, to_whole, write,
 };
 
 const RATE: u64 = 750;
@@ -99,6 +99,18 @@ fn main() -> Result<(), Refusal> {
     println!("I({N}): {:?}", lookup(Kind::I, N, &[], &house));
     if let Err(e) = lookup(Kind::F, N, &house[..20], &house) {
         println!("with one's own shelf cut short: {e}");
+    }
+
+    let (mut bytes, mut back) = ([0; 32], [0; 32]);
+    let half = to_half(found.bytes, &mut bytes)?.bytes;
+    println!("half record: {half:02X?}");
+    println!("rebuilt, the same coefficients: {}", read_half(half, &mut buf)?.coeffs == f.coeffs);
+    println!("converted back, the same record: {}", to_whole(half, &mut back)?.bytes == found.bytes);
+    println!("read as a record: {:?}", read(half, &mut buf).err());
+    let mut uneven = stored;
+    uneven[18] = 2;
+    if let Err(e) = to_half(&uneven, &mut bytes) {
+        println!("2 as the last coefficient: {e}");
     }
     Ok(())
 }

@@ -4,12 +4,16 @@ mod bonvedrick;
 
 use bonvedrick::{
     Fault, Field, Kind, NO_LIMIT, Refusal, Shelf, Stretch, accumulate, cascade, comb, lookup, partial, polynomial,
-    read, records, registers, second, write,
+    read, read_half, records, registers, second, to_half, to_whole, write, write_half,
 };
 
-/// F(6) and its record.
+/// F(6), its record and its half record; and those of I(6).
 const SIX: [i64; 3] = [1, -1, 1];
 const RECORD: [u8; 13] = [0xC9, 0x50, 1, 1, 6, 0, 3, 0, 0, 0, 1, 0xFF, 1];
+const HALF: [u8; 12] = [0xC9, 0x51, 1, 1, 6, 0, 3, 0, 0, 0, 1, 0xFF];
+const INVERSE: [i64; 5] = [-1, -1, 0, 1, 1];
+const INVERSE_RECORD: [u8; 15] = [0xC9, 0x50, 2, 1, 6, 0, 5, 0, 0, 0, 0xFF, 0xFF, 0, 1, 1];
+const INVERSE_HALF: [u8; 13] = [0xC9, 0x51, 2, 1, 6, 0, 5, 0, 0, 0, 0xFF, 0xFF, 0];
 
 #[test]
 fn registers_outside_2_to_64_bits_have_no_limit_to_tell() {
@@ -43,7 +47,8 @@ fn every_code_has_its_refusal() {
         (15, Refusal::Field { field: Field::Count, byte }),
         (16, Refusal::List),
         (17, Refusal::Absent),
-        (18, Refusal::Unknown(18)),
+        (18, Refusal::Uneven),
+        (19, Refusal::Unknown(19)),
         (u64::MAX, Refusal::Unknown(u64::MAX)),
     ];
     for (code, refusal) in refusals {
@@ -255,6 +260,128 @@ fn both_engines_deliver_the_same() {
     }
 }
 
+#[test]
+fn a_half_record_is_written_or_refused() {
+    let mut bytes = [7; 20];
+    let mut ask = |kind, n, coeffs: &[i64], room| {
+        bytes.fill(7);
+        let told = write_half(kind, n, coeffs, &mut bytes[..room]).map(|b| b.to_vec());
+        let used = told.as_ref().map_or(0, |b| b.len());
+        assert!(bytes[used..].iter().all(|&b| b == 7));
+        told
+    };
+    for n in [0, 65536, u64::MAX] {
+        assert_eq!(ask(Kind::F, n, &SIX, 20), Err(Refusal::Index));
+    }
+    let count = Refusal::Field { field: Field::Count, byte: 6 };
+    assert_eq!(ask(Kind::F, 6, &[], 20), Err(count));
+    assert_eq!(ask(Kind::F, 6, &[i64::MIN, 1], 20), Err(count));
+    assert_eq!(ask(Kind::F, 6, &[1, i64::MIN, 2], 0), Err(Refusal::Over { degree: Some(2) }));
+    assert_eq!(ask(Kind::F, 6, &[1, -1, 2], 0), Err(Refusal::Uneven));
+    assert_eq!(ask(Kind::F, 6, &[1, 0, -1], 20), Err(Refusal::Uneven));
+    assert_eq!(ask(Kind::I, 6, &[-1, -1, 1, 1, 1], 20), Err(Refusal::Uneven));
+    assert_eq!(ask(Kind::F, 6, &SIX, 11), Err(Refusal::Short { degree: Some(2) }));
+    assert_eq!(ask(Kind::F, 6, &SIX, 12), Ok(HALF.to_vec()));
+    assert_eq!(ask(Kind::I, 6, &INVERSE, 20), Ok(INVERSE_HALF.to_vec()));
+    assert_eq!(ask(Kind::F, 6, &[-128, 0, -128], 20).map(|b| (b.len(), b[3])), Ok((14, 2)));
+    // F(1) negates, and I(1) does not
+    assert_eq!(ask(Kind::F, 1, &[-1, 1], 20), Ok(vec![0xC9, 0x51, 1, 1, 1, 0, 2, 0, 0, 0, 0xFF]));
+    assert_eq!(ask(Kind::I, 1, &[1], 20), Ok(vec![0xC9, 0x51, 2, 1, 1, 0, 1, 0, 0, 0, 1]));
+}
+
+/// What is wrong with I(6)'s half record when one byte of it is another.
+const HALF_FAULTS: [(usize, u8, Refusal); 8] = [
+    (0, 0, Refusal::Mark),
+    (1, 0x50, Refusal::Mark),
+    (2, 3, Refusal::Field { field: Field::Kind, byte: 2 }),
+    (3, 3, Refusal::Field { field: Field::Width, byte: 3 }),
+    (4, 0, Refusal::Field { field: Field::Index, byte: 4 }),
+    (6, 4, Refusal::Field { field: Field::Count, byte: 6 }),
+    (12, 0x80, Refusal::Width),
+    (12, 1, Refusal::Uneven),
+];
+
+#[test]
+fn a_half_record_is_read_or_refused() {
+    let mut coeffs = [77; 6];
+    for end in 0..13 {
+        assert_eq!(read_half(&INVERSE_HALF[..end], &mut coeffs).map(|r| r.n), Err(Refusal::Cut));
+    }
+    assert_eq!(read_half(&INVERSE_HALF, &mut coeffs[..4]).map(|r| r.n), Err(Refusal::Short { degree: Some(4) }));
+    for (at, byte, refusal) in HALF_FAULTS {
+        let mut bytes = INVERSE_HALF;
+        bytes[at] = byte;
+        assert_eq!(read_half(&bytes, &mut coeffs).map(|r| r.n), Err(refusal));
+    }
+    assert_eq!(read_half(&INVERSE_RECORD, &mut coeffs).map(|r| r.n), Err(Refusal::Mark));
+    assert_eq!(read(&INVERSE_HALF, &mut coeffs).map(|r| r.n), Err(Refusal::Mark));
+    assert_eq!(coeffs, [77; 6]);
+    let r = read_half(&[&INVERSE_HALF[..], &[9; 9]].concat(), &mut coeffs).unwrap();
+    assert_eq!((r.kind, r.n, r.used, &*r.coeffs), (Kind::I, 6, 13, &INVERSE[..]));
+    assert_eq!(coeffs[5], 77);
+    let r = read_half(&HALF, &mut coeffs).unwrap();
+    assert_eq!((r.kind, r.n, r.used, &*r.coeffs), (Kind::F, 6, 12, &SIX[..]));
+}
+
+#[test]
+fn a_record_is_converted_both_ways_or_refused() {
+    let mut out = [7; 20];
+    for (record, half) in [(&RECORD[..], &HALF[..]), (&INVERSE_RECORD, &INVERSE_HALF)] {
+        let degree = record.len() - 11;
+        let short = Some(Refusal::Short { degree: Some(degree) });
+        for room in 0..half.len() {
+            assert_eq!(to_half(record, &mut out[..room]).err(), short);
+        }
+        for room in 0..record.len() {
+            assert_eq!(to_whole(half, &mut out[..room]).err(), short);
+        }
+        for end in 0..record.len() {
+            assert_eq!(to_half(&record[..end], &mut out).err(), Some(Refusal::Cut));
+        }
+        for end in 0..half.len() {
+            assert_eq!(to_whole(&half[..end], &mut []).err(), Some(Refusal::Cut));
+        }
+        assert_eq!(to_half(half, &mut out).err(), Some(Refusal::Mark));
+        assert_eq!(to_whole(record, &mut out).err(), Some(Refusal::Mark));
+        assert_eq!(out, [7; 20]);
+        // what follows the record is not looked at, and what follows the other is not touched
+        let made = to_half(&[record, &[9; 3]].concat(), &mut out).unwrap();
+        assert_eq!((made.degree, made.read, &*made.bytes), (degree, record.len(), half));
+        assert!(out[half.len()..].iter().all(|&b| b == 7));
+        let made = to_whole(&[half, &[9; 3]].concat(), &mut out[..record.len()]).unwrap();
+        assert_eq!((made.degree, made.read, &*made.bytes), (degree, half.len(), record));
+        out.fill(7);
+    }
+    for (at, byte, refusal) in HALF_FAULTS {
+        let mut bytes = INVERSE_HALF;
+        bytes[at] = byte;
+        assert_eq!(to_whole(&bytes, &mut []).err(), Some(refusal));
+        let mut bytes = INVERSE_RECORD;
+        bytes[at] = if at == 1 { 0x51 } else { byte };
+        assert_eq!(to_half(&bytes, &mut []).err(), Some(refusal));
+    }
+    assert_eq!(out, [7; 20]);
+}
+
+#[test]
+fn half_records_of_polynomials_go_there_and_back() {
+    let (mut room, mut again) = (vec![77; 65536], vec![77; 65536]);
+    let [mut record, mut half, mut other] = [(); 3].map(|_| vec![0; 10 + 8 * 65536]);
+    for n in [1, 2, 3, 4, 9, 105, 1155, 32768, 40755, 62205, 65521, 65535] {
+        for kind in [Kind::F, Kind::I] {
+            let f = polynomial(kind, n, NO_LIMIT, NO_LIMIT, &mut room).unwrap().coeffs;
+            let record = write(kind, n, f, &mut record).unwrap();
+            let half = write_half(kind, n, f, &mut half).unwrap();
+            assert_eq!(half.len(), 10 + record[3] as usize * f.len().div_ceil(2));
+            let r = read_half(half, &mut again).unwrap();
+            assert_eq!((r.kind, r.n, r.used), (kind, n, half.len()));
+            assert!(r.coeffs == f);
+            assert!(to_half(record, &mut other).unwrap().bytes == half);
+            assert!(to_whole(half, &mut other).unwrap().bytes == record);
+        }
+    }
+}
+
 /// F(6) with another coefficient, I(6), and I(1), each as a record.
 fn three() -> [Vec<u8>; 3] {
     let record = |kind, n, coeffs: &[i64]| write(kind, n, coeffs, &mut [0; 99]).unwrap().to_vec();
@@ -393,4 +520,5 @@ fn the_text_has_the_place_on_the_shelf() {
         "the record at byte 13 of the shelf doesn't read: its bytes are not those of a record"
     );
     assert_eq!(Refusal::Absent.to_string(), "neither shelf has such a record");
+    assert_eq!(Refusal::Uneven.to_string(), "the halves of the polynomial don't match");
 }

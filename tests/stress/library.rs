@@ -71,6 +71,16 @@ pub struct Browsed {
     pub degree: u64,
 }
 
+#[repr(C)]
+#[derive(Debug, PartialEq, Clone, Copy, Default)]
+pub struct Converted {
+    pub code: u64,
+    pub degree: u64,
+    pub read: u64,
+    pub written: u64,
+    pub byte: u64,
+}
+
 extern "C" {
     fn bv_polynomial(kind: u64, n: u64, h: i64, w: i64, buf: *mut i64, len: usize) -> Answer;
     fn bv_partial(kind: u64, n: u64, j: u64, w: i64, buf: *mut i64, len: usize) -> Stop;
@@ -90,6 +100,10 @@ extern "C" {
     fn bv_second(kind: u64, n: u64, h: i64, buf: *mut i64, len: usize, scratch: *mut i64, room: usize) -> Answer;
     fn bv_lookup(kind: u64, n: u64, own: *const u8, own_len: usize, house: *const u8, house_len: usize) -> Found;
     fn bv_browse(shelf: *const u8, len: usize, at: u64) -> Browsed;
+    fn bv_write_half(kind: u64, n: u64, coeffs: *const i64, count: usize, bytes: *mut u8, len: usize) -> Written;
+    fn bv_read_half(bytes: *const u8, len: usize, coeffs: *mut i64, count: usize) -> Record;
+    fn bv_to_half(bytes: *const u8, len: usize, out: *mut u8, room: usize) -> Converted;
+    fn bv_to_whole(bytes: *const u8, len: usize, out: *mut u8, room: usize) -> Converted;
 }
 
 fn lent<T>(a: &mut [T]) -> *mut T {
@@ -134,4 +148,20 @@ pub fn lookup(kind: u64, n: u64, own: &[u8], house: &[u8]) -> Found {
 
 pub fn browse(shelf: &[u8], at: u64) -> Browsed {
     unsafe { bv_browse(shown(shelf), shelf.len(), at) }
+}
+
+pub fn write_half(kind: u64, n: u64, coeffs: &[i64], bytes: &mut [u8]) -> Written {
+    unsafe { bv_write_half(kind, n, shown(coeffs), coeffs.len(), lent(bytes), bytes.len()) }
+}
+
+pub fn read_half(bytes: &[u8], coeffs: &mut [i64]) -> Record {
+    unsafe { bv_read_half(shown(bytes), bytes.len(), lent(coeffs), coeffs.len()) }
+}
+
+pub fn to_half(bytes: &[u8], out: &mut [u8]) -> Converted {
+    unsafe { bv_to_half(shown(bytes), bytes.len(), lent(out), out.len()) }
+}
+
+pub fn to_whole(bytes: &[u8], out: &mut [u8]) -> Converted {
+    unsafe { bv_to_whole(shown(bytes), bytes.len(), lent(out), out.len()) }
 }

@@ -3,6 +3,7 @@
 //! `stress [seed [share]]`: share is the part of the full run in percent, 100 if not given.
 
 mod cascades;
+mod half_records;
 mod halves;
 mod library;
 mod random;
@@ -36,20 +37,25 @@ fn main() {
     all += tell("polynomials, any request", (0..2_000 * share).map(|_| requests::any(&mut random, &mut of)).sum());
     let last = LARGEST * share.min(100) / 100;
     // together, since all need the reference for n
-    let (mut stops, mut polynomials, mut seconds) = (0, 0, 0);
+    let (mut stops, mut polynomials, mut seconds, mut halves) = (0, 0, 0, 0);
     for n in 1..=last {
         polynomials += requests::index(&mut random, &mut of, n);
         stops += requests::stops(&mut random, &mut of, n);
         seconds += seconds::index(&mut random, &mut of, n);
+        halves += half_records::index(&mut random, &mut of, n);
     }
     all += tell("polynomials, every index", polynomials);
     all += tell("partial requests, every r", stops);
     all += tell("second engine, every index", seconds);
+    all += tell("half records, every index", halves);
     all += tell("second engine, any request", (0..5_000 * share).map(|_| seconds::any(&mut random, &mut of)).sum());
     all += tell("cascades", (0..100 * share).map(|_| cascades::any(&mut random, &mut of)).sum());
     all += tell("cascades of any indices", (0..share / 10).map(|_| cascades::large(&mut random, &mut of)).sum());
     all += tell("shelves", (0..2_000 * share).map(|_| shelves::any(&mut random, &of)).sum());
     all += tell("shelves, every byte", (0..share / 5).map(|_| shelves::every_byte(&mut random, &of)).sum());
     all += tell("shelves of large records", (0..5 * share).map(|_| shelves::large(&mut random, &of)).sum());
+    all += tell("half records", (0..2_000 * share).map(|_| half_records::any(&mut random, &of)).sum());
+    all += tell("half records, every byte", (0..share / 5).map(|_| half_records::every_byte(&mut random, &of)).sum());
+    all += tell("half records, large", (0..5 * share).map(|_| half_records::large(&mut random, &of)).sum());
     println!("{all} inputs tried, no difference");
 }
