@@ -15,6 +15,10 @@ use Rattle.cascade.proofs.cascade.Reads as cascade-request
 use Rattle.second.proofs.second.Reads as second-request
 use Rattle.shelf.proofs.write.Reads as write-request
 use Rattle.shelf.proofs.read.Reads as read-request
+use Rattle.half_records.proofs.write_half.Reads as write-half-request
+use Rattle.half_records.proofs.read_half.Reads as read-half-request
+use Rattle.conversions.proofs.to_half.Reads as to-half-request
+use Rattle.conversions.proofs.to_whole.Reads as to-whole-request
 use Rattle.shelves.proofs.find.Reads as lookup-request
 use Rattle.browsing.proofs.browse.Reads as browse-request
 use Rattle.bonvedrick.proofs.bv_polynomial as polynomial
@@ -35,6 +39,18 @@ use Rattle.bonvedrick.proofs.bv_write.Reads as write-reads
 use Rattle.bonvedrick.proofs.bv_read as read
 use Rattle.bonvedrick.proofs.bv_read.Kinds as read-kinds
 use Rattle.bonvedrick.proofs.bv_read.Reads as read-reads
+use Rattle.bonvedrick.proofs.bv_write_half as write-half
+use Rattle.bonvedrick.proofs.bv_write_half.Kinds as write-half-kinds
+use Rattle.bonvedrick.proofs.bv_write_half.Reads as write-half-reads
+use Rattle.bonvedrick.proofs.bv_read_half as read-half
+use Rattle.bonvedrick.proofs.bv_read_half.Kinds as read-half-kinds
+use Rattle.bonvedrick.proofs.bv_read_half.Reads as read-half-reads
+use Rattle.bonvedrick.proofs.bv_to_half as to-half
+use Rattle.bonvedrick.proofs.bv_to_half.Kinds as to-half-kinds
+use Rattle.bonvedrick.proofs.bv_to_half.Reads as to-half-reads
+use Rattle.bonvedrick.proofs.bv_to_whole as to-whole
+use Rattle.bonvedrick.proofs.bv_to_whole.Kinds as to-whole-kinds
+use Rattle.bonvedrick.proofs.bv_to_whole.Reads as to-whole-reads
 use Rattle.bonvedrick.proofs.bv_lookup as lookup
 use Rattle.bonvedrick.proofs.bv_lookup.Kinds as lookup-kinds
 use Rattle.bonvedrick.proofs.bv_lookup.Reads as lookup-reads
@@ -83,6 +99,30 @@ pub read-door :
     (e : AtExit (endedOf 2 read-kinds.ps read-kinds.r) κs)
     → read-reads.Post κs a z e ≡ read-request.Post κs a z e
 read-door κs a z e = refl
+
+pub write-half-door :
+    (κs : Lfts 2) (a : ArgsD write-half.signature κs) (z : ResD write-half.signature κs)
+    (e : AtExit (endedOf 2 write-half-kinds.ps write-half-kinds.r) κs)
+    → write-half-reads.Post κs a z e ≡ write-half-request.Post κs a z e
+write-half-door κs a z e = refl
+
+pub read-half-door :
+    (κs : Lfts 2) (a : ArgsD read-half.signature κs) (z : ResD read-half.signature κs)
+    (e : AtExit (endedOf 2 read-half-kinds.ps read-half-kinds.r) κs)
+    → read-half-reads.Post κs a z e ≡ read-half-request.Post κs a z e
+read-half-door κs a z e = refl
+
+pub to-half-door :
+    (κs : Lfts 2) (a : ArgsD to-half.signature κs) (z : ResD to-half.signature κs)
+    (e : AtExit (endedOf 2 to-half-kinds.ps to-half-kinds.r) κs)
+    → to-half-reads.Post κs a z e ≡ to-half-request.Post κs a z e
+to-half-door κs a z e = refl
+
+pub to-whole-door :
+    (κs : Lfts 2) (a : ArgsD to-whole.signature κs) (z : ResD to-whole.signature κs)
+    (e : AtExit (endedOf 2 to-whole-kinds.ps to-whole-kinds.r) κs)
+    → to-whole-reads.Post κs a z e ≡ to-whole-request.Post κs a z e
+to-whole-door κs a z e = refl
 
 pub lookup-door :
     (κs : Lfts 2) (a : ArgsD lookup.signature κs) (z : ResD lookup.signature κs)

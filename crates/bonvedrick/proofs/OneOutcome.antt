@@ -24,6 +24,18 @@ use Rattle.bonvedrick.proofs.bv_write.Reads as write-reads
 use Rattle.bonvedrick.proofs.bv_read as read
 use Rattle.bonvedrick.proofs.bv_read.Kinds as read-kinds
 use Rattle.bonvedrick.proofs.bv_read.Reads as read-reads
+use Rattle.bonvedrick.proofs.bv_write_half as write-half
+use Rattle.bonvedrick.proofs.bv_write_half.Kinds as write-half-kinds
+use Rattle.bonvedrick.proofs.bv_write_half.Reads as write-half-reads
+use Rattle.bonvedrick.proofs.bv_read_half as read-half
+use Rattle.bonvedrick.proofs.bv_read_half.Kinds as read-half-kinds
+use Rattle.bonvedrick.proofs.bv_read_half.Reads as read-half-reads
+use Rattle.bonvedrick.proofs.bv_to_half as to-half
+use Rattle.bonvedrick.proofs.bv_to_half.Kinds as to-half-kinds
+use Rattle.bonvedrick.proofs.bv_to_half.Reads as to-half-reads
+use Rattle.bonvedrick.proofs.bv_to_whole as to-whole
+use Rattle.bonvedrick.proofs.bv_to_whole.Kinds as to-whole-kinds
+use Rattle.bonvedrick.proofs.bv_to_whole.Reads as to-whole-reads
 use Rattle.bonvedrick.proofs.bv_comb as comb
 use Rattle.bonvedrick.proofs.bv_comb.Kinds as comb-kinds
 use Rattle.bonvedrick.proofs.bv_comb.Reads as comb-reads
@@ -78,6 +90,30 @@ pub read-one :
     (e e′ : AtExit (endedOf 2 read-kinds.ps read-kinds.r) κs) →
     read-reads.Post κs a z e → read-reads.Post κs a z′ e′ → (z ≡ z′) × (now (e .1 .0) ≡ now (e′ .1 .0))
 read-one κs a z z′ e e′ p p′ = (p .0 ∙ sym (p′ .0), p .1 ∙ sym (p′ .1))
+
+pub write-half-one :
+    (κs : Lfts 2) (a : ArgsD write-half.signature κs) (z z′ : ResD write-half.signature κs)
+    (e e′ : AtExit (endedOf 2 write-half-kinds.ps write-half-kinds.r) κs) →
+    write-half-reads.Post κs a z e → write-half-reads.Post κs a z′ e′ → (z ≡ z′) × (now (e .1 .1 .1 .0) ≡ now (e′ .1 .1 .1 .0))
+write-half-one κs a z z′ e e′ p p′ = (p .0 ∙ sym (p′ .0), p .1 ∙ sym (p′ .1))
+
+pub read-half-one :
+    (κs : Lfts 2) (a : ArgsD read-half.signature κs) (z z′ : ResD read-half.signature κs)
+    (e e′ : AtExit (endedOf 2 read-half-kinds.ps read-half-kinds.r) κs) →
+    read-half-reads.Post κs a z e → read-half-reads.Post κs a z′ e′ → (z ≡ z′) × (now (e .1 .0) ≡ now (e′ .1 .0))
+read-half-one κs a z z′ e e′ p p′ = (p .0 ∙ sym (p′ .0), p .1 ∙ sym (p′ .1))
+
+pub to-half-one :
+    (κs : Lfts 2) (a : ArgsD to-half.signature κs) (z z′ : ResD to-half.signature κs)
+    (e e′ : AtExit (endedOf 2 to-half-kinds.ps to-half-kinds.r) κs) →
+    to-half-reads.Post κs a z e → to-half-reads.Post κs a z′ e′ → (z ≡ z′) × (now (e .1 .0) ≡ now (e′ .1 .0))
+to-half-one κs a z z′ e e′ p p′ = (p .0 ∙ sym (p′ .0), p .1 ∙ sym (p′ .1))
+
+pub to-whole-one :
+    (κs : Lfts 2) (a : ArgsD to-whole.signature κs) (z z′ : ResD to-whole.signature κs)
+    (e e′ : AtExit (endedOf 2 to-whole-kinds.ps to-whole-kinds.r) κs) →
+    to-whole-reads.Post κs a z e → to-whole-reads.Post κs a z′ e′ → (z ≡ z′) × (now (e .1 .0) ≡ now (e′ .1 .0))
+to-whole-one κs a z z′ e e′ p p′ = (p .0 ∙ sym (p′ .0), p .1 ∙ sym (p′ .1))
 
 pub comb-one :
     (κs : Lfts 1) (a : ArgsD comb.signature κs) (z z′ : ResD comb.signature κs)

@@ -3,8 +3,10 @@
 use answers::Answer;
 use answers::Stop;
 use browsing::Browsed;
-use shelf::Record;
-use shelf::Written;
+use conversions::Converted;
+use forms::Form;
+use forms::Record;
+use forms::Written;
 use shelves::Found;
 use steps::Sort;
 use steps::Step;
@@ -16,7 +18,9 @@ ghost use Rattle.answers.specs.Polynomial as Polynomial;
 ghost use Rattle.answers.specs.Partial as Partial;
 ghost use Rattle.answers.specs.Cascade as Cascade;
 ghost use Rattle.answers.specs.Second as Second;
+ghost use Rattle.forms.specs.Format as Forms;
 ghost use Rattle.shelf.specs.Format.{writeAnswer, writeLeaves, readAnswer, readLeaves};
+ghost use Rattle.conversions.specs.Converting.{convertAnswer, convertLeaves};
 ghost use Rattle.browsing.specs.Browse.{shownAt, told};
 ghost use Rattle.shelves.specs.Lookup.{found};
 
@@ -122,6 +126,44 @@ pub extern "C" fn bv_read(bytes: &[u8], coeffs: &mut [i64]) -> Record
     ensures leaves { λ _. ⌜ now (coeffs .exit) ≡ readLeaves (now (bytes .entry)) (now (coeffs .entry)) ⌝ }
 {
     shelf::read(bytes, coeffs)
+}
+
+// The half record of some coefficients, in the bytes lent.
+#[no_mangle]
+pub extern "C" fn bv_write_half(kind: u64, n: u64, coeffs: &[i64], bytes: &mut [u8]) -> Written
+    ensures answer { λ r.
+        ⌜ r ≡ Forms.writeAnswer Form.Half kind n (now (coeffs .entry)) (length (now (bytes .entry))) ⌝ }
+    ensures leaves { λ _.
+        ⌜ now (bytes .exit) ≡ Forms.writeLeaves Form.Half kind n (now (coeffs .entry)) (now (bytes .entry)) ⌝ }
+{
+    half_records::write_half(kind, n, coeffs, bytes)
+}
+
+// The polynomial of the half record that some bytes start with, whole, in the entries lent.
+#[no_mangle]
+pub extern "C" fn bv_read_half(bytes: &[u8], coeffs: &mut [i64]) -> Record
+    ensures answer { λ r. ⌜ r ≡ Forms.readAnswer Form.Half (now (bytes .entry)) (length (now (coeffs .entry))) ⌝ }
+    ensures leaves { λ _. ⌜ now (coeffs .exit) ≡ Forms.readLeaves Form.Half (now (bytes .entry)) (now (coeffs .entry)) ⌝ }
+{
+    half_records::read_half(bytes, coeffs)
+}
+
+// The record that some bytes start with, as a half record.
+#[no_mangle]
+pub extern "C" fn bv_to_half(bytes: &[u8], out: &mut [u8]) -> Converted
+    ensures answer { λ r. ⌜ r ≡ convertAnswer Form.Whole (now (bytes .entry)) (length (now (out .entry))) ⌝ }
+    ensures leaves { λ _. ⌜ now (out .exit) ≡ convertLeaves Form.Whole (now (bytes .entry)) (now (out .entry)) ⌝ }
+{
+    conversions::to_half(bytes, out)
+}
+
+// The half record that some bytes start with, as a whole one.
+#[no_mangle]
+pub extern "C" fn bv_to_whole(bytes: &[u8], out: &mut [u8]) -> Converted
+    ensures answer { λ r. ⌜ r ≡ convertAnswer Form.Half (now (bytes .entry)) (length (now (out .entry))) ⌝ }
+    ensures leaves { λ _. ⌜ now (out .exit) ≡ convertLeaves Form.Half (now (bytes .entry)) (now (out .entry)) ⌝ }
+{
+    conversions::to_whole(bytes, out)
 }
 
 // The record of a kind and an index in two shelves, the own one first: where it stands.
