@@ -114,8 +114,7 @@ module _ (from : Form) (bs out b : List ℕ) (done : converted from bs out .code
   unfolding convertAnswer convertTells byteOf lookCode degreeIn
   there-and-back room =
       let q = by-code (other from) bs₂ b DONE code-back in
-      rw done
-      (
+      rw done (
         sym (q .0) ∙ rw (degree-back, reads-back .size-in, size-back),
         sym (q .1) ∙ rw (record-back, size-back),
       )

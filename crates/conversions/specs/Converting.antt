@@ -15,8 +15,8 @@ abbrev pub other : Form → Form
 other Whole = Half
 other Half = Whole
 
--- what the reader refuses but for room; then what the other form's writer does, UNEVEN and, last, the room, which is the
--- number of bytes lent
+-- the reader's refusals, that of room left out; for a half record UNEVEN is among them. Then, to the half form, UNEVEN
+-- where the halves don't match; and last the room, the number of bytes lent
 unfoldable pub convertCode : Form → List ℕ → ℕ → ℕ
 convertCode from bytes room =
     cond (not (eqb (lookCode from bytes) DONE)) (lookCode from bytes)

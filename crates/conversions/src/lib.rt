@@ -33,7 +33,7 @@ impl Converted {
     }
 }
 
-// The record of the old form that some bytes start with, in the new form.
+// The record that some bytes start with, as a half record.
 pub fn to_half(bytes: &[u8], out: &mut [u8]) -> Converted
     ensures answer { λ r. ⌜ r ≡ convertAnswer Form.Whole (now (bytes .entry)) (length (now (out .entry))) ⌝ }
     ensures leaves { λ _. ⌜ now (out .exit) ≡ convertLeaves Form.Whole (now (bytes .entry)) (now (out .entry)) ⌝ }
@@ -41,7 +41,7 @@ pub fn to_half(bytes: &[u8], out: &mut [u8]) -> Converted
     convert(bytes, Form::Whole, out)
 }
 
-// The record of the new form that some bytes start with, in the old form.
+// The half record that some bytes start with, as a whole one.
 pub fn to_whole(bytes: &[u8], out: &mut [u8]) -> Converted
     ensures answer { λ r. ⌜ r ≡ convertAnswer Form.Half (now (bytes .entry)) (length (now (out .entry))) ⌝ }
     ensures leaves { λ _. ⌜ now (out .exit) ≡ convertLeaves Form.Half (now (bytes .entry)) (now (out .entry)) ⌝ }

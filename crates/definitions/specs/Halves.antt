@@ -24,26 +24,26 @@ negates kind n = cond (eqb kind 1) (eqb n 1) (ltb 1 n)
 abbrev pub image : Bool → ℤ → ℤ
 image negate c = cond negate (⊖ c) c
 
--- n coefficients from their first half: entry n - 1 - i is the image of entry i
+-- so many coefficients from their first half: entry count - 1 - i is the image of entry i
 unfoldable pub mirroredUp : Bool → ℕ → Series → Series
-mirroredUp negate n f i = cond (ltb i (halfOf n)) (f i) (image negate (f (n - 1 - i)))
+mirroredUp negate count f i = cond (ltb i (halfOf count)) (f i) (image negate (f (count - 1 - i)))
 
 unfoldable pub rebuilt : Bool → ℕ → List ℤ → List ℤ
-rebuilt negate n half = firsts n (mirroredUp negate n (entries half))
+rebuilt negate count half = firsts count (mirroredUp negate count (entries half))
 
--- the halves don't match: for one of the first k, for one of the first half, entry N - i isn't the image of entry i. A
--- middle one is to be its own image, so 0 under negation
 unfoldable pub differ : ℤ → ℤ → Bool
 differ a b = not (eqb (natAbs (a ⊝ b)) 0)
 
+-- one of the first k coefficients, of count ones, has another than its image at count - 1 - i
 unfoldable pub unevenTo : ℕ → Bool → List ℤ → Bool
 unevenTo zero negate cs = false
 unevenTo (suc k) negate cs =
     unevenTo k negate cs || differ (entries cs (length cs - 1 - k)) (image negate (entries cs k))
 
+-- the halves don't match: one of the first half has. A middle one is to be its own image, so 0 under negation
 unfoldable pub uneven : Bool → List ℤ → Bool
 uneven negate cs = unevenTo (halfOf (length cs)) negate cs
 
--- of n coefficients of which the first half is there: a nonzero middle under negation
+-- of so many coefficients whose first half is there: a nonzero middle under negation
 unfoldable pub middleWrong : Bool → ℕ → List ℤ → Bool
-middleWrong negate n half = negate && eqb (n % 2) 1 && not (eqb (natAbs (entries half (n / 2))) 0)
+middleWrong negate count half = negate && eqb (count % 2) 1 && not (eqb (natAbs (entries half (count / 2))) 0)

@@ -4,7 +4,7 @@
 use Prim.Native.Nat.{ℕ, zero, suc, _+_, _-_, _/_, _%_, _≤_, _<_}
 use mathlib.Core.Path.{_≡_, refl, sym, ap, _∙_}
 use mathlib.Core.Bool.{Bool, true, false, cond, not, _&&_, _||_, true≢false}
-use mathlib.Core.List.{List}
+use mathlib.Core.List.{List, [], _∷_}
 use native.Mathlib.Omega.{arith}
 use native.Mathlib.Decide.{ℕ-discrete, decLt}
 use native.Mathlib.Nat.{le-antisymm}
@@ -24,7 +24,6 @@ use Rattle.integers.specs.Whole.{ringℤ, ⊖-zero}
 use Rattle.step_laws.specs.Firsts.{length-firsts, firsts-here, firsts-entries, firsts-same}
 use Rattle.step_laws.specs.Signed.{sub-add, abs-⊖}
 use Rattle.cyclotomic.specs.Heights.{entry-height, height-least}
-use mathlib.Core.List.{[], _∷_}
 
 -- images
 pub image-image : (negate : Bool) (c : ℤ) → image negate (image negate c) ≡ c

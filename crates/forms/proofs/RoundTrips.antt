@@ -51,8 +51,7 @@ module _ (form : Form) (kind n : ℕ) (cs : List ℤ) (b : List ℕ) (out : List
       let bs = recordOf form kind n cs ++ drop (size form cs) b in
       let r = back form kind n cs (drop (size form cs) b) (written-right form kind n cs (length b) done .storable) in
       let p = by-code form bs out DONE (r .code (length out) room) in
-      rw done
-      (
+      rw done (
         sym (p .0) ∙ rw (r .degree-in, r .size-in, r .kind-in, r .index-in),
         sym (p .1) ∙ rw (r .whole, r .count-in),
       )

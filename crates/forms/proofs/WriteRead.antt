@@ -109,8 +109,12 @@ module _ (form : Form) (kind n : ℕ) (cs : List ℤ) (rest : List ℕ) (g : Sto
   size-back = rw (wide, counted)
 
   long : sizeIn form laid ≤ length laid
-  long = omega (arith, size-back, ap length (sym is-laid) ∙ length-append (recordOf form kind n cs) rest,
-      length-record form kind n cs)
+  long = omega (
+    arith,
+    size-back,
+    ap length (sym is-laid) ∙ length-append (recordOf form kind n cs) rest,
+    length-record form kind n cs,
+  )
 
   header : 10 ≤ length laid
   header = rw (length-append, length-header) (omega arith)
@@ -126,8 +130,7 @@ whole-back Half kind n cs rest g =
       is-index Half kind n cs rest g,
       counted Half kind n cs rest g,
       stored-back Half kind n cs rest g,
-    )
-    (
+    ) (
       same,
       sym (rebuilt-uneven (negates kind n) (length cs) (firstHalf cs) (length-half cs))
           ∙ ap (uneven (negates kind n)) same ∙ g .even,

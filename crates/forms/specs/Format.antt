@@ -1,7 +1,6 @@
 -- The stored record (docs/RULES.md, 'The record' and 'The half record'), in both its forms: its bytes, what the writer
--- answers and leaves, and what the reader answers on any bytes at all and leaves. The old form, Whole, has every
--- coefficient, and the new one, Half, the first half of them. They differ in the mark and in how many are stored; all
--- else is said once.
+-- answers and leaves, and what the reader answers on any bytes at all and leaves. The form Whole has every coefficient,
+-- and Half the first half of them. They differ in the mark and in how many are stored; all else is said once.
 use Prim.Native.Nat.{ℕ, _+_, _*_}
 use mathlib.Core.Bool.{Bool, false, cond, not, _||_}
 use mathlib.Core.List.{List, _++_}
@@ -21,7 +20,7 @@ use Rattle.forms.specs.declared.Form.the-variants.{Whole, Half}
 use Rattle.forms.specs.declared.Written.{Written}
 use Rattle.forms.specs.declared.Record.{Record}
 
--- the mark: C9 50, C9 51
+-- the second byte of the mark: C9 50, C9 51
 abbrev pub mark : Form → ℕ
 mark Whole = 0x50
 mark Half = 0x51

@@ -1,4 +1,4 @@
-// Inner: nothing here is offered to callers but through `shelf` (the old form) and `half_records` (the new one); each
+// Inner: nothing here is offered to callers but through `shelf` (the form Whole) and `half_records` (Half); each
 // `requires` is shown by crates above. The stored record in both its forms: a writer and a reader that agree to the
 // byte, and the look at a record. One code and one proof for both: the form is a parameter.
 mod reader;

@@ -150,7 +150,12 @@ fn fill_stored(bytes: &[u8], form: Form, coeffs: &mut [i64])
         ⌜ now (coeffs .exit)
         ≡ storedIn form (now (bytes .entry)) ++ drop (length (storedIn form (now (bytes .entry)))) (now (coeffs .entry)) ⌝ }
 {
-    fill(bytes, width_in(bytes) as usize, stored_in(bytes, form), coeffs);
+    fill(
+        bytes,
+        width_in(bytes) as usize,
+        stored_in(bytes, form),
+        coeffs,
+    );
 }
 
 fn rebuild(bytes: &[u8], coeffs: &mut [i64])

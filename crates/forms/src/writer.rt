@@ -28,7 +28,14 @@ fn store(kind: u64, n: u64, w: usize, form: Form, coeffs: &[i64], bytes: &mut [u
         (now (bytes .entry)) ⌝ }
 {
     let k = stored_of(form, coeffs.len());
-    put_header(bytes, mark_of(form), kind as u8, w as u8, n, coeffs.len() as u64);
+    put_header(
+        bytes,
+        mark_of(form),
+        kind as u8,
+        w as u8,
+        n,
+        coeffs.len() as u64,
+    );
     put_body(&coeffs[..k], w, bytes);
 }
 

@@ -43,7 +43,7 @@ fn number_of(bytes: &[u8], w: usize, k: usize, i: usize) -> u64
     get(bytes, 10 + i * w, w)
 }
 
-// Does entry N - i differ from the image of entry i? In a slice, each as it would stand in 8 bytes.
+// Does entry i of a slice have another than its image at the place that mirrors it? Each as it would stand in 8 bytes.
 fn unlike(coeffs: &[i64], i: usize, negate: bool) -> bool
     requires { ⌜ (heightOf (now coeffs) ≤ largest) × (i < length (now coeffs)) ⌝ }
     ensures { λ r. ⌜ r

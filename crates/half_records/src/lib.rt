@@ -1,5 +1,5 @@
-// The shelf record in its new form, the first half of the coefficients: a writer that takes the whole polynomial and a
-// reader that rebuilds it. Nothing is asked of the caller.
+// The shelf record that has the first half of the coefficients: a writer that takes the whole polynomial and a reader
+// that rebuilds it. Nothing is asked of the caller.
 use forms::Form;
 use forms::Record;
 use forms::Written;

@@ -8,7 +8,7 @@ use lib.Dec.{ltb}
 use Rattle.definitions.specs.Integers.{⊖}
 use Rattle.definitions.specs.Series.{Series}
 use Rattle.definitions.specs.Steps.{entries, largest}
-use Rattle.definitions.specs.Halves.{mirroredUp}
+use Rattle.definitions.specs.Halves.{image, mirroredUp}
 use Rattle.entry_steps.specs.Passes.{Split}
 
 -- each of the first n entries can be negated
@@ -17,7 +17,7 @@ InRange n l = (i : ℕ) → i < n → natAbs (entries l i) ≤ largest
 
 -- entry k, or its negative
 abbrev pub signedEntry : Bool → List ℤ → ℕ → ℤ
-signedEntry negate l k = cond negate (⊖ (entries l k)) (entries l k)
+signedEntry negate l k = image negate (entries l k)
 
 -- the mirror got up to the place i of l, which left m
 pub record MirroredTo (negate : Bool) (l m : List ℤ) (i : ℕ) : Type 0 where

@@ -15,7 +15,7 @@ use Rattle.forms.specs.Format as Forms
 use Rattle.forms.specs.Format.{storedIn, readCode}
 use Rattle.forms.proofs.Reading.{code-done}
 use Rattle.forms.proofs.Done.{Read-right, read-right}
-use Rattle.shelf.specs.Format.{oldMark, sizeIn, lookCode}
+use Rattle.shelf.specs.Format.{wholeMark, sizeIn, lookCode}
 
 pub size-least : (bs : List ℕ) → 10 ≤ sizeIn bs
 unfolding Forms.sizeIn
@@ -38,7 +38,7 @@ module _ (s rest : List ℕ) (long : 10 ≤ length s) where
     unfolding Forms.lookCode readCode
     look-front =
         rw (
-          header-front s rest long oldMark,
+          header-front s rest long wholeMark,
           count-front s rest long,
           width-front s rest long,
           size-front,
@@ -53,7 +53,7 @@ module _ (bs : List ℕ) (good : lookCode bs ≡ DONE) where
   unfolding Forms.lookCode
   fits = read-right Whole bs (countIn bs) good
 
-  pub header-looked : headerCode oldMark bs ≡ DONE
+  pub header-looked : headerCode wholeMark bs ≡ DONE
   header-looked = fits .header
 
   pub size-looked : sizeIn bs ≤ length bs

@@ -1,4 +1,4 @@
--- The shelf record in its old form (docs/RULES.md, 'The record'): what `forms/Format` says of both, of this one.
+-- The shelf record in its form Whole (docs/RULES.md, 'The record'): what `forms/Format` says of both, of this one.
 use Prim.Native.Nat.{ℕ}
 use mathlib.Core.List.{List}
 use lib.IntN.{ℤ}
@@ -7,8 +7,8 @@ use Rattle.forms.specs.declared.Form.the-variants.{Whole}
 use Rattle.forms.specs.declared.Written.{Written}
 use Rattle.forms.specs.declared.Record.{Record}
 
-abbrev pub oldMark : ℕ
-oldMark = Forms.mark Whole
+abbrev pub wholeMark : ℕ
+wholeMark = Forms.mark Whole
 
 -- what the writer answers and leaves
 abbrev pub writeAnswer : ℕ → ℕ → List ℤ → ℕ → Written

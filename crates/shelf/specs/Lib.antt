@@ -1,2 +1,2 @@
--- The shelf record in its old form.
+-- The shelf record in its form Whole.
 pub mod Format

@@ -1,5 +1,5 @@
-// The shelf record in its old form, every coefficient: a writer and a reader that agree to the byte. Nothing is asked of
-// the caller. `size_in` is inner: the crate `browsing` uses it, and shows the `requires`.
+// The shelf record that has every coefficient: a writer and a reader that agree to the byte. Nothing is asked of the
+// caller. `size_in` is inner: the crate `browsing` uses it, and shows the `requires`.
 use forms::Form;
 use forms::Record;
 use forms::Written;
@@ -7,7 +7,7 @@ ghost use mathlib.Core.Path.{_≡_};
 ghost use lib.ListN.{length};
 ghost use Rattle.definitions.specs.Codes.{DONE};
 ghost use Rattle.record.specs.Header.{headerCode};
-ghost use Rattle.shelf.specs.Format.{writeAnswer, writeLeaves, readAnswer, readLeaves, lookCode, sizeIn, oldMark};
+ghost use Rattle.shelf.specs.Format.{writeAnswer, writeLeaves, readAnswer, readLeaves, lookCode, sizeIn, wholeMark};
 
 // The record of some coefficients, in the bytes lent.
 pub fn write(kind: u64, n: u64, coeffs: &[i64], bytes: &mut [u8]) -> Written
@@ -35,7 +35,7 @@ pub fn look(bytes: &[u8]) -> u64
 
 // The bytes of a record with a right header.
 pub fn size_in(bytes: &[u8]) -> usize
-    requires { ⌜ headerCode oldMark (now bytes) ≡ DONE ⌝ }
+    requires { ⌜ headerCode wholeMark (now bytes) ≡ DONE ⌝ }
     ensures { λ r. ⌜ r ≡ sizeIn (now (bytes .entry)) ⌝ }
 {
     forms::size_in(bytes, Form::Whole)

@@ -4,14 +4,14 @@ use mathlib.Core.Path.{sym}
 use native.Mathlib.Omega.{arith}
 use lib.ListN.{length}
 use Rattle.record.proofs.Headers.{Right, right}
-use Rattle.shelf.specs.Format.{oldMark}
+use Rattle.shelf.specs.Format.{wholeMark}
 use Rattle.shelf.proofs.Alone.{header-looked, size-looked}
 use Rattle.browsing.proofs.Showing.{shown-record}
 use Rattle.browsing.proofs.record_of.Statement.{statement}
 use Rattle.browsing.proofs.record_of.Tie as tie
 
 -- what reads well has a right header
-header : (start : tie.Start) → Right oldMark (start .args .bytes .now)
+header : (start : tie.Start) → Right wholeMark (start .args .bytes .now)
 header start = right _ _ (header-looked _ (start .pre .0))
 
 long : (start : tie.Start) → 10 ≤ length (start .args .bytes .now)

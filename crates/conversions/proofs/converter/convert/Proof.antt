@@ -143,8 +143,7 @@ returns-4 c =
     let record-of = recordOf (other (form l)) (kindIn (bytes l)) (indexIn (bytes l)) cs in
     let out = start l .args .out .now in
     let p = by-code (form l) (bytes l) out DONE
-    (code-done _ _ _ (passed (e .before .before)) (even e) (omega (arith, written-is sized))) in
-    (
+    (code-done _ _ _ (passed (e .before .before)) (even e) (omega (arith, written-is sized))) in (
       all-told (form l) _ _ _ _ (degree-is counted) (c .size-in2 .ensures) (written-is sized) ∙ p .0,
       c .before .before .before .store .ensures
           ∙ ap (λ (k : ℕ). record-of ++ drop k out) (sym (size-is sized) ∙ written-is sized) ∙ p .1,

@@ -10,26 +10,20 @@ use Rattle.forms.proofs.Reading.{length-stored}
 use Rattle.forms.proofs.reader.deliver.Statement.{statement}
 use Rattle.forms.proofs.reader.deliver.Tie as tie
 
-
 enum-told : tie.Need-enum-told
 enum-told c = search needs
-
 
 fill-stored-requires : tie.Need-fill-stored-requires
 fill-stored-requires c κs = rw (c .before .enum-told .given .1) at (c .before .before .before .before .pre)
 
-
 enum-told-2 : tie.Need-enum-told-2
 enum-told-2 c = search needs
-
 
 rebuild-requires : tie.Need-rebuild-requires
 rebuild-requires c κs = rw (c .before .enum-told2 .given .1) at (c .before .before .before .before .pre)
 
-
 same-length : tie.Need-same-length
 same-length c = search needs
-
 
 returns : tie.Need-returns
 unfolding coefficientsIn
@@ -40,10 +34,8 @@ returns c =
     ∙ ap (λ (k : ℕ). storedIn Whole bs ++ drop k (told .before .before .before .args .coeffs .now))
     (length-stored Whole bs))
 
-
 same-length-2 : tie.Need-same-length-2
 same-length-2 c = search needs
-
 
 returns-2 : tie.Need-returns-2
 returns-2 c = rw (c .before .before .before .enum-told2 .given .1) (c .before .rebuild .ensures)

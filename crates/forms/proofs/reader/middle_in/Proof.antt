@@ -53,8 +53,7 @@ stored c =
     let whole : 10 + halfOf k * w ≡ sizeIn Half bs =
     size-in Half bs w (halfOf k) wide (ap halfOf (counted .count-in .ensures)) in
     let small = count-small _ bs (from counted .pre .0) (bytes-each bs (λ i. known .shared-slice-known .given i .fits)) in
-    let sum : halfOf k * w ≡ k / 2 * w + w = rw one (suc-mul (k / 2) w) in
-    (
+    let sum : halfOf k * w ≡ k / 2 * w + w = rw one (suc-mul (k / 2) w) in (
       omega (arith, sum, whole, from counted .pre .1),
       few-in (k / 2) w (omega (arith, small, counted .count-in .ensures)) (in-bounds _ bs w wide (from counted .pre .0) .1),
     )

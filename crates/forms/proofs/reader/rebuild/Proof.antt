@@ -34,14 +34,11 @@ low s =
     let wide = width-bounds (widthIn bs) (right _ bs (good s .header) .wide) in
     ltb-false largest _ (width-some (storedIn Half bs) (λ z. omega (arith, good s .wide, wide .0)) .within)
 
-
 fill-stored-requires : tie.Need-fill-stored-requires
 fill-stored-requires c κs = search needs
 
-
 count-in-requires : tie.Need-count-in-requires
 count-in-requires c κs = right _ _ (good (c .before .before .before .before) .header) .long
-
 
 -- what stands in the buffer, from the place past the reading of the count
 abbrev from : tie.After-count-in → tie.Start
@@ -62,27 +59,22 @@ slice-relend-prefix-mirror c =
           (c .before .before .fill-stored .ensures),
     )
 
-
 slice-aggregate-mirror : tie.Need-slice-aggregate-mirror
 slice-aggregate-mirror c =
     let k = c .before in
     sym (length-part _ (storedIn Half (from k .args .bytes .now)) (from k .args .coeffs .now) _ (half-is k) (fits k)
     (k .before .before .fill-stored .ensures))
 
-
 negates-in-requires : tie.Need-negates-in-requires
 negates-in-requires c κs = right _ _ (good (from (c .before)) .header) .long
-
 
 mirror-requires : tie.Need-mirror-requires
 mirror-requires c κs =
     let k = c .before .before in
     part-inside _ _ _ _ (half-is k) (fits k) (k .before .before .fill-stored .ensures) (low (from k))
 
-
 same-length : tie.Need-same-length
 same-length c = search needs
-
 
 returns : tie.Need-returns
 unfolding coefficientsIn
