@@ -95,11 +95,12 @@ pub(crate) fn convert(bytes: &[u8], from: Form, out: &mut [u8]) -> Converted
     if code != answers::DONE {
         return Converted::refused(code, 0, byte_of(code));
     }
-    if uneven_from(bytes, from) {
-        return Converted::refused(answers::UNEVEN, 0, 0);
-    }
+    let uneven = uneven_from(bytes, from);
     let written = size_in(bytes, other_of(from));
     let degree = count_in(bytes) - 1;
+    if uneven {
+        return Converted::refused(answers::UNEVEN, 0, 0);
+    }
     if out.len() < written {
         return Converted::refused(answers::SHORT, degree, 0);
     }

@@ -96,10 +96,12 @@ fn code_with(bytes: &[u8], form: Form, room: usize) -> u64
     if (room as u64) < count_in(bytes) {
         return answers::SHORT;
     }
-    if !right_in(bytes, form) {
+    let right = right_in(bytes, form);
+    let uneven = uneven_in(bytes, form);
+    if !right {
         return answers::WIDTH;
     }
-    if uneven_in(bytes, form) {
+    if uneven {
         return answers::UNEVEN;
     }
     answers::DONE

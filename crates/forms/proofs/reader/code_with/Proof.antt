@@ -1,13 +1,16 @@
 -- `code_with`: each return by the tests that led there (Reading).
 use Prim.Native.Nat.{_≤_}
-use mathlib.Core.Path.{sym, _∙_}
+use mathlib.Core.Path.{_≡_, sym, _∙_}
+use mathlib.Core.Bool.{true}
 use native.Mathlib.Omega.{arith}
 use borrow.Author.Needs.{needs}
 use borrow.Author.Tests.{not-true, not-false}
 use lib.ListN.{length}
-use Rattle.record.specs.Header.{countIn}
+use lib.Dec.{eqb}
+use Rattle.widths.specs.Numbers.{width}
+use Rattle.record.specs.Header.{widthIn, countIn}
 use Rattle.record.proofs.Headers.{right}
-use Rattle.forms.specs.Format.{sizeIn}
+use Rattle.forms.specs.Format.{storedIn, sizeIn}
 use Rattle.forms.proofs.Reading.{code-cut, code-short, code-wide, code-uneven, code-done}
 use Rattle.forms.proofs.reader.code_with.Statement.{statement}
 use Rattle.forms.proofs.reader.code_with.Tie as tie
@@ -42,35 +45,39 @@ returns-2 c =
 right-in-requires : tie.Need-right-in-requires
 right-in-requires c κs = (from (c .before .before) .pre, whole (c .before .before))
 
-returns-3 : tie.Need-returns-3
-returns-3 c =
-    let roomy = c .before .before in
-    let long = roomy .before .before in
-    sym (code-wide _ _ _ (from long .pre) (whole long) (room roomy)
-    (sym (c .before .right-in .ensures) ∙ not-true _ (c .if3 .taken)))
-
 uneven-in-requires : tie.Need-uneven-in-requires
 uneven-in-requires c κs =
-    let long = c .before .before .before .before in
+    let long = c .before .before .before in
     (from long .pre, whole long)
+
+returns-3 : tie.Need-returns-3
+returns-3 c =
+    let looked = c .before .before in
+    let roomy = looked .before in
+    let long = roomy .before .before in
+    sym (code-wide _ _ _ (from long .pre) (whole long) (room roomy)
+    (sym (looked .right-in .ensures) ∙ not-true _ (c .if3 .taken)))
+
+-- the width is right
+wide : (c : tie.Else3) → let start = from (c .before .before .before .before .before) in
+    eqb (width (storedIn (start .args .form) (start .args .bytes .now))) (widthIn (start .args .bytes .now)) ≡ true
+wide c = sym (c .before .before .right-in .ensures) ∙ not-false _ (c .if3 .left)
 
 returns-4 : tie.Need-returns-4
 returns-4 c =
-    let wide = c .before .before in
-    let roomy = wide .before .before in
+    let e = c .before in
+    let roomy = e .before .before .before in
     let long = roomy .before .before in
-    sym (code-uneven _ _ _ (from long .pre) (whole long) (room roomy)
-    (sym (wide .before .right-in .ensures) ∙ not-false _ (wide .if3 .left))
-    (sym (c .before .uneven-in .ensures) ∙ c .if4 .taken))
+    sym (code-uneven _ _ _ (from long .pre) (whole long) (room roomy) (wide e)
+    (sym (e .before .uneven-in .ensures) ∙ c .if4 .taken))
 
 returns-5 : tie.Need-returns-5
 returns-5 c =
-    let wide = c .before .before in
-    let roomy = wide .before .before in
+    let e = c .before in
+    let roomy = e .before .before .before in
     let long = roomy .before .before in
-    sym (code-done _ _ _ (from long .pre) (whole long) (room roomy)
-    (sym (wide .before .right-in .ensures) ∙ not-false _ (wide .if3 .left))
-    (sym (c .before .uneven-in .ensures) ∙ c .if4 .left))
+    sym (code-done _ _ _ (from long .pre) (whole long) (room roomy) (wide e)
+    (sym (e .before .uneven-in .ensures) ∙ c .if4 .left))
 
 pub code-with-spec : {M : Type 1} → statement M
 code-with-spec =
@@ -81,7 +88,7 @@ code-with-spec =
     count-in-requires
     returns-2
     right-in-requires
-    returns-3
     uneven-in-requires
+    returns-3
     returns-4
     returns-5)
