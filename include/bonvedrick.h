@@ -99,7 +99,7 @@ extern "C" {
 #define BV_REFUSED_RCOUNT UINT64_C(15) /* writing: count is not degree + 1; reading: nor is the header's, at byte 6 */
 #define BV_REFUSED_LIST UINT64_C(16)   /* bv_cascade: no index, more than 8, or a total degree above 65535 */
 #define BV_REFUSED_ABSENT UINT64_C(17) /* bv_lookup: neither shelf has such a record */
-#define BV_REFUSED_UNEVEN UINT64_C(18) /* half records: the halves of the polynomial don't match (bv_write_half) */
+#define BV_REFUSED_UNEVEN UINT64_C(18) /* half records: the halves of the polynomial don't match (see bv_write_half) */
 /* 'writing' is bv_write and bv_write_half; 'reading' is bv_read, bv_read_half, bv_to_half and bv_to_whole, and
    bv_lookup and bv_browse for a record that they meet. 10 was given where any field of a header was wrong; it is given
    no more. */
@@ -362,8 +362,8 @@ bv_browsed bv_browse(const uint8_t *shelf, size_t len, uint64_t at);
 /*
  * Writes a half record. Half of each polynomial repeats the other: the coefficient at degree - i is the one at i,
  * negated for F(1) and for I(n) with n > 1, and as it is for F(n) with n > 1 and for I(1). Coefficients of which that
- * is so for each i from 0 to degree are said to have halves that match. Where it negates, one in the middle, which an
- * odd number of them has, is then 0.
+ * is so for each i from 0 to degree are said to have halves that match. So where the other half is negated and there is
+ * a middle coefficient, at degree / 2, it has to be 0.
  *
  * A half record is C9 51; the header of bv_write's record, whose number of coefficients is that of the whole
  * polynomial; then only the first half of them, the middle one included: (degree + 2) / 2 of them, rounded down, in
@@ -405,8 +405,8 @@ bv_written bv_write_half(uint64_t kind, uint64_t n, const int64_t *coeffs, size_
  *                       the whole polynomial
  *   BV_REFUSED_WIDTH    the width is not the one that bv_write_half     0             0      untouched
  *                       would choose, or a coefficient is -2^63
- *   BV_REFUSED_UNEVEN   there is a coefficient in the middle, it is     0             0      untouched
- *                       not 0, and rebuilding negates
+ *   BV_REFUSED_UNEVEN   the other half is negated, and there is a       0             0      untouched
+ *                       middle coefficient that is not 0
  *
  * The order is that of the table. On refusal used, kind and n are 0. bytes is only read. bv_read gives BV_REFUSED_MARK
  * for a half record, as bv_lookup and bv_browse do, and this one for a record of bv_write: the mark tells which it is.
@@ -433,13 +433,13 @@ bv_record bv_read_half(const uint8_t *bytes, size_t len, int64_t *coeffs, size_t
  *   BV_REFUSED_WIDTH    the width is not the one that writing would     0             0      untouched
  *                       choose, or a coefficient is -2^63
  *   BV_REFUSED_UNEVEN   the halves of its coefficients don't match;     0             0      untouched
- *                       bv_to_whole: there is one in the middle, it
- *                       is not 0, and rebuilding negates
+ *                       bv_to_whole: the other half is negated, and
+ *                       there is a middle one that is not 0
  *   BV_REFUSED_SHORT    room is below the size of the other record      yes           0      untouched
  *
- * The order is that of the table: the room is looked at last. On refusal read and written are 0. bytes is only read.
- * The half record is never longer than the record, so a room of len is always enough for bv_to_half; for bv_to_whole
- * twice as many are.
+ * The order is that of the table: the room is looked at last. On refusal read and written are 0. bytes is only read,
+ * and out is another slice: nothing is converted in place. The half record is never longer than the record, so a room
+ * of len is always enough for bv_to_half; for bv_to_whole twice as many are.
  */
 bv_converted bv_to_half(const uint8_t *bytes, size_t len, uint8_t *out, size_t room);
 bv_converted bv_to_whole(const uint8_t *bytes, size_t len, uint8_t *out, size_t room);

@@ -344,7 +344,7 @@ def longer():
 
 
 def mixed():
-    """Records of both forms, some damaged, in rooms of any size, by a rule that has no end."""
+    """Records of both forms, some damaged, in rooms of any size, as a row of made-up numbers has it."""
     state = 1
 
     def below(end):

@@ -47,7 +47,7 @@ static shelf held(FILE *file) {
     return (shelf){bytes, (size_t)len};
 }
 
-/* The record of the old form that stands at a place. */
+/* The whole record that stands at a place. */
 static bv_browsed standing(shelf s, uint64_t at) {
     bv_browsed b = bv_browse(s.bytes, s.len, at);
     if (b.code != BV_DONE || b.length == 0)

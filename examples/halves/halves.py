@@ -38,7 +38,7 @@ def halved(shelf):
 
 
 def restored(shelf):
-    """Each record in the old form."""
+    """Each record as a whole one."""
     with memoryview(shelf) as view:
         at = 0
         while at < len(view):

@@ -94,7 +94,8 @@ read-one κs a z z′ e e′ p p′ = (p .0 ∙ sym (p′ .0), p .1 ∙ sym (p�
 pub write-half-one :
     (κs : Lfts 2) (a : ArgsD write-half.signature κs) (z z′ : ResD write-half.signature κs)
     (e e′ : AtExit (endedOf 2 write-half-kinds.ps write-half-kinds.r) κs) →
-    write-half-reads.Post κs a z e → write-half-reads.Post κs a z′ e′ → (z ≡ z′) × (now (e .1 .1 .1 .0) ≡ now (e′ .1 .1 .1 .0))
+    write-half-reads.Post κs a z e → write-half-reads.Post κs a z′ e′
+    → (z ≡ z′) × (now (e .1 .1 .1 .0) ≡ now (e′ .1 .1 .1 .0))
 write-half-one κs a z z′ e e′ p p′ = (p .0 ∙ sym (p′ .0), p .1 ∙ sym (p′ .1))
 
 pub read-half-one :

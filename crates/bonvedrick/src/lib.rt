@@ -143,7 +143,8 @@ pub extern "C" fn bv_write_half(kind: u64, n: u64, coeffs: &[i64], bytes: &mut [
 #[no_mangle]
 pub extern "C" fn bv_read_half(bytes: &[u8], coeffs: &mut [i64]) -> Record
     ensures answer { λ r. ⌜ r ≡ Forms.readAnswer Form.Half (now (bytes .entry)) (length (now (coeffs .entry))) ⌝ }
-    ensures leaves { λ _. ⌜ now (coeffs .exit) ≡ Forms.readLeaves Form.Half (now (bytes .entry)) (now (coeffs .entry)) ⌝ }
+    ensures leaves { λ _.
+        ⌜ now (coeffs .exit) ≡ Forms.readLeaves Form.Half (now (bytes .entry)) (now (coeffs .entry)) ⌝ }
 {
     half_records::read_half(bytes, coeffs)
 }

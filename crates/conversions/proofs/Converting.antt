@@ -6,7 +6,7 @@ use mathlib.Core.List.{List, [], _∷_, _++_, append-assoc}
 use native.Mathlib.Omega.{arith}
 use native.Mathlib.Nat.{zero-add, mul-le-mul-right}
 use lib.ListN.{length, set, take, drop, length-append, length-drop, take-append-drop}
-use lib.Seq.{sets, sets-eq, take-add, length-take-le}
+use lib.Seq.{sets, sets-eq, take-add}
 use lib.IntN.{ℤ}
 use lib.Dec.{eqb, ltb}
 use borrow.Author.Tests.{ne-eqb, lt-ltb, le-ltb}
@@ -23,7 +23,7 @@ use Rattle.record.proofs.HeaderTrips.{header-same}
 use Rattle.record.proofs.Passes.{length-body, sets-append}
 use Rattle.forms.specs.declared.Form.{Form}
 use Rattle.forms.specs.declared.Form.the-variants.{Whole, Half}
-use Rattle.forms.specs.Format.{mark, stored, part, recordOf, size, unevenFor, storedIn, coefficientsIn, sizeIn}
+use Rattle.forms.specs.Format.{mark, stored, recordOf, size, unevenFor, storedIn, coefficientsIn, sizeIn}
 use Rattle.forms.specs.Format.{unevenIn, readCode, lookCode}
 use Rattle.forms.proofs.Done.{Read-right, read-right}
 use Rattle.forms.proofs.Writing.{length-record}
@@ -131,7 +131,8 @@ module _ (from : Form) (bs : List ℕ) (p : Bytes bs) (l : lookCode from bs ≡ 
   pub size-other : (to : Form) → size to (coefficientsIn from bs) ≡ sizeIn to bs
   unfolding size sizeIn
   size-other to =
-      ap₂ (λ (k v : ℕ). 10 + stored to k * v) (length-whole from bs) (width-whole from bs (countIn bs) p (looked from bs l))
+      ap₂ (λ (k v : ℕ). 10 + stored to k * v) (length-whole from bs)
+      (width-whole from bs (countIn bs) p (looked from bs l))
 
   -- the first bytes are what both forms have
   front-is : take (sizeIn Half bs) bs ≡ front from bs
@@ -172,7 +173,8 @@ front-record bs p l =
     let wide : width cs ≡ widthIn bs = looked Whole bs l .wide in
     let half : take (halfOf (length cs)) cs ≡ storedIn Half bs =
     ap (λ (k : ℕ). take (halfOf k) cs) long
-    ∙ (unfold storedIn in coefficients-take (widthIn bs) (halfOf (countIn bs)) (countIn bs) (drop 10 bs) (omega arith)) in
+    ∙ (unfold storedIn in
+    coefficients-take (widthIn bs) (halfOf (countIn bs)) (countIn bs) (drop 10 bs) (omega arith)) in
     rw (half, wide, long)
 
 -- and of a whole one what stands before the other half

@@ -1,8 +1,8 @@
--- There and back: a record that converts to the other form converts back to the same bytes. One theorem for both ways and
--- every width, over what `to_half` and `to_whole` promise. And what converting leaves is what the other form's writer
--- leaves of the coefficients that this form's reader delivers.
+-- There and back: a record that converts to the other form converts back to the same bytes. One theorem for both ways
+-- and every width, over what `to_half` and `to_whole` promise. And what converting leaves is what the other form's
+-- writer leaves of the coefficients that this form's reader delivers.
 use Prim.Native.Nat.{ℕ, zero, suc, _+_, _≤_, _<_}
-use mathlib.Core.Path.{_≡_, refl, sym, ap, _∙_}
+use mathlib.Core.Path.{_≡_, refl, sym, _∙_}
 use mathlib.Core.Bool.{Bool, true, false, cond, not}
 use mathlib.Core.List.{List, _++_}
 use native.Mathlib.Omega.{arith}
@@ -14,7 +14,7 @@ use Rattle.record.specs.Header.{kindIn, indexIn, countIn, degreeIn, byteOf}
 use Rattle.widths.proofs.Digits.{Bytes, bytes-each}
 use Rattle.forms.specs.declared.Form.{Form}
 use Rattle.forms.specs.declared.Form.the-variants.{Whole, Half}
-use Rattle.forms.specs.Format.{recordOf, size, unevenFor, coefficientsIn, sizeIn, lookCode, writeLeaves, writeAnswer}
+use Rattle.forms.specs.Format.{recordOf, size, unevenFor, coefficientsIn, sizeIn, lookCode, writeLeaves}
 use Rattle.forms.proofs.Done.{Storable, Read-right}
 use Rattle.forms.proofs.Writing.{stored-whole}
 use Rattle.forms.proofs.WriteRead.{Back, back}

@@ -15,7 +15,7 @@ ghost use mathlib.Core.List.{_++_};
 ghost use lib.ListN.{length, drop};
 ghost use Rattle.definitions.specs.Codes.{DONE};
 ghost use Rattle.record.specs.Header.{kindIn, indexIn};
-ghost use Rattle.forms.specs.Format.{recordOf, size, unevenFor, coefficientsIn, sizeIn, lookCode};
+ghost use Rattle.forms.specs.Format.{recordOf, unevenFor, coefficientsIn, sizeIn, lookCode};
 ghost use Rattle.conversions.specs.Converting.{other, convertAnswer, convertLeaves};
 ghost use Rattle.conversions.specs.Front.{front};
 

@@ -1,5 +1,5 @@
-// A record of one form, converted to the other. Nothing is asked of the caller. What both forms have is copied, and only
-// the other half is made: to the whole form it is put behind the first, to the half form it is compared and left out.
+// A record of one form, converted to the other. Nothing is asked of the caller. What both forms have is copied. To the
+// whole form the other half is made and put behind it; to the half form it is compared and left out.
 mod converter;
 
 use converter::convert;
@@ -8,7 +8,8 @@ ghost use mathlib.Core.Path.{_≡_};
 ghost use lib.ListN.{length};
 ghost use Rattle.conversions.specs.Converting.{convertAnswer, convertLeaves};
 
-// What converting answers: the code, the degree, the bytes read and written, and the byte at which a wrong field starts.
+// What converting answers: the code, the degree, the bytes read and written, and the byte at which a wrong field
+// starts.
 #[repr(C)]
 pub struct Converted {
     pub code: u64,

@@ -131,4 +131,5 @@ mirrored-any kind n pos i = go (ℕ-discrete n 1)
         (cond (eqb kind 1) (F n) (I n) i)
     go (yes e) h = rw (e, eq-eqb 1 1 refl) (one (eqb kind 1) (rw e at h))
     go (no u) h =
-        mirrored kind n (omega arith) i h ∙ rw (ne-eqb n 1 u, lt-ltb 1 n (omega arith)) (above (eqb kind 1) (cond (eqb kind 1) (F n) (I n) i))
+        mirrored kind n (omega arith) i h
+        ∙ rw (ne-eqb n 1 u, lt-ltb 1 n (omega arith)) (above (eqb kind 1) (cond (eqb kind 1) (F n) (I n) i))

@@ -1,13 +1,13 @@
 -- Every F(n) and every I(n) has halves that match by the rule of its kind and index: so a polynomial that is delivered
 -- is never UNEVEN.
-use Prim.Native.Nat.{ℕ, suc, _-_, _/_, _<_, _≤_}
-use mathlib.Core.Path.{_≡_, sym, ap, _∙_}
+use Prim.Native.Nat.{ℕ, suc, _-_, _<_, _≤_}
+use mathlib.Core.Path.{_≡_}
 use mathlib.Core.Bool.{false}
 use native.Mathlib.Omega.{arith}
 use lib.ListN.{length}
 use Rattle.definitions.specs.Polynomials.{polynomial, degree}
 use Rattle.definitions.specs.Answer.{coefficients}
-use Rattle.definitions.specs.Halves.{halfOf, negates, uneven, image}
+use Rattle.definitions.specs.Halves.{negates, uneven}
 use Rattle.definitions.specs.Steps.{entries}
 use Rattle.step_laws.specs.Firsts.{length-firsts, firsts-here}
 use Rattle.cyclotomic.specs.Mirrors.{mirrored-any}

@@ -19,7 +19,7 @@ use Rattle.definitions.specs.Steps.{entries}
 use Rattle.definitions.specs.Answer.{heightOf}
 use Rattle.definitions.specs.Halves.{halfOf, firstHalf, image, mirroredUp, rebuilt, differ, unevenTo, uneven}
 use Rattle.definitions.specs.Halves.{middleWrong}
-use Rattle.integers.specs.Solver.{:0, _:+_, :-, x, y}
+use Rattle.integers.specs.Solver.{:0, _:+_, :-, x}
 use Rattle.integers.specs.Whole.{ringℤ, ⊖-zero}
 use Rattle.step_laws.specs.Firsts.{length-firsts, firsts-here, firsts-entries, firsts-same}
 use Rattle.step_laws.specs.Signed.{sub-add, abs-⊖}

@@ -34,7 +34,8 @@ pub record Written-right (form : Form) (kind n : ℕ) (cs : List ℤ) (room : �
 pub written-right : (form : Form) (kind n : ℕ) (cs : List ℤ) (room : ℕ) → writeCode form kind n cs room ≡ DONE
     → Written-right form kind n cs room
 unfolding writeCode
-written-right form kind n cs room = go (knownKind kind) refl (goodIndex n) refl (eqb (length cs) (degree kind n + 1)) refl
+written-right form kind n cs room =
+    go (knownKind kind) refl (goodIndex n) refl (eqb (length cs) (degree kind n + 1)) refl
     (ltb largest (heightOf cs)) refl (unevenFor form kind n cs) refl (ltb room (size form cs)) refl
   where
     wrong : {k : ℕ} → suc k ≡ 0 → Written-right form kind n cs room

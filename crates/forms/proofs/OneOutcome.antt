@@ -1,5 +1,5 @@
--- For each input the contract of a function that asks nothing leaves one outcome: two that meet it, as the checker reads
--- it off the clauses, have the same answer and leave the same in the lent buffer.
+-- For each input the contract of a function that asks nothing leaves one outcome: two that meet it, as the checker
+-- reads it off the clauses, have the same answer and leave the same in the lent buffer.
 use mathlib.Core.Path.{_≡_, sym, _∙_}
 use contract.Lifetimes.{Lfts}
 use borrow.Fn.Kinds.{endedOf}

@@ -1,6 +1,6 @@
 -- A record that reads well, in either form, is the record of what was read: it takes those coefficients, and has these
 -- bytes.
-use Prim.Native.Nat.{ℕ, _+_, _*_, _≤_, _<_}
+use Prim.Native.Nat.{ℕ, _+_, _*_, _≤_}
 use mathlib.Core.Path.{_≡_, refl, sym, ap, ap₂, _∙_}
 use mathlib.Core.Bool.{false}
 use mathlib.Core.List.{List, _++_}
@@ -8,11 +8,9 @@ use native.Mathlib.Omega.{arith}
 use native.Mathlib.Nat.{pos-of-ne-zero}
 use lib.ListN.{length, take, drop, length-drop}
 use lib.Seq.{take-add}
-use lib.IntN.{ℤ}
-use Rattle.definitions.specs.Answer.{heightOf}
-use Rattle.definitions.specs.Halves.{halfOf, negates}
+use Rattle.definitions.specs.Halves.{negates}
 use Rattle.even_halves.specs.Halves.{length-rebuilt, half-rebuilt, height-rebuilt, rebuilt-uneven}
-use Rattle.widths.specs.Numbers.{body, coefficientsAt, widths, leastOf, width}
+use Rattle.widths.specs.Numbers.{body, widths, leastOf, width}
 use Rattle.record.specs.Header.{headerOf, kindIn, widthIn, indexIn, countIn, degreeIn}
 use Rattle.index.proofs.Laws.{good-index}
 use Rattle.widths.proofs.Least.{width-bounds, width-some}

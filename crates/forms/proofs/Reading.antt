@@ -1,4 +1,5 @@
--- The reader's answers, a code each, from the tests that led there; and what the pass that stores leaves. Over the form.
+-- The reader's answers, a code each, from the tests that led there; and what the pass that stores leaves. Over the
+-- form.
 use Prim.Native.Nat.{ℕ, zero, suc, _+_, _*_, _/_, _%_, _≤_, _<_}
 use mathlib.Core.Path.{_≡_, refl, sym, ap, _∙_}
 use mathlib.Core.Bool.{Bool, true, false, cond, not, _&&_}
@@ -69,7 +70,8 @@ module _ (form : Form) (bs : List ℕ) (cs : List ℤ) where
   unfolding readAnswer readLeaves
   by-code code e = rw e (refl, refl)
 
-  pub refused : (code : ℕ) → readCode form bs (length cs) ≡ code → (code ≡ DONE → ⊥) → Answered (readTells form bs code) cs
+  pub refused : (code : ℕ) → readCode form bs (length cs) ≡ code → (code ≡ DONE → ⊥)
+      → Answered (readTells form bs code) cs
   refused code e z = rw (ne-eqb code DONE z) at (by-code code e)
 
 pub length-stored : (form : Form) (bs : List ℕ) → length (storedIn form bs) ≡ stored form (countIn bs)

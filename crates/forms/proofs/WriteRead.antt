@@ -1,6 +1,6 @@
--- What is written reads back, in either form: a record of coefficients that the form takes, whatever comes after it, has
--- that kind and index, those coefficients and no fault.
-use Prim.Native.Nat.{ℕ, _+_, _*_, _≤_, _<_}
+-- What is written reads back, in either form: a record of coefficients that the form takes, whatever comes after it,
+-- has that kind and index, those coefficients and no fault.
+use Prim.Native.Nat.{ℕ, _+_, _≤_, _<_}
 use mathlib.Core.Path.{_≡_, refl, sym, ap, ap₂, _∙_}
 use mathlib.Core.Bool.{true, false, true≢false}
 use mathlib.Core.List.{List, _++_, append-assoc}
@@ -15,9 +15,9 @@ use Rattle.definitions.specs.Steps.{largest}
 use Rattle.definitions.specs.Codes.{DONE}
 use Rattle.definitions.specs.Polynomials.{degree}
 use Rattle.definitions.specs.Requests.{knownKind}
-use Rattle.definitions.specs.Halves.{firstHalf, negates, rebuilt, uneven, middleWrong}
+use Rattle.definitions.specs.Halves.{firstHalf, negates, rebuilt, uneven}
 use Rattle.even_halves.specs.Halves.{length-half, rebuilt-half, height-rebuilt, rebuilt-uneven}
-use Rattle.widths.specs.Numbers.{body, coefficientsAt, widths, oneOf, leastOf, width}
+use Rattle.widths.specs.Numbers.{body, widths, oneOf, leastOf, width}
 use Rattle.record.specs.Header.{headerOf, kindIn, widthIn, indexIn, countIn, degreeIn}
 use Rattle.index.proofs.Laws.{index-good, degree-le}
 use Rattle.widths.proofs.Least.{Fitting, width-none, width-some}

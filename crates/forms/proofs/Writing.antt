@@ -48,7 +48,8 @@ module _ (form : Form) (kind n : ℕ) (cs : List ℤ) (b : List ℕ) where
 
   -- all that hangs on the code
   by-code : (code : ℕ) → writeCode form kind n cs (length b) ≡ code →
-      Answered (writeTells form kind n cs code) (cond (eqb code DONE) (recordOf form kind n cs ++ drop (size form cs) b) b)
+      Answered (writeTells form kind n cs code)
+      (cond (eqb code DONE) (recordOf form kind n cs ++ drop (size form cs) b) b)
   unfolding writeAnswer writeLeaves
   by-code code e = rw e (refl, refl)
 

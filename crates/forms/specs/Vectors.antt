@@ -83,8 +83,8 @@ written = refl
 -- and by kind and index, and with one coefficient too few for the degree
 refused :
     map {B = ℕ × ℕ} (λ (r : Written). (r .code, r .byte))
-    (writeAnswer Whole 3 6 (pos 1 ∷ []) 13 ∷ writeAnswer Whole 1 0 (pos 1 ∷ []) 13 ∷ writeAnswer Whole 1 65536 (pos 1 ∷ []) 13
-    ∷ writeAnswer Whole 1 6 (pos 1 ∷ pos 1 ∷ []) 13 ∷ [])
+    (writeAnswer Whole 3 6 (pos 1 ∷ []) 13 ∷ writeAnswer Whole 1 0 (pos 1 ∷ []) 13
+    ∷ writeAnswer Whole 1 65536 (pos 1 ∷ []) 13 ∷ writeAnswer Whole 1 6 (pos 1 ∷ pos 1 ∷ []) 13 ∷ [])
     ≡ (KIND, 0) ∷ (INDEX, 0) ∷ (INDEX, 0) ∷ (RCOUNT, 6) ∷ []
 unfolding writeAnswer writeTells byteOf writeCode knownKind goodIndex degree phi countTo shareFactor someTo divides
 refused = refl
@@ -116,11 +116,12 @@ unfolding halfF6 halfI6 halfF1 I6 coefficientsIn rebuilt firsts mirroredUp negat
     signedOf number top
 reads-halves = refl
 
--- the half record of I(6) read into 5 entries: as it is, with a middle of 1, with one in two bytes each, and with the mark of
--- the whole form; into 4 entries with a middle of 1; and cut before its middle
+-- the half record of I(6) read into 5 entries: as it is, with a middle of 1, with one in two bytes each, with the mark
+-- of the whole form, and cut before its middle; and into 4 entries with a middle of 1
 halves-damaged :
     map (λ (bytes : List ℕ). readCode Half bytes 5)
-    (halfI6 ∷ set halfI6 12 1 ∷ (set (set halfI6 3 2) 12 1 ++ (0 ∷ 1 ∷ 0 ∷ [])) ∷ set halfI6 1 0x50 ∷ take 12 halfI6 ∷ [])
+    (halfI6 ∷ set halfI6 12 1 ∷ (set (set halfI6 3 2) 12 1 ++ (0 ∷ 1 ∷ 0 ∷ [])) ∷ set halfI6 1 0x50
+    ∷ take 12 halfI6 ∷ [])
     ++ readCode Half (set halfI6 12 1) 4 ∷ []
     ≡ DONE ∷ UNEVEN ∷ WIDTH ∷ MARK ∷ CUT ∷ SHORT ∷ []
 unfolding halfI6 readCode headerCode marked fieldCode knownKind oneOf degreeIn degree phi countTo shareFactor someTo
@@ -129,7 +130,8 @@ halves-damaged = refl
 
 -- written to 13 bytes: I(6); with a middle of 1; the same with -2^63 at its end; one side changed; and I(6) to 12 bytes
 halves-refused :
-    map (λ (cs : List ℤ). writeCode Half 2 6 cs 13) (I6 ∷ set I6 2 (pos 1) ∷ set (set I6 2 (pos 1)) 4 (negsuc (2 ^ 63 - 1))
+    map (λ (cs : List ℤ). writeCode Half 2 6 cs 13)
+    (I6 ∷ set I6 2 (pos 1) ∷ set (set I6 2 (pos 1)) 4 (negsuc (2 ^ 63 - 1))
     ∷ set I6 4 (negsuc 0) ∷ []) ++ writeCode Half 2 6 I6 12 ∷ []
     ≡ DONE ∷ UNEVEN ∷ OVER ∷ UNEVEN ∷ SHORT ∷ []
 unfolding I6 writeCode knownKind goodIndex degree phi countTo shareFactor someTo divides size width leastOf top heightOf

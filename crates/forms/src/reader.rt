@@ -22,8 +22,8 @@ ghost use Rattle.definitions.specs.Codes.{DONE};
 ghost use Rattle.definitions.specs.Halves.{negates};
 ghost use Rattle.widths.specs.Numbers.{width};
 ghost use Rattle.record.specs.Header.{widthIn, kindIn, indexIn, countIn, headerCode};
-ghost use Rattle.forms.specs.Format.{mark, stored, storedIn, coefficientsIn, sizeIn, unevenIn, readCode, lookCode};
-ghost use Rattle.forms.specs.Format.{readTells, readAnswer, readLeaves};
+ghost use Rattle.forms.specs.Format.{mark, stored, storedIn, coefficientsIn, sizeIn, unevenIn, readCode};
+ghost use Rattle.forms.specs.Format.{lookCode, readTells, readAnswer, readLeaves};
 
 // How many coefficients a form stores where the header, whatever its mark, is right.
 fn stored_in(bytes: &[u8], form: Form) -> usize
@@ -150,7 +150,8 @@ fn fill_stored(bytes: &[u8], form: Form, coeffs: &mut [i64])
     requires { ⌜ readCode form (now bytes) (length (now coeffs)) ≡ DONE ⌝ }
     ensures { λ _.
         ⌜ now (coeffs .exit)
-        ≡ storedIn form (now (bytes .entry)) ++ drop (length (storedIn form (now (bytes .entry)))) (now (coeffs .entry)) ⌝ }
+        ≡ storedIn form (now (bytes .entry))
+        ++ drop (length (storedIn form (now (bytes .entry)))) (now (coeffs .entry)) ⌝ }
 {
     fill(
         bytes,

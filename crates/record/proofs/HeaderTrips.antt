@@ -58,7 +58,8 @@ part-same w at bs h p =
     bytes-number w (take w (drop at bs)) (length-take-le w (drop at bs) (rw length-drop (omega arith)))
     (bytes-take w (drop at bs) (bytes-drop at bs p))
 
-pub header-same : (mark : ℕ) (bs : List ℕ) → Bytes bs → Right mark bs → headerOf mark (kindIn bs) (widthIn bs) (indexIn bs) (countIn bs)
+pub header-same : (mark : ℕ) (bs : List ℕ) → Bytes bs → Right mark bs
+    → headerOf mark (kindIn bs) (widthIn bs) (indexIn bs) (countIn bs)
     ≡ take 10 bs
 unfolding headerOf marked
 header-same mark bs p r =

@@ -114,7 +114,8 @@ header-cases P m bs cut mark kind wide index count done =
     })
 
 pub right : (mark : ℕ) (bs : List ℕ) → headerCode mark bs ≡ DONE → Right mark bs
-right mark bs = header-cases (λ code. code ≡ DONE → Right mark bs) mark bs wrong wrong wrong wrong wrong wrong (λ r e. r)
+right mark bs =
+    header-cases (λ code. code ≡ DONE → Right mark bs) mark bs wrong wrong wrong wrong wrong wrong (λ r e. r)
   where
     wrong : {k : ℕ} → suc k ≡ 0 → Right mark bs
     wrong e = absurd (omega arith)

@@ -7,7 +7,8 @@ ghost use mathlib.Core.Path.{_≡_};
 ghost use lib.ListN.{length};
 ghost use Rattle.definitions.specs.Codes.{DONE};
 ghost use Rattle.record.specs.Header.{headerCode};
-ghost use Rattle.shelf.specs.Format.{writeAnswer, writeLeaves, readAnswer, readLeaves, lookCode, sizeIn, wholeMark};
+ghost use Rattle.shelf.specs.Format.{writeAnswer, writeLeaves, readAnswer, readLeaves, lookCode};
+ghost use Rattle.shelf.specs.Format.{sizeIn, wholeMark};
 
 // The record of some coefficients, in the bytes lent.
 pub fn write(kind: u64, n: u64, coeffs: &[i64], bytes: &mut [u8]) -> Written

@@ -21,7 +21,9 @@ size-in-requires : tie.Need-size-in-requires
 size-in-requires c κs = header-looked _ (c .before .pre .0)
 
 add-t4 : tie.Need-add-t4
-add-t4 c = omega (arith, c .size-in .ensures, size-looked (c .before .before .args .bytes .now) (c .before .before .pre .0))
+add-t4 c =
+    let start = c .before .before in
+    omega (arith, c .size-in .ensures, size-looked (start .args .bytes .now) (start .pre .0))
 
 kind-in-requires : tie.Need-kind-in-requires
 kind-in-requires c κs = long (c .before .before)

@@ -1,13 +1,12 @@
 -- `put_front`: the first bytes copied, and the mark of the other form (Converting).
-use Prim.Native.Nat.{_≤_}
-use mathlib.Core.Path.{_≡_, ap, _∙_}
+use mathlib.Core.Path.{ap, _∙_}
 use native.Mathlib.Omega.{arith}
 use borrow.Author.Needs.{needs}
 use lib.ListN.{length}
 use Rattle.record.specs.Header.{countIn}
-use Rattle.widths.proofs.Digits.{Bytes, bytes-each}
+use Rattle.widths.proofs.Digits.{bytes-each}
 use Rattle.forms.specs.declared.Form.the-variants.{Half}
-use Rattle.forms.specs.Format.{mark, sizeIn}
+use Rattle.forms.specs.Format.{mark}
 use Rattle.forms.proofs.Done.{Read-right}
 use Rattle.conversions.proofs.Converting.{looked, half-least, size-least, front-stored}
 use Rattle.conversions.proofs.converter.put_front.Statement.{statement}

@@ -1,6 +1,5 @@
 -- `put_whole`: what both forms have, and then the other half (Converting).
-use Prim.Native.Nat.{_≤_}
-use mathlib.Core.Path.{_≡_, ap, _∙_}
+use mathlib.Core.Path.{ap}
 use native.Mathlib.Omega.{arith}
 use borrow.Author.Needs.{needs}
 use lib.ListN.{length}
@@ -9,7 +8,6 @@ use Rattle.record.proofs.Headers.{right}
 use Rattle.widths.proofs.Digits.{bytes-each}
 use Rattle.definitions.specs.Halves.{halfOf}
 use Rattle.forms.specs.declared.Form.the-variants.{Whole, Half}
-use Rattle.forms.specs.Format.{sizeIn}
 use Rattle.forms.proofs.Done.{Read-right}
 use Rattle.forms.proofs.Reading.{size-in}
 use Rattle.conversions.proofs.Converting.{looked, half-least, placed, whole-stored}

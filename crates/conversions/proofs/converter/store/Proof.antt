@@ -1,5 +1,5 @@
 -- `store`: by the form (Converting).
-use mathlib.Core.Path.{_≡_, ap, _∙_}
+use mathlib.Core.Path.{ap, _∙_}
 use mathlib.Core.List.{List, _++_}
 use borrow.Author.Needs.{needs}
 use Prim.Native.Nat.{ℕ}

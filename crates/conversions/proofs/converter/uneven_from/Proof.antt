@@ -1,5 +1,5 @@
 -- `uneven_from`: a half record always has its whole; of a whole one the halves are compared.
-use mathlib.Core.Path.{_≡_, ap₂, _∙_}
+use mathlib.Core.Path.{ap₂, _∙_}
 use native.Mathlib.Omega.{arith}
 use borrow.Author.Needs.{needs}
 use Rattle.definitions.specs.Halves.{uneven}

@@ -1,6 +1,6 @@
 -- `deliver`: by the form.
 use Prim.Native.Nat.{ℕ}
-use mathlib.Core.Path.{_≡_, ap, _∙_}
+use mathlib.Core.Path.{ap, _∙_}
 use mathlib.Core.List.{_++_}
 use borrow.Author.Needs.{needs}
 use lib.ListN.{drop}

@@ -1,11 +1,9 @@
 -- `fill_stored`: the store of what a record that reads has (Reading).
-use mathlib.Core.Path.{_≡_, sym, _∙_}
 use native.Mathlib.Omega.{arith}
 use borrow.Author.Needs.{needs}
 use lib.ListN.{length}
 use Rattle.record.specs.Header.{countIn}
 use Rattle.record.proofs.Headers.{right}
-use Rattle.forms.specs.Format.{sizeIn}
 use Rattle.forms.proofs.Done.{Read-right, read-right}
 use Rattle.forms.proofs.Reading.{stored-le, size-in, filled-in}
 use Rattle.forms.proofs.reader.fill_stored.Statement.{statement}

@@ -2,7 +2,6 @@
 use Prim.Native.Nat.{ℕ, suc, _+_, _*_, _/_, _%_, _≤_}
 use mathlib.Core.Path.{_≡_, sym, ap, _∙_}
 use native.Mathlib.Omega.{arith}
-use borrow.Author.Needs.{needs}
 use borrow.Author.Tests.{not-true, not-false}
 use native.Mathlib.Nat.{suc-mul}
 use lib.ListN.{length}
@@ -31,11 +30,14 @@ negates-in-requires c κs = right _ _ (c .before .before .before .pre .0) .long
 
 returns : tie.Need-returns
 returns c =
-    middle-plain (from (c .before .before) .args .bytes .now) (sym (c .before .negates-in .ensures) ∙ not-true _ (c .if1 .taken))
+    middle-plain (from (c .before .before) .args .bytes .now)
+    (sym (c .before .negates-in .ensures) ∙ not-true _ (c .if1 .taken))
 
 returns-2 : tie.Need-returns-2
 returns-2 c =
-    middle-none (from (c .before .before .before) .args .bytes .now) (ap (λ (k : ℕ). k % 2) (sym (c .before .before .before .count-in .ensures)) ∙ c .if2 .taken)
+    let counted = c .before .before .before in
+    middle-none (from counted .args .bytes .now)
+    (ap (λ (k : ℕ). k % 2) (sym (counted .count-in .ensures)) ∙ c .if2 .taken)
 
 -- the middle one is stored, and the bytes before it are few
 stored : (c : tie.Else2) → let counted = c .before .before .before in
@@ -52,10 +54,12 @@ stored c =
     let one : halfOf k ≡ suc (k / 2) = omega (arith, c .if2 .left) in
     let whole : 10 + halfOf k * w ≡ sizeIn Half bs =
     size-in Half bs w (halfOf k) wide (ap halfOf (counted .count-in .ensures)) in
-    let small = count-small _ bs (from counted .pre .0) (bytes-each bs (λ i. known .shared-slice-known .given i .fits)) in
+    let p = bytes-each bs (λ i. known .shared-slice-known .given i .fits) in
+    let small = count-small _ bs (from counted .pre .0) p in
     let sum : halfOf k * w ≡ k / 2 * w + w = rw one (suc-mul (k / 2) w) in (
       omega (arith, sum, whole, from counted .pre .1),
-      few-in (k / 2) w (omega (arith, small, counted .count-in .ensures)) (in-bounds _ bs w wide (from counted .pre .0) .1),
+      few-in (k / 2) w (omega (arith, small, counted .count-in .ensures))
+          (in-bounds _ bs w wide (from counted .pre .0) .1),
     )
 
 mul-get : tie.Need-mul-get

@@ -1,7 +1,6 @@
 -- `right_in`: the look at the width in the header and at what is stored (Reading).
 use mathlib.Core.Path.{_∙_}
 use native.Mathlib.Omega.{arith}
-use borrow.Author.Needs.{needs}
 use Rattle.record.proofs.Headers.{right}
 use Rattle.forms.proofs.Reading.{size-in, seen-in}
 use Rattle.forms.proofs.reader.right_in.Statement.{statement}

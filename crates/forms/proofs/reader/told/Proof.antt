@@ -1,11 +1,11 @@
 -- `told`: the degree and the rest where they are told, which is where the header is right (Reading).
-use mathlib.Core.Path.{_≡_, refl, sym, ap, _∙_}
+use mathlib.Core.Path.{_≡_, _∙_}
 use native.Mathlib.Omega.{arith}
 use borrow.Author.Needs.{needs}
 use Rattle.definitions.specs.Codes.{DONE}
 use Rattle.record.specs.Header.{headerCode}
-use Rattle.record.proofs.Headers.{Right, right}
-use Rattle.forms.specs.Format.{mark, readTells}
+use Rattle.record.proofs.Headers.{right}
+use Rattle.forms.specs.Format.{mark}
 use Rattle.forms.proofs.Done.{read-right}
 use Rattle.forms.proofs.Reading.{short-header, all-told, short-told, other-told}
 use Rattle.forms.proofs.reader.told.Statement.{statement}
@@ -38,7 +38,8 @@ returns : tie.Need-returns
 returns c =
     let counted = c .before .before .before in
     rw (counted .before .if1 .taken) (all-told _ _ _ _ _ _
-    (omega (arith, counted .count-in .ensures, right _ _ (done (counted .before)) .count)) (c .before .before .size-in .ensures)
+    (omega (arith, counted .count-in .ensures, right _ _ (done (counted .before)) .count))
+    (c .before .before .size-in .ensures)
     (c .before .kind-in .ensures) (c .index-in .ensures .0))
 
 count-in-requires-2 : tie.Need-count-in-requires-2

@@ -8,7 +8,6 @@ use lib.Seq.{sets, length-take-le}
 use Rattle.record.specs.Header.{headerOf}
 use Rattle.record.proofs.Passes.{length-body}
 use Rattle.widths.proofs.Least.{width-fits}
-use Rattle.forms.proofs.Reading.{stored-le}
 use Rattle.forms.proofs.Writing.{size-made, record-made, height-take}
 use Rattle.forms.proofs.writer.store.Statement.{statement}
 use Rattle.forms.proofs.writer.store.Tie as tie
@@ -45,7 +44,8 @@ put-header-requires c κs =
     )
 
 -- what is stored is a part of all
-cut : (c : tie.After-stored-of) → length (take (c .stored-of .result) (from c .args .coeffs .now)) ≡ c .stored-of .result
+cut : (c : tie.After-stored-of) → length (take (c .stored-of .result) (from c .args .coeffs .now))
+    ≡ c .stored-of .result
 cut c = length-take-le (c .stored-of .result) (from c .args .coeffs .now) (c .stored-of .ensures .1)
 
 slice-aggregate-put-body : tie.Need-slice-aggregate-put-body

@@ -6,7 +6,6 @@ use lib.ListN.{length}
 use borrow.Author.Tests.{ltb-false}
 use native.Mathlib.Omega.{arith}
 use borrow.Author.Needs.{needs}
-use Rattle.definitions.specs.Answer.{heightOf}
 use Rattle.definitions.specs.Steps.{largest}
 use Rattle.definitions.specs.Polynomials.{degree}
 use Rattle.index.proofs.Laws.{index-good, told-right, told-small}
