@@ -34,13 +34,13 @@ rebuilt negate count half = firsts count (mirroredUp negate count (entries half)
 unfoldable pub differ : ℤ → ℤ → Bool
 differ a b = not (eqb (natAbs (a ⊝ b)) 0)
 
--- one of the first k coefficients, of count ones, has another than its image at count - 1 - i
+-- one of the first k coefficients has another than its image at the place that mirrors it
 unfoldable pub unevenTo : ℕ → Bool → List ℤ → Bool
 unevenTo zero negate cs = false
 unevenTo (suc k) negate cs =
     unevenTo k negate cs || differ (entries cs (length cs - 1 - k)) (image negate (entries cs k))
 
--- the halves don't match: one of the first half has. A middle one is to be its own image, so 0 under negation
+-- the halves don't match: one of the first half has another. A middle one is to be its own image, so 0 under negation
 unfoldable pub uneven : Bool → List ℤ → Bool
 uneven negate cs = unevenTo (halfOf (length cs)) negate cs
 

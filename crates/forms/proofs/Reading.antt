@@ -5,7 +5,7 @@ use mathlib.Core.Path.{_≡_, refl, sym, ap, _∙_}
 use mathlib.Core.Bool.{Bool, true, false, cond, not, _&&_}
 use mathlib.Core.List.{List, _++_}
 use native.Mathlib.Omega.{arith}
-use native.Mathlib.Nat.{zero-add, mul-le-mul-left, mul-le-mul-right, le-trans}
+use native.Mathlib.Nat.{zero-add}
 use lib.ListN.{length, drop}
 use lib.Seq.{sets, sets-eq}
 use lib.IntN.{ℤ, natAbs}
@@ -17,7 +17,6 @@ use Rattle.definitions.specs.Halves.{halfOf, negates, middleWrong}
 use Rattle.widths.specs.Numbers.{signedOf, coefficientsAt, width}
 use Rattle.record.specs.Header.{fields, kindIn, widthIn, indexIn, countIn, degreeIn, headerCode, byteOf}
 use Rattle.index.proofs.Laws.{degree-le}
-use Rattle.widths.proofs.Least.{width-bounds}
 use Rattle.widths.proofs.Digits.{Bytes, zero-signed}
 use Rattle.record.specs.Held.{numberAt}
 use Rattle.record.proofs.Passes.{length-at}
@@ -120,10 +119,7 @@ pub stored-le : (form : Form) (count : ℕ) → stored form count ≤ count
 stored-le Whole count = omega arith
 stored-le Half count = omega arith
 
-pub few-in : (k w : ℕ) → k ≤ 65536 → w ≤ 8 → k * w ≤ 524288
-few-in k w hk hw = le-trans (mul-le-mul-right w hk) (mul-le-mul-left 65536 hw)
-
--- a right header's count, and the bytes of the record, are few
+-- a right header's count is small
 module _ (m : ℕ) (bs : List ℕ) (h : headerCode m bs ≡ DONE) (bytes : Bytes bs) where
   pub count-small : countIn bs ≤ 65536
   unfolding degreeIn
@@ -134,11 +130,6 @@ module _ (m : ℕ) (bs : List ℕ) (h : headerCode m bs ≡ DONE) (bytes : Bytes
         degree-le (kindIn bs) (indexIn bs),
         index-small bs (right m bs h .long) bytes,
       )
-
-  pub size-small : (form : Form) → stored form (countIn bs) * widthIn bs ≤ 524288
-  size-small form =
-      let b = width-bounds (widthIn bs) (right m bs h .wide) in
-      few-in (stored form (countIn bs)) (widthIn bs) (omega (arith, stored-le form (countIn bs), count-small)) (b .1)
 
 -- the header is right where SHORT is given
 pub short-header : (form : Form) (bs : List ℕ) (room : ℕ) → readCode form bs room ≡ SHORT

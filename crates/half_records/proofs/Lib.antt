@@ -1,2 +1,3 @@
--- One outcome for each input.
+-- That a delivered polynomial is taken, and one outcome for each input.
+pub mod Delivered
 pub mod OneOutcome

@@ -17,10 +17,7 @@ writeAnswer = Forms.writeAnswer Whole
 abbrev pub writeLeaves : ℕ → ℕ → List ℤ → List ℕ → List ℕ
 writeLeaves = Forms.writeLeaves Whole
 
--- the coefficients and the bytes of a record, and its code by every test but that of the room
-abbrev pub coefficientsIn : List ℕ → List ℤ
-coefficientsIn = Forms.coefficientsIn Whole
-
+-- the bytes of a record, and its code by every test but that of the room
 abbrev pub sizeIn : List ℕ → ℕ
 sizeIn = Forms.sizeIn Whole
 

@@ -49,10 +49,8 @@ signed-high w m v h e l =
     simp (lt-leb v (top w) (omega arith), back)
 
 -- a record's bytes are few
-pub few : (count d w : ℕ) → count ≡ d + 1 → d ≤ 65535 → w ≤ 8 → count * w ≤ 524288
-few count d w e h l =
-    let c : count ≤ 65536 = omega arith in
-    mul-le-mul c l
+pub few : (k w : ℕ) → k ≤ 65536 → w ≤ 8 → k * w ≤ 524288
+few k w h l = mul-le-mul h l
 
 pub nonzero : (w : ℕ) → (w ≡ 0 → ⊥) → 0 < w
 nonzero w z = omega arith

@@ -11,7 +11,8 @@ use Rattle.record.specs.Held.{numberAt}
 use Rattle.record.proofs.Headers.{right, in-bounds}
 use Rattle.forms.specs.declared.Form.the-variants.{Half}
 use Rattle.forms.specs.Format.{sizeIn}
-use Rattle.forms.proofs.Reading.{count-small, few-in, size-in, middle-plain, middle-none, middle-is}
+use Rattle.widths.proofs.Widths.{few}
+use Rattle.forms.proofs.Reading.{count-small, size-in, middle-plain, middle-none, middle-is}
 use Rattle.forms.proofs.reader.middle_in.Statement.{statement}
 use Rattle.forms.proofs.reader.middle_in.Tie as tie
 
@@ -58,7 +59,7 @@ stored c =
     let small = count-small _ bs (from counted .pre .0) p in
     let sum : halfOf k * w ≡ k / 2 * w + w = rw one (suc-mul (k / 2) w) in (
       omega (arith, sum, whole, from counted .pre .1),
-      few-in (k / 2) w (omega (arith, small, counted .count-in .ensures))
+      few (k / 2) w (omega (arith, small, counted .count-in .ensures))
           (in-bounds _ bs w wide (from counted .pre .0) .1),
     )
 

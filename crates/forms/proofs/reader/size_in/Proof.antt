@@ -3,7 +3,8 @@ use Prim.Native.Nat.{_*_, _≤_}
 use native.Mathlib.Omega.{arith}
 use borrow.Author.Needs.{needs}
 use Rattle.record.proofs.Headers.{right, in-bounds}
-use Rattle.forms.proofs.Reading.{few-in, size-in}
+use Rattle.widths.proofs.Widths.{few}
+use Rattle.forms.proofs.Reading.{size-in}
 use Rattle.forms.proofs.reader.size_in.Statement.{statement}
 use Rattle.forms.proofs.reader.size_in.Tie as tie
 
@@ -16,7 +17,7 @@ stored-in-requires c κs = search needs
 small : (c : tie.After-stored-in) → c .stored-in .result * c .before .width-in .result ≤ 524288
 small c =
     let wide = c .before in
-    few-in (c .stored-in .result) (wide .width-in .result) (c .stored-in .ensures .1)
+    few (c .stored-in .result) (wide .width-in .result) (c .stored-in .ensures .1)
     (in-bounds _ _ _ (wide .width-in .ensures) (wide .before .before .pre .1) .1)
 
 mul-result : tie.Need-mul-result

@@ -12,11 +12,10 @@ use Rattle.index.proofs.Laws.{index-good, told-right, told-small}
 use Rattle.widths.specs.Numbers.{width}
 use Rattle.record.specs.Header.{byteOf}
 use Rattle.widths.proofs.Least.{Fitting, width-none, width-made, width-fits}
-use Rattle.widths.proofs.Widths.{nonzero}
+use Rattle.widths.proofs.Widths.{few, nonzero}
 use Rattle.record.proofs.Headers.{kind-small}
 use Rattle.forms.specs.Format.{size, unevenFor, writeTells}
 use Rattle.forms.proofs.Told.{told}
-use Rattle.forms.proofs.Reading.{few-in}
 use Rattle.forms.proofs.Writing.{count-wrong, too-low, halves-unlike, no-room, stored-whole, size-made}
 use Rattle.forms.proofs.Writing.{degree-told, all-told}
 use Rattle.forms.proofs.writer.write_with.Statement.{statement}
@@ -67,7 +66,7 @@ whole c = size-made _ _ _ _ (made (over-of (c .before) .before)) (c .stored-of .
 small : (c : tie.After-stored-of) → c .stored-of .result * over-of (c .before) .before .least-width .result ≤ 524288
 small c =
     let over = over-of (c .before) in
-    few-in _ _ (omega (arith, c .stored-of .ensures .1, short over)) (fit over .high)
+    few _ _ (omega (arith, c .stored-of .ensures .1, short over)) (fit over .high)
 
 degree-of-requires : tie.Need-degree-of-requires
 degree-of-requires c κs = search needs
