@@ -2,10 +2,10 @@
 use super::Converted;
 use forms::Form;
 use forms::mark_of;
-use forms::negates_in;
-use forms::size_in;
 use half_passes::copy;
 use half_passes::put_other;
+use reading::negates_in;
+use reading::size_in;
 use record::byte_of;
 use record::count_in;
 use record::width_in;
@@ -91,7 +91,7 @@ pub(crate) fn convert(bytes: &[u8], from: Form, out: &mut [u8]) -> Converted
     ensures answer { λ r. ⌜ r ≡ convertAnswer from (now (bytes .entry)) (length (now (out .entry))) ⌝ }
     ensures leaves { λ _. ⌜ now (out .exit) ≡ convertLeaves from (now (bytes .entry)) (now (out .entry)) ⌝ }
 {
-    let code = forms::look(bytes, from);
+    let code = reading::look(bytes, from);
     if code != answers::DONE {
         return Converted::refused(code, 0, byte_of(code));
     }

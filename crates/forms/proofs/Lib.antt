@@ -2,7 +2,6 @@
 pub mod Told
 pub mod Reading
 pub mod Done
-pub mod Rebuilding
 pub mod Writing
 pub mod WriteRead
 pub mod ReadWrite

@@ -1,23 +1,19 @@
--- For each input the contract of a function that asks nothing leaves one outcome: two that meet it, as the checker
--- reads it off the clauses, have the same answer and leave the same in the lent buffer.
+-- For each input the contract of a function that asks nothing leaves one answer: two that meet it, as the checker reads
+-- it off the clauses, are equal.
 use mathlib.Core.Path.{_≡_, sym, _∙_}
 use contract.Lifetimes.{Lfts}
 use borrow.Fn.Kinds.{endedOf}
 use borrow.Fn.World.{ArgsD, ResD}
 use denote.Triple.Clauses.{AtExit}
-use denote.Ref.{now}
 use Rattle.forms.proofs.mark_of as mark-of
 use Rattle.forms.proofs.mark_of.Kinds as mark-of-kinds
 use Rattle.forms.proofs.mark_of.Reads as mark-of-reads
-use Rattle.forms.proofs.writer.write as write
-use Rattle.forms.proofs.writer.write.Kinds as write-kinds
-use Rattle.forms.proofs.writer.write.Reads as write-reads
-use Rattle.forms.proofs.reader.read as read
-use Rattle.forms.proofs.reader.read.Kinds as read-kinds
-use Rattle.forms.proofs.reader.read.Reads as read-reads
-use Rattle.forms.proofs.reader.look as look
-use Rattle.forms.proofs.reader.look.Kinds as look-kinds
-use Rattle.forms.proofs.reader.look.Reads as look-reads
+use Rattle.forms.proofs.Written.refused as written
+use Rattle.forms.proofs.Written.refused.Kinds as written-kinds
+use Rattle.forms.proofs.Written.refused.Reads as written-reads
+use Rattle.forms.proofs.Record.refused as record-refused
+use Rattle.forms.proofs.Record.refused.Kinds as record-refused-kinds
+use Rattle.forms.proofs.Record.refused.Reads as record-refused-reads
 
 pub mark-of-one :
     (κs : Lfts 0) (a : ArgsD mark-of.signature κs) (z z′ : ResD mark-of.signature κs)
@@ -25,21 +21,14 @@ pub mark-of-one :
     → mark-of-reads.Post κs a z e → mark-of-reads.Post κs a z′ e′ → z ≡ z′
 mark-of-one κs a z z′ e e′ p p′ = p ∙ sym p′
 
-pub write-one :
-    (κs : Lfts 2) (a : ArgsD write.signature κs) (z z′ : ResD write.signature κs)
-    (e e′ : AtExit (endedOf 2 write-kinds.ps write-kinds.r) κs) →
-    write-reads.Post κs a z e → write-reads.Post κs a z′ e′
-    → (z ≡ z′) × (now (e .1 .1 .1 .1 .0) ≡ now (e′ .1 .1 .1 .1 .0))
-write-one κs a z z′ e e′ p p′ = (p .0 ∙ sym (p′ .0), p .1 ∙ sym (p′ .1))
+pub written-one :
+    (κs : Lfts 0) (a : ArgsD written.signature κs) (z z′ : ResD written.signature κs)
+    (e e′ : AtExit (endedOf 0 written-kinds.ps written-kinds.r) κs)
+    → written-reads.Post κs a z e → written-reads.Post κs a z′ e′ → z ≡ z′
+written-one κs a z z′ e e′ p p′ = p ∙ sym p′
 
-pub read-one :
-    (κs : Lfts 2) (a : ArgsD read.signature κs) (z z′ : ResD read.signature κs)
-    (e e′ : AtExit (endedOf 2 read-kinds.ps read-kinds.r) κs) →
-    read-reads.Post κs a z e → read-reads.Post κs a z′ e′ → (z ≡ z′) × (now (e .1 .1 .0) ≡ now (e′ .1 .1 .0))
-read-one κs a z z′ e e′ p p′ = (p .0 ∙ sym (p′ .0), p .1 ∙ sym (p′ .1))
-
-pub look-one :
-    (κs : Lfts 1) (a : ArgsD look.signature κs) (z z′ : ResD look.signature κs)
-    (e e′ : AtExit (endedOf 1 look-kinds.ps look-kinds.r) κs)
-    → look-reads.Post κs a z e → look-reads.Post κs a z′ e′ → z ≡ z′
-look-one κs a z z′ e e′ p p′ = p ∙ sym p′
+pub record-refused-one :
+    (κs : Lfts 0) (a : ArgsD record-refused.signature κs) (z z′ : ResD record-refused.signature κs)
+    (e e′ : AtExit (endedOf 0 record-refused-kinds.ps record-refused-kinds.r) κs)
+    → record-refused-reads.Post κs a z e → record-refused-reads.Post κs a z′ e′ → z ≡ z′
+record-refused-one κs a z z′ e e′ p p′ = p ∙ sym p′

@@ -1,14 +1,6 @@
-// Inner: nothing here is offered to callers but through `shelf` (the form Whole) and `half_records` (Half); each
-// `requires` is shown by crates above. The stored record in both its forms: a writer and a reader that agree to the
-// byte, and the look at a record. One code and one proof for both: the form is a parameter.
-mod reader;
-mod writer;
+// Inner: each `requires` is shown by crates above. The stored record in both its forms, and what its writer and its
+// reader answer. One code (`writing`, `reading`) and one proof for both: the form is a parameter.
 
-pub use reader::look;
-pub use reader::negates_in;
-pub use reader::read;
-pub use reader::size_in;
-pub use writer::write;
 ghost use mathlib.Core.Path.{_≡_};
 ghost use Prim.Native.Nat.{_≤_};
 ghost use Rattle.forms.specs.Format.{mark, stored};
@@ -51,7 +43,7 @@ pub struct Written {
 
 impl Written {
     // A refusal: the degree is told with OVER and SHORT only, the byte with RCOUNT only.
-    pub(crate) fn refused(code: u64, degree: u64, byte: u64) -> Written
+    pub fn refused(code: u64, degree: u64, byte: u64) -> Written
         ensures { λ r. ⌜ r ≡ record { code = code; degree = degree; used = 0; byte = byte } ⌝ }
     {
         Written {
@@ -77,7 +69,7 @@ pub struct Record {
 
 impl Record {
     // A refusal: the degree is told with SHORT only, the byte where a field of the header is wrong.
-    pub(crate) fn refused(code: u64, degree: u64, byte: u64) -> Record
+    pub fn refused(code: u64, degree: u64, byte: u64) -> Record
         ensures { λ r. ⌜ r ≡ record { code = code; degree = degree; used = 0; kind = 0; n = 0; byte = byte } ⌝ }
     {
         Record {

@@ -13,7 +13,7 @@ pub fn write_half(kind: u64, n: u64, coeffs: &[i64], bytes: &mut [u8]) -> Writte
     ensures leaves { λ r.
         ⌜ now (bytes .exit) ≡ writeLeaves Form.Half kind n (now (coeffs .entry)) (now (bytes .entry)) ⌝ }
 {
-    forms::write(kind, n, Form::Half, coeffs, bytes)
+    writing::write(kind, n, Form::Half, coeffs, bytes)
 }
 
 // The polynomial of the half record that some bytes start with, whole, in the entries lent.
@@ -21,5 +21,5 @@ pub fn read_half(bytes: &[u8], coeffs: &mut [i64]) -> Record
     ensures answer { λ r. ⌜ r ≡ readAnswer Form.Half (now (bytes .entry)) (length (now (coeffs .entry))) ⌝ }
     ensures leaves { λ r. ⌜ now (coeffs .exit) ≡ readLeaves Form.Half (now (bytes .entry)) (now (coeffs .entry)) ⌝ }
 {
-    forms::read(bytes, Form::Half, coeffs)
+    reading::read(bytes, Form::Half, coeffs)
 }

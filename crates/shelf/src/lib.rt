@@ -15,7 +15,7 @@ pub fn write(kind: u64, n: u64, coeffs: &[i64], bytes: &mut [u8]) -> Written
     ensures answer { λ r. ⌜ r ≡ writeAnswer kind n (now (coeffs .entry)) (length (now (bytes .entry))) ⌝ }
     ensures leaves { λ r. ⌜ now (bytes .exit) ≡ writeLeaves kind n (now (coeffs .entry)) (now (bytes .entry)) ⌝ }
 {
-    forms::write(kind, n, Form::Whole, coeffs, bytes)
+    writing::write(kind, n, Form::Whole, coeffs, bytes)
 }
 
 // The coefficients of the record that some bytes start with, in the entries lent.
@@ -23,7 +23,7 @@ pub fn read(bytes: &[u8], coeffs: &mut [i64]) -> Record
     ensures answer { λ r. ⌜ r ≡ readAnswer (now (bytes .entry)) (length (now (coeffs .entry))) ⌝ }
     ensures leaves { λ r. ⌜ now (coeffs .exit) ≡ readLeaves (now (bytes .entry)) (now (coeffs .entry)) ⌝ }
 {
-    forms::read(bytes, Form::Whole, coeffs)
+    reading::read(bytes, Form::Whole, coeffs)
 }
 
 // The code of the record that some bytes start with, by every test of the reader but that of the room. Nothing is
@@ -31,7 +31,7 @@ pub fn read(bytes: &[u8], coeffs: &mut [i64]) -> Record
 pub fn look(bytes: &[u8]) -> u64
     ensures { λ r. ⌜ r ≡ lookCode (now (bytes .entry)) ⌝ }
 {
-    forms::look(bytes, Form::Whole)
+    reading::look(bytes, Form::Whole)
 }
 
 // The bytes of a record with a right header.
@@ -39,5 +39,5 @@ pub fn size_in(bytes: &[u8]) -> usize
     requires { ⌜ headerCode wholeMark (now bytes) ≡ DONE ⌝ }
     ensures { λ r. ⌜ r ≡ sizeIn (now (bytes .entry)) ⌝ }
 {
-    forms::size_in(bytes, Form::Whole)
+    reading::size_in(bytes, Form::Whole)
 }

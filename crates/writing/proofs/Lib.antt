@@ -1,0 +1,2 @@
+-- One outcome for each input.
+pub mod OneOutcome
