@@ -11,12 +11,10 @@ use lib.IntN.{ℤ}
 use lib.Dec.{eqb, ltb}
 use borrow.Author.Tests.{ne-eqb, lt-ltb, le-ltb}
 use Rattle.definitions.specs.Codes.{DONE, SHORT, CUT, WIDTH, UNEVEN}
-use Rattle.definitions.specs.Answer.{heightOf}
 use Rattle.definitions.specs.Halves.{halfOf, firstHalf, negates, rebuilt}
 use Rattle.even_halves.specs.Halves.{half-rebuilt, length-rebuilt}
-use Rattle.widths.specs.Numbers.{bytesOf, number, twos, signedOf, body, coefficientsAt, width, top}
+use Rattle.widths.specs.Numbers.{bytesOf, number, twos, signedOf, body, coefficientsAt, width}
 use Rattle.widths.proofs.Digits.{Bytes, bytes-drop, body-coefficients}
-use Rattle.widths.proofs.Least.{width-bounds, width-some}
 use Rattle.record.specs.Header.{headerOf, fields, kindIn, widthIn, indexIn, countIn, degreeIn, headerCode, byteOf}
 use Rattle.record.proofs.Headers.{right, length-header, header-codes}
 use Rattle.record.proofs.HeaderTrips.{header-same}
@@ -25,7 +23,7 @@ use Rattle.forms.specs.declared.Form.{Form}
 use Rattle.forms.specs.declared.Form.the-variants.{Whole, Half}
 use Rattle.forms.specs.Format.{mark, stored, recordOf, size, unevenFor, storedIn, coefficientsIn, sizeIn}
 use Rattle.forms.specs.Format.{unevenIn, readCode, lookCode}
-use Rattle.forms.proofs.Done.{Read-right, read-right}
+use Rattle.forms.proofs.Done.{looked}
 use Rattle.forms.proofs.Writing.{length-record}
 use Rattle.forms.proofs.Reading.{length-stored, stored-le}
 use Rattle.forms.proofs.ReadWrite.{length-whole, width-whole}
@@ -33,12 +31,7 @@ use Rattle.conversions.specs.declared.Converted.{Converted}
 use Rattle.conversions.specs.Converting.{other, convertCode, convertTells, convertAnswer, convertLeaves}
 use Rattle.conversions.specs.Front.{front}
 
--- what the look passes
-pub looked : (form : Form) (bs : List ℕ) → lookCode form bs ≡ DONE → Read-right form bs (countIn bs)
-unfolding lookCode
-looked form bs = read-right form bs (countIn bs)
-
--- and what it never gives: there is room enough
+-- the look never gives SHORT: there is room enough
 pub look-not-short : (form : Form) (bs : List ℕ) → lookCode form bs ≡ SHORT → ⊥
 unfolding lookCode readCode
 look-not-short form bs =
@@ -232,19 +225,8 @@ module _ (bs : List ℕ) (p : Bytes bs) (l : lookCode Half bs ≡ DONE) where
       e₂ ∙ ap (λ (x : List ℕ). sets x (sizeIn Half bs) (otherHalf bs)) (e₁ ∙ sym first) ∙ sym joined
       ∙ ap (sets out 0) is-record ∙ all
 
-pub size-least : (form : Form) (bs : List ℕ) → 10 ≤ sizeIn form bs
-unfolding sizeIn
-size-least form bs = omega arith
-
 -- what is stored, as the functions have it
 pub stored-as : (form : Form) (bs : List ℕ) (w k : ℕ) → w ≡ widthIn bs → k ≡ stored form (countIn bs)
     → coefficientsAt w k (drop 10 bs) ≡ storedIn form bs
 unfolding storedIn
 stored-as form bs w k ew ek = rw (ew, ek)
-
--- and its height
-pub stored-low : (form : Form) (bs : List ℕ) (room : ℕ) → Read-right form bs room
-    → heightOf (storedIn form bs) ≤ top (widthIn bs)
-stored-low form bs room g =
-    let b = width-bounds (widthIn bs) (right (mark form) bs (g .header) .wide) in
-    rw (g .wide) at (width-some (storedIn form bs) (λ z. omega (arith, g .wide, b .0)) .takes)

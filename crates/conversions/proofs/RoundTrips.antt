@@ -15,13 +15,13 @@ use Rattle.widths.proofs.Digits.{Bytes, bytes-each}
 use Rattle.forms.specs.declared.Form.{Form}
 use Rattle.forms.specs.declared.Form.the-variants.{Whole, Half}
 use Rattle.forms.specs.Format.{recordOf, size, unevenFor, coefficientsIn, sizeIn, lookCode, writeLeaves}
-use Rattle.forms.proofs.Done.{Storable, Read-right}
+use Rattle.forms.proofs.Done.{Storable, Read-right, looked}
 use Rattle.forms.proofs.Writing.{stored-whole}
 use Rattle.forms.proofs.WriteRead.{Back, back}
 use Rattle.forms.proofs.ReadWrite.{storable-read, size-read, record-same}
 use Rattle.conversions.specs.declared.Converted.{Converted}
 use Rattle.conversions.specs.Converting.{other, convertCode, convertTells, convertAnswer, convertLeaves}
-use Rattle.conversions.proofs.Converting.{looked, code-done, by-code}
+use Rattle.conversions.proofs.Converting.{code-done, by-code}
 
 -- what `to_half` and `to_whole` promise, by the form of what they are given
 abbrev pub converted : Form → List ℕ → List ℕ → Converted

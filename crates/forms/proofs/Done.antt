@@ -1,6 +1,6 @@
 -- What a writer or a reader was given that refuses nothing: the codes read backwards.
 use Prim.Native.Nat.{ℕ, zero, suc, _+_, _≤_}
-use mathlib.Core.Path.{_≡_, refl}
+use mathlib.Core.Path.{_≡_, refl, sym}
 use mathlib.Core.Bool.{Bool, true, false, cond, not}
 use mathlib.Core.List.{List}
 use native.Mathlib.Omega.{arith}
@@ -14,9 +14,11 @@ use Rattle.definitions.specs.Requests.{knownKind, goodIndex}
 use Rattle.definitions.specs.Steps.{largest}
 use Rattle.definitions.specs.Codes.{DONE, KIND, INDEX, SHORT, OVER, CUT, WIDTH, RCOUNT, UNEVEN}
 use Rattle.widths.specs.Numbers.{width}
+use Rattle.widths.proofs.Least.{Fitting, width-bounds, width-fits}
 use Rattle.record.specs.Header.{widthIn, countIn, headerCode}
+use Rattle.record.proofs.Headers.{right}
 use Rattle.forms.specs.declared.Form.{Form}
-use Rattle.forms.specs.Format.{mark, size, unevenFor, writeCode, storedIn, sizeIn, unevenIn, readCode}
+use Rattle.forms.specs.Format.{mark, size, unevenFor, writeCode, storedIn, sizeIn, unevenIn, readCode, lookCode}
 
 -- what a form takes, where there is room for it
 pub record Storable (form : Form) (kind n : ℕ) (cs : List ℤ) : Type 0 where
@@ -100,3 +102,15 @@ read-right form bs room = go (headerCode (mark form) bs) refl (ltb (length bs) (
           wide = eqb-true (width (storedIn form bs)) (widthIn bs) ew;
           even = eu;
         }
+
+-- the look by itself, where it refuses nothing
+pub looked : (form : Form) (bs : List ℕ) → lookCode form bs ≡ DONE → Read-right form bs (countIn bs)
+unfolding lookCode
+looked form bs = read-right form bs (countIn bs)
+
+-- the width in the header takes what is stored
+pub stored-fits : (form : Form) (bs : List ℕ) (room : ℕ) → Read-right form bs room
+    → Fitting (storedIn form bs) (widthIn bs)
+stored-fits form bs room g =
+    width-fits (storedIn form bs) (widthIn bs) (sym (g .wide))
+    (width-bounds (widthIn bs) (right (mark form) bs (g .header) .wide) .0)

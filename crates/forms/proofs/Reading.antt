@@ -114,6 +114,11 @@ module _ (form : Form) (bs : List ℕ) (w k : ℕ) (ew : w ≡ widthIn bs) (ek :
       let whole : sets cs 0 l ≡ l ++ drop (length l) cs = sets-eq l cs 0 (omega arith) ∙ rw zero-add in
       e ∙ whole ∙ rw (ew, ek)
 
+-- a record has its header at least
+pub size-least : (form : Form) (bs : List ℕ) → 10 ≤ sizeIn form bs
+unfolding sizeIn
+size-least form bs = omega arith
+
 -- no more are stored than there are
 pub stored-le : (form : Form) (count : ℕ) → stored form count ≤ count
 stored-le Whole count = omega arith

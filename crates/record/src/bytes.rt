@@ -75,7 +75,7 @@ pub fn get(bytes: &[u8], at: usize, w: usize) -> u64
 }
 
 // The coefficient in the w bytes from `at` on.
-pub fn coefficient(bytes: &[u8], at: usize, w: usize) -> i64
+fn coefficient(bytes: &[u8], at: usize, w: usize) -> i64
     requires { ⌜ (oneOf widths w ≡ true) × (at + w ≤ length (now bytes)) ⌝ }
     ensures { λ r. ⌜ r ≡ signedOf w (numberAt w at (now (bytes .entry))) ⌝ }
 {

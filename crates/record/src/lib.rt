@@ -5,7 +5,6 @@ mod bytes;
 mod header;
 mod look;
 
-pub use bytes::coefficient;
 pub use bytes::fill;
 pub use bytes::get;
 pub use bytes::put;

@@ -13,13 +13,13 @@ use Rattle.record.proofs.Fronts.{width-front, count-front, header-front, coeffi
 use Rattle.forms.specs.declared.Form.the-variants.{Whole}
 use Rattle.forms.specs.Format as Forms
 use Rattle.forms.specs.Format.{storedIn, readCode}
+use Rattle.forms.proofs.Reading as Reading
 use Rattle.forms.proofs.Reading.{code-done}
-use Rattle.forms.proofs.Done.{Read-right, read-right}
+use Rattle.forms.proofs.Done.{Read-right, looked}
 use Rattle.shelf.specs.Format.{wholeMark, sizeIn, lookCode}
 
 pub size-least : (bs : List ℕ) → 10 ≤ sizeIn bs
-unfolding Forms.sizeIn
-size-least bs = omega arith
+size-least = Reading.size-least Whole
 
 -- in front of others it is what it is by itself
 module _ (s rest : List ℕ) (long : 10 ≤ length s) where
@@ -50,8 +50,7 @@ module _ (s rest : List ℕ) (long : 10 ≤ length s) where
 -- what the look passes has a right header, and is whole; and taken out
 module _ (bs : List ℕ) (good : lookCode bs ≡ DONE) where
   fits : Read-right Whole bs (countIn bs)
-  unfolding Forms.lookCode
-  fits = read-right Whole bs (countIn bs) good
+  fits = looked Whole bs good
 
   pub header-looked : headerCode wholeMark bs ≡ DONE
   header-looked = fits .header
@@ -86,7 +85,6 @@ module _ (bs : List ℕ) (good : lookCode bs ≡ DONE) where
 
 -- what the look passes is read, wherever there is room for its coefficients
 pub reads : (s : List ℕ) (room : ℕ) → lookCode s ≡ DONE → countIn s ≤ room → readCode Whole s room ≡ DONE
-unfolding Forms.lookCode
 reads s room good fits =
-    let g = read-right Whole s (countIn s) good in
+    let g = looked Whole s good in
     code-done Whole s room (g .header) (g .long) fits (eq-eqb (width (storedIn Whole s)) (widthIn s) (g .wide)) refl

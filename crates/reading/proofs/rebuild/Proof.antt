@@ -10,12 +10,11 @@ use lib.ListN.{length, drop}
 use Rattle.definitions.specs.Answer.{heightOf}
 use Rattle.definitions.specs.Steps.{largest}
 use Rattle.definitions.specs.Halves.{halfOf, rebuilt}
-use Rattle.widths.proofs.Least.{width-bounds, width-some}
-use Rattle.record.specs.Header.{countIn, widthIn}
+use Rattle.record.specs.Header.{countIn}
 use Rattle.record.proofs.Headers.{right}
 use Rattle.forms.specs.declared.Form.the-variants.{Half}
 use Rattle.forms.specs.Format.{storedIn, coefficientsIn}
-use Rattle.forms.proofs.Done.{Read-right, read-right}
+use Rattle.forms.proofs.Done.{Read-right, read-right, stored-fits}
 use Rattle.forms.proofs.Reading.{length-stored}
 use Rattle.reading.proofs.Rebuilding.{length-filled, length-part, part-inside, whole-made}
 use Rattle.reading.proofs.rebuild.Statement.{statement}
@@ -29,10 +28,7 @@ long : (s : tie.Start) → length (storedIn Half (s .args .bytes .now)) ≡ half
 long s = length-stored Half (s .args .bytes .now)
 
 low : (s : tie.Start) → heightOf (storedIn Half (s .args .bytes .now)) ≤ largest
-low s =
-    let bs = s .args .bytes .now in
-    let wide = width-bounds (widthIn bs) (right _ bs (good s .header) .wide) in
-    ltb-false largest _ (width-some (storedIn Half bs) (λ z. omega (arith, good s .wide, wide .0)) .within)
+low s = ltb-false largest _ (stored-fits Half (s .args .bytes .now) _ (good s) .within)
 
 fill-stored-requires : tie.Need-fill-stored-requires
 fill-stored-requires c κs = search needs

@@ -14,8 +14,9 @@ use Rattle.widths.proofs.Digits.{Bytes, bytes-each}
 use Rattle.forms.specs.declared.Form.{Form}
 use Rattle.forms.specs.Format.{mark, recordOf, size, unevenFor, coefficientsIn, sizeIn, lookCode}
 use Rattle.forms.proofs.Told.{told}
+use Rattle.forms.proofs.Done.{looked}
 use Rattle.conversions.specs.Converting.{other, convertTells}
-use Rattle.conversions.proofs.Converting.{looked, code-uneven, code-short, code-done, by-code, refused-look}
+use Rattle.conversions.proofs.Converting.{code-uneven, code-short, code-done, by-code, refused-look}
 use Rattle.conversions.proofs.Converting.{degree-told, all-told, size-other}
 use Rattle.conversions.proofs.converter.convert.Statement.{statement}
 use Rattle.conversions.proofs.converter.convert.Tie as tie

@@ -7,8 +7,9 @@ use Rattle.record.specs.Header.{countIn}
 use Rattle.widths.proofs.Digits.{bytes-each}
 use Rattle.forms.specs.declared.Form.the-variants.{Half}
 use Rattle.forms.specs.Format.{mark}
-use Rattle.forms.proofs.Done.{Read-right}
-use Rattle.conversions.proofs.Converting.{looked, half-least, size-least, front-stored}
+use Rattle.forms.proofs.Done.{Read-right, looked}
+use Rattle.forms.proofs.Reading.{size-least}
+use Rattle.conversions.proofs.Converting.{half-least, front-stored}
 use Rattle.conversions.proofs.converter.put_front.Statement.{statement}
 use Rattle.conversions.proofs.converter.put_front.Tie as tie
 

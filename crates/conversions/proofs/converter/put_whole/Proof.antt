@@ -8,9 +8,9 @@ use Rattle.record.proofs.Headers.{right}
 use Rattle.widths.proofs.Digits.{bytes-each}
 use Rattle.definitions.specs.Halves.{halfOf}
 use Rattle.forms.specs.declared.Form.the-variants.{Whole, Half}
-use Rattle.forms.proofs.Done.{Read-right}
+use Rattle.forms.proofs.Done.{Read-right, looked}
 use Rattle.forms.proofs.Reading.{size-in}
-use Rattle.conversions.proofs.Converting.{looked, half-least, placed, whole-stored}
+use Rattle.conversions.proofs.Converting.{half-least, placed, whole-stored}
 use Rattle.conversions.proofs.converter.put_whole.Statement.{statement}
 use Rattle.conversions.proofs.converter.put_whole.Tie as tie
 

@@ -7,9 +7,9 @@ use Rattle.record.specs.Header.{countIn}
 use Rattle.record.proofs.Headers.{right}
 use Rattle.forms.specs.declared.Form.the-variants.{Whole}
 use Rattle.forms.specs.Format.{coefficientsIn}
-use Rattle.forms.proofs.Done.{Read-right}
+use Rattle.forms.proofs.Done.{Read-right, looked, stored-fits}
 use Rattle.forms.proofs.Reading.{size-in}
-use Rattle.conversions.proofs.Converting.{looked, stored-as, stored-low}
+use Rattle.conversions.proofs.Converting.{stored-as}
 use Rattle.conversions.proofs.converter.uneven_from.Statement.{statement}
 use Rattle.conversions.proofs.converter.uneven_from.Tie as tie
 
@@ -40,7 +40,7 @@ uneven-in-requires c κs =
     let ek = counted .count-in .ensures in (
       rw ew (right _ _ (g .header) .wide),
       omega (arith, size-in Whole bs _ _ ew ek, g .long),
-      rw (stored-as Whole bs _ _ ew ek, ew) (stored-low Whole bs _ g),
+      rw (stored-as Whole bs _ _ ew ek, ew) (stored-fits Whole bs _ g .takes),
     )
 
 enum-told-2 : tie.Need-enum-told-2
