@@ -7,11 +7,8 @@ use native.Mathlib.Nat.{le-refl, min-eq-left, min-eq-right}
 use lib.ListN.{length, take, drop, length-drop, drop-of-length-le}
 use lib.Seq.{take-all, take-nil, length-take-le}
 use denote.Ref.{RefT, now, ptr}
+use Rattle.shelf.proofs.Alone.{tail}
 use Rattle.browsing.specs.Browse.{partOf, lies}
-
--- the rest of a list, as a part of a slice with no end is known
-pub tail : (l : List ℕ) (start : ℕ) → take (length l - start) (drop start l) ≡ drop start l
-tail l start = take-all (length l - start) (drop start l) (rw length-drop (omega arith))
 
 pub enough-left : (l : List ℕ) (start k : ℕ) → k ≤ length l - start → length (take k (drop start l)) ≡ k
 enough-left l start k h = length-take-le k (drop start l) (rw length-drop (omega arith))

@@ -35,7 +35,7 @@ fn image_of(v: u64, w: usize, negate: bool) -> u64
 }
 
 // Entry i of the k after the header, as it stands there.
-fn number_of(bytes: &[u8], w: usize, k: usize, i: usize) -> u64
+pub fn number_of(bytes: &[u8], w: usize, k: usize, i: usize) -> u64
     requires { ⌜ (oneOf widths w ≡ true) × (10 + k * w ≤ length (now bytes)) × (i < k) ⌝ }
     ensures { λ r. ⌜ (signedOf w r ≡ entries (coefficientsAt w k (drop 10 (now (bytes .entry)))) i)
         × (r < 2 ^ (8 * w)) ⌝ }

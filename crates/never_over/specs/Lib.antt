@@ -12,5 +12,6 @@ pub mod Listed
 pub mod FivePrimes
 pub mod NotOver
 pub mod Heights
+pub mod Delivered
 pub mod Second
 pub mod Never

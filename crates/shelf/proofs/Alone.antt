@@ -1,11 +1,11 @@
 -- A record by itself: the stretch of a shelf from which a record reads, taken out, reads as it did in its place.
-use Prim.Native.Nat.{ℕ, _+_, _≤_}
+use Prim.Native.Nat.{ℕ, _+_, _-_, _≤_}
 use mathlib.Core.Path.{_≡_, refl, sym, ap, _∙_}
 use mathlib.Core.List.{List, _++_}
 use native.Mathlib.Omega.{arith}
 use borrow.Author.Tests.{le-ltb, eq-eqb}
 use lib.ListN.{length, take, drop, length-append, length-drop, take-append-drop}
-use lib.Seq.{drop-append-le, length-take-le}
+use lib.Seq.{take-all, drop-append-le, length-take-le}
 use Rattle.definitions.specs.Codes.{DONE}
 use Rattle.widths.specs.Numbers.{width}
 use Rattle.record.specs.Header.{widthIn, countIn, headerCode}
@@ -17,6 +17,10 @@ use Rattle.forms.proofs.Reading as Reading
 use Rattle.forms.proofs.Reading.{code-done}
 use Rattle.forms.proofs.Done.{Read-right, looked}
 use Rattle.shelf.specs.Format.{wholeMark, sizeIn, lookCode}
+
+-- the rest of a shelf, as a part of a slice with no end is known
+pub tail : (l : List ℕ) (start : ℕ) → take (length l - start) (drop start l) ≡ drop start l
+tail l start = take-all (length l - start) (drop start l) (rw length-drop (omega arith))
 
 pub size-least : (bs : List ℕ) → 10 ≤ sizeIn bs
 size-least = Reading.size-least Whole

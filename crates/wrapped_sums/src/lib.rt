@@ -11,7 +11,7 @@ use std::num::wrapping_sub_u64;
 
 // The bits of a number, and the number of bits. A cast keeps a number, so a negative one goes by its complement; the
 // compiler makes one addition of the whole.
-fn bits_of(x: i64) -> u64
+pub fn bits_of(x: i64) -> u64
     ensures { λ r. ⌜ r ≡ ofZ w64 x ⌝ }
 {
     if x < 0 {

@@ -1,7 +1,8 @@
 -- `part`: by where it starts and ends (Stretches).
 use mathlib.Core.Path.{sym}
 use native.Mathlib.Omega.{arith}
-use Rattle.browsing.proofs.Stretches.{tail, enough-left, part-past, part-end, part-within}
+use Rattle.shelf.proofs.Alone.{tail}
+use Rattle.browsing.proofs.Stretches.{enough-left, part-past, part-end, part-within}
 use borrow.Author.Needs.{needs}
 use Rattle.browsing.proofs.part.Statement.{statement}
 use Rattle.browsing.proofs.part.Tie as tie

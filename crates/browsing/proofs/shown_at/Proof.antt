@@ -3,7 +3,7 @@ use mathlib.Core.Path.{sym, _∙_, ap}
 use native.Mathlib.Omega.{arith}
 use Rattle.shelf.specs.Format.{lookCode}
 use Rattle.browsing.specs.Browse.{shownOf}
-use Rattle.browsing.proofs.Stretches.{tail}
+use Rattle.shelf.proofs.Alone.{tail}
 use Rattle.browsing.proofs.Showing.{shown-end, shown-in, shown-refused}
 use borrow.Author.Needs.{needs}
 use Rattle.browsing.proofs.shown_at.Statement.{statement}

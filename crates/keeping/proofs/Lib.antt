@@ -1,0 +1,5 @@
+-- What the proofs of several functions cite.
+pub mod Standing
+pub mod Comparing
+pub mod Trying
+pub mod Searching

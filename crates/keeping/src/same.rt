@@ -1,0 +1,97 @@
+// The coefficients of a record beside those of its kind and index, as they stand in the record's bytes.
+use half_passes::number_of;
+use record::count_in;
+use record::index_in;
+use record::kind_in;
+use record::width_in;
+use widths::least_width;
+use wrapped_sums::bits_of;
+ghost use mathlib.Core.Path.{_≡_};
+ghost use mathlib.Core.Bool.{true, not};
+ghost use Prim.Native.Nat.{_+_, _*_, _≤_, _<_};
+ghost use lib.ListN.{length, drop};
+ghost use lib.IntN.{natAbs};
+ghost use Rattle.definitions.specs.Codes.{DONE};
+ghost use Rattle.definitions.specs.Steps.{entries};
+ghost use Rattle.definitions.specs.Answer.{heightOf};
+ghost use Rattle.definitions.specs.Halves.{differ};
+ghost use Rattle.widths.specs.Numbers.{top, twos, coefficientsAt, widths, oneOf};
+ghost use Rattle.record.specs.Header.{countIn};
+ghost use Rattle.shelf.specs.Format.{lookCode};
+ghost use Rattle.keeping.specs.Keepable.{differTo, another};
+
+const LARGEST: i64 = 9223372036854775807;
+
+// x as it stands in w bytes, which take it: its lowest ones, so that where w is known a loop has nothing wider.
+fn standing(x: i64, w: usize) -> u64
+    requires { ⌜ (oneOf widths w ≡ true) × (natAbs x ≤ top w) ⌝ }
+    ensures { λ r. ⌜ r ≡ twos w x ⌝ }
+{
+    let b = bits_of(x);
+    match w {
+        1 => b % 256,
+        2 => b % 65536,
+        4 => b % 4294967296,
+        _ => b,
+    }
+}
+
+// Is entry i of the coefficients another than that after the header?
+fn unlike(bytes: &[u8], w: usize, coeffs: &[i64], i: usize) -> bool
+    requires { ⌜ (oneOf widths w ≡ true) × (10 + length (now coeffs) * w ≤ length (now bytes))
+        × (heightOf (now coeffs) ≤ top w) × (i < length (now coeffs)) ⌝ }
+    ensures { λ r.
+        ⌜ r ≡ differ (entries (coefficientsAt w (length (now (coeffs .entry))) (drop 10 (now (bytes .entry)))) i)
+        (entries (now (coeffs .entry)) i) ⌝ }
+{
+    standing(coeffs[i], w) != number_of(bytes, w, coeffs.len(), i)
+}
+
+// Is one of them? The loop goes on when it has found one: one that can stop is not made one of vectors.
+fn differ_at(bytes: &[u8], w: usize, coeffs: &[i64]) -> bool
+    requires { ⌜ (oneOf widths w ≡ true) × (10 + length (now coeffs) * w ≤ length (now bytes))
+        × (heightOf (now coeffs) ≤ top w) ⌝ }
+    ensures { λ r.
+        ⌜ r ≡ differTo (length (now (coeffs .entry)))
+        (coefficientsAt w (length (now (coeffs .entry))) (drop 10 (now (bytes .entry)))) (now (coeffs .entry)) ⌝ }
+{
+    let mut found = false;
+    let mut i = 0;
+    while i < coeffs.len() {
+        found = found | unlike(bytes, w, coeffs, i);
+        i += 1;
+    }
+    found
+}
+
+// The same, with a loop of its own for each width.
+fn differ_in(bytes: &[u8], w: usize, coeffs: &[i64]) -> bool
+    requires { ⌜ (oneOf widths w ≡ true) × (10 + length (now coeffs) * w ≤ length (now bytes))
+        × (heightOf (now coeffs) ≤ top w) ⌝ }
+    ensures { λ r.
+        ⌜ r ≡ differTo (length (now (coeffs .entry)))
+        (coefficientsAt w (length (now (coeffs .entry))) (drop 10 (now (bytes .entry)))) (now (coeffs .entry)) ⌝ }
+{
+    match w {
+        1 => differ_at(bytes, 1, coeffs),
+        2 => differ_at(bytes, 2, coeffs),
+        4 => differ_at(bytes, 4, coeffs),
+        _ => differ_at(bytes, 8, coeffs),
+    }
+}
+
+// Does a record that reads well have the coefficients of its kind and index? They are made, and where they have its
+// width compared.
+pub(crate) fn is_same(bytes: &[u8], coeffs: &mut [i64]) -> bool
+    requires { ⌜ (lookCode (now bytes) ≡ DONE) × (countIn (now bytes) ≤ length (now coeffs)) ⌝ }
+    ensures { λ r. ⌜ r ≡ not (another (now (bytes .entry))) ⌝ }
+    ensures { λ _. ⌜ length (now (coeffs .exit)) ≡ length (now (coeffs .entry)) ⌝ }
+{
+    let made = polynomial::polynomial(kind_in(bytes), index_in(bytes), LARGEST, LARGEST, coeffs);
+    let w = width_in(bytes) as usize;
+    if least_width(made.height) != w {
+        return false;
+    }
+    let count = count_in(bytes) as usize;
+    !differ_in(bytes, w, &coeffs[..count])
+}

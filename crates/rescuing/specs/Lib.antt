@@ -1,0 +1,3 @@
+-- The rescue of a damaged shelf.
+pub mod Rescue
+pub mod Passes
