@@ -21,6 +21,7 @@ use Rattle.conversions.proofs.to_half.Reads as to-half-request
 use Rattle.conversions.proofs.to_whole.Reads as to-whole-request
 use Rattle.shelves.proofs.find.Reads as lookup-request
 use Rattle.browsing.proofs.browse.Reads as browse-request
+use Rattle.rescuing.proofs.rescue.Reads as rescue-request
 use Rattle.bonvedrick.proofs.bv_polynomial as polynomial
 use Rattle.bonvedrick.proofs.bv_polynomial.Kinds as polynomial-kinds
 use Rattle.bonvedrick.proofs.bv_polynomial.Reads as polynomial-reads
@@ -57,6 +58,9 @@ use Rattle.bonvedrick.proofs.bv_lookup.Reads as lookup-reads
 use Rattle.bonvedrick.proofs.bv_browse as browse
 use Rattle.bonvedrick.proofs.bv_browse.Kinds as browse-kinds
 use Rattle.bonvedrick.proofs.bv_browse.Reads as browse-reads
+use Rattle.bonvedrick.proofs.bv_rescue as rescue
+use Rattle.bonvedrick.proofs.bv_rescue.Kinds as rescue-kinds
+use Rattle.bonvedrick.proofs.bv_rescue.Reads as rescue-reads
 use Rattle.bonvedrick.proofs.bv_comb as comb
 use Rattle.bonvedrick.proofs.bv_comb.Kinds as comb-kinds
 use Rattle.bonvedrick.proofs.bv_comb.Reads as comb-reads
@@ -135,6 +139,12 @@ pub browse-door :
     (e : AtExit (endedOf 1 browse-kinds.ps browse-kinds.r) κs)
     → browse-reads.Post κs a z e ≡ browse-request.Post κs a z e
 browse-door κs a z e = refl
+
+pub rescue-door :
+    (κs : Lfts 4) (a : ArgsD rescue.signature κs) (z : ResD rescue.signature κs)
+    (e : AtExit (endedOf 4 rescue-kinds.ps rescue-kinds.r) κs)
+    → rescue-reads.Post κs a z e ≡ rescue-request.Post κs a z e
+rescue-door κs a z e = refl
 
 -- the slice that a step's door leaves, e, and the one that the step leaves, f, hold the same
 pub comb-door :

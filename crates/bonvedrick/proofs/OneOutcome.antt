@@ -48,6 +48,9 @@ use Rattle.bonvedrick.proofs.bv_lookup.Reads as lookup-reads
 use Rattle.bonvedrick.proofs.bv_browse as browse
 use Rattle.bonvedrick.proofs.bv_browse.Kinds as browse-kinds
 use Rattle.bonvedrick.proofs.bv_browse.Reads as browse-reads
+use Rattle.bonvedrick.proofs.bv_rescue as rescue
+use Rattle.bonvedrick.proofs.bv_rescue.Kinds as rescue-kinds
+use Rattle.bonvedrick.proofs.bv_rescue.Reads as rescue-reads
 
 pub polynomial-one :
     (κs : Lfts 1) (a : ArgsD polynomial.signature κs) (z z′ : ResD polynomial.signature κs)
@@ -142,3 +145,15 @@ pub browse-one :
     (e e′ : AtExit (endedOf 1 browse-kinds.ps browse-kinds.r) κs)
     → browse-reads.Post κs a z e → browse-reads.Post κs a z′ e′ → z ≡ z′
 browse-one κs a z z′ e e′ p p′ = p ∙ sym p′
+
+pub rescue-one :
+    (κs : Lfts 4) (a : ArgsD rescue.signature κs) (z z′ : ResD rescue.signature κs)
+    (e e′ : AtExit (endedOf 4 rescue-kinds.ps rescue-kinds.r) κs) →
+    rescue-reads.Post κs a z e → rescue-reads.Post κs a z′ e′ → (z ≡ z′) × (now (e .1 .0) ≡ now (e′ .1 .0))
+    × (now (e .1 .1 .0) ≡ now (e′ .1 .1 .0)) × (now (e .1 .1 .1 .0) ≡ now (e′ .1 .1 .1 .0))
+rescue-one κs a z z′ e e′ p p′ = (
+  p .0 ∙ sym (p′ .0),
+  p .1 .0 ∙ sym (p′ .1 .0),
+  p .1 .1 .0 ∙ sym (p′ .1 .1 .0),
+  p .1 .1 .1 ∙ sym (p′ .1 .1 .1),
+)

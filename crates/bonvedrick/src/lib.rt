@@ -7,6 +7,7 @@ use conversions::Converted;
 use forms::Form;
 use forms::Record;
 use forms::Written;
+use rescuing::Rescued;
 use shelves::Found;
 use steps::Sort;
 use steps::Step;
@@ -23,6 +24,7 @@ ghost use Rattle.shelf.specs.Format.{writeAnswer, writeLeaves, readAnswer, read
 ghost use Rattle.conversions.specs.Converting.{convertAnswer, convertLeaves};
 ghost use Rattle.browsing.specs.Browse.{shownAt, told};
 ghost use Rattle.shelves.specs.Lookup.{found};
+ghost use Rattle.rescuing.specs.Rescue.{rescueAnswer, rescueLeaves, rescueLists, rescueClears};
 
 // The polynomial of a kind and an index, no taller than h and made of steps within w.
 #[no_mangle]
@@ -181,4 +183,29 @@ pub extern "C" fn bv_browse(shelf: &[u8], at: u64) -> Browsed
     ensures { λ r. ⌜ r ≡ told (shownAt (now (shelf .entry)) at) ⌝ }
 {
     browsing::browse(shelf, at)
+}
+
+// The records of a damaged shelf that can be kept, and what is skipped; the coefficient room is lent as scratch.
+#[no_mangle]
+pub extern "C" fn bv_rescue(
+    shelf: &[u8],
+    out: &mut [u8],
+    list: &mut [u64],
+    coeffs: &mut [i64],
+) -> Rescued
+    ensures answer { λ r.
+        ⌜ r
+        ≡ rescueAnswer (now (shelf .entry)) (length (now (out .entry))) (length (now (list .entry)))
+        (length (now (coeffs .entry))) ⌝ }
+    ensures leaves { λ _.
+        ⌜ now (out .exit)
+        ≡ rescueLeaves (now (shelf .entry)) (now (out .entry)) (length (now (list .entry)))
+        (length (now (coeffs .entry))) ⌝ }
+    ensures lists { λ _.
+        ⌜ now (list .exit)
+        ≡ rescueLists (now (shelf .entry)) (length (now (out .entry))) (now (list .entry))
+        (length (now (coeffs .entry))) ⌝ }
+    ensures clears { λ _. ⌜ now (coeffs .exit) ≡ rescueClears (now (coeffs .entry)) ⌝ }
+{
+    rescuing::rescue(shelf, out, list, coeffs)
 }

@@ -3,3 +3,4 @@ pub mod Searches
 pub mod Turns
 pub mod Codes
 pub mod NeverShort
+pub mod OneOutcome
