@@ -62,6 +62,10 @@ module _ (cs ds : List ℤ) where
 abbrev own : List ℕ → List ℤ
 own bs = coefficients (kindIn bs) (indexIn bs)
 
+pub same-own : (bs : List ℕ) → coefficientsIn Whole bs ≡ own bs → another bs ≡ false
+unfolding another
+same-own bs e = same-alike (coefficientsIn Whole bs) (own bs) e (countIn bs)
+
 module _ (bs : List ℕ) (good : lookCode bs ≡ DONE) where
   pub fits : Read-right Whole bs (countIn bs)
   fits = looked Whole bs good
@@ -85,10 +89,6 @@ module _ (bs : List ℕ) (bytes : Bytes bs) (good : lookCode bs ≡ DONE) where
   own-same e =
       let long = length-whole Whole bs in
       alike-same (coefficientsIn Whole bs) (own bs) (long ∙ sym length-own) (rw long e)
-
-  pub same-own : coefficientsIn Whole bs ≡ own bs → another bs ≡ false
-  unfolding another
-  same-own e = same-alike (coefficientsIn Whole bs) (own bs) e (countIn bs)
 
   pub another-wide : (leastOf widths (height (kindIn bs) (indexIn bs)) ≡ widthIn bs → ⊥) → false ≡ not (another bs)
   unfolding height width

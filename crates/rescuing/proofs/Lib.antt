@@ -3,4 +3,5 @@ pub mod Searches
 pub mod Turns
 pub mod Codes
 pub mod NeverShort
+pub mod Rescues
 pub mod OneOutcome

@@ -1,3 +1,4 @@
 -- The rescue of a damaged shelf.
 pub mod Rescue
 pub mod Passes
+pub mod Pieces

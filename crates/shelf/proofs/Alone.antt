@@ -32,7 +32,7 @@ module _ (s rest : List ℕ) (long : 10 ≤ length s) where
   size-front = rw (count-front s rest long, width-front s rest long)
 
   module _ (room : sizeIn s ≤ length s) where
-    stored-front : storedIn Whole (s ++ rest) ≡ storedIn Whole s
+    pub stored-front : storedIn Whole (s ++ rest) ≡ storedIn Whole s
     unfolding storedIn Forms.sizeIn
     stored-front =
         rw (count-front s rest long, width-front s rest long, drop-append-le 10 s rest long)
