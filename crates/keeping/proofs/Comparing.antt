@@ -3,7 +3,7 @@
 -- differ (`another-wide`). The request for that polynomial delivers it (`made-height`, `made-is`).
 use Prim.Native.Nat.{ℕ, zero, suc, _+_, _*_, _≤_, _<_}
 use mathlib.Core.Path.{_≡_, refl, sym, ap, _∙_}
-use mathlib.Core.Bool.{Bool, true, false, not}
+use mathlib.Core.Bool.{Bool, true, false, not, _||_}
 use mathlib.Core.List.{List}
 use native.Mathlib.Omega.{arith}
 use native.Mathlib.Nat.{pos-of-ne-zero}
@@ -57,6 +57,32 @@ module _ (cs ds : List ℤ) where
   pub alike-same : length cs ≡ length ds → differTo (length cs) cs ds ≡ false → cs ≡ ds
   unfolding entries
   alike-same long e = ext-getD _ cs ds long (λ i l. each-alike (length cs) e i l)
+
+-- a loop that looks: one more, and on from one that was found
+pub or-none : (a : Bool) → (a || false) ≡ a
+or-none true = refl
+or-none false = refl
+
+pub differ-next : (cs ds : List ℤ) (from i : ℕ) (before found here : Bool) → (before || found) ≡ differTo (from + i) cs ds
+    → here ≡ differ (entries cs (from + i)) (entries ds (from + i)) → (before || (found || here)) ≡ differTo (from + (i + 1)) cs ds
+unfolding differTo
+differ-next cs ds from i before found here e h =
+    let next : from + (i + 1) ≡ suc (from + i) = omega arith in
+    rw next (or-assoc before found here ∙ rw (e, h) refl)
+  where
+    or-assoc : (a b c : Bool) → (a || (b || c)) ≡ ((a || b) || c)
+    or-assoc true b c = refl
+    or-assoc false b c = refl
+
+pub differ-on : (cs ds : List ℤ) (j k : ℕ) → differTo j cs ds ≡ true → j ≤ k → differTo k cs ds ≡ true
+unfolding differTo
+differ-on cs ds zero zero e l = e
+differ-on cs ds (suc j) zero e l = absurd (omega arith)
+differ-on cs ds j (suc k) e l = go (ℕ-discrete j (suc k)) (differ-on cs ds j k e)
+  where
+    go : Dec (j ≡ suc k) → (j ≤ k → differTo k cs ds ≡ true) → differTo (suc k) cs ds ≡ true
+    go (yes s) more = ap (λ n. differTo n cs ds) (sym s) ∙ e
+    go (no u) more = rw (more (omega arith)) refl
 
 -- the coefficients of its kind and index
 abbrev own : List ℕ → List ℤ

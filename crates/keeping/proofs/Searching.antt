@@ -1,5 +1,5 @@
 -- The search, underway: what is left of it from a place on is what is left of it from the start.
-use Prim.Native.Nat.{ℕ, zero, suc, _+_, _≤_, _<_}
+use Prim.Native.Nat.{ℕ, zero, suc, _+_, _-_, _≤_, _<_}
 use mathlib.Core.Path.{_≡_, refl, sym, ap, _∙_}
 use mathlib.Core.Bool.{Bool, true, false}
 use mathlib.Core.List.{List, [], _∷_}
@@ -7,11 +7,12 @@ use mathlib.Core.Logic.{_⊎_, inl, inr}
 use native.Mathlib.Omega.{arith}
 use native.Mathlib.Numerals.{add-one}
 use lib.ListN.{length, getD, drop, drop-of-length-le}
-use lib.Seq.{drop-cons}
+use lib.Seq.{drop-cons, getD-drop}
+use Rattle.step_laws.specs.Tests.{by-order}
 use Rattle.keeping.specs.declared.Tried.the-variants.{Kept, Cramped, Passed}
 use Rattle.keeping.specs.Keepable.{keepable, cramped, toNext, crampedTo}
-use Rattle.keeping.specs.Trying.{triedOf}
-use Rattle.keeping.proofs.Trying.{said}
+use Rattle.keeping.specs.Trying.{triedOf, Unmarked}
+use Rattle.keeping.proofs.Trying.{tried-unmarked, said}
 
 -- a byte on, or here
 module _ (b : ℕ) (bs : List ℕ) where
@@ -111,3 +112,34 @@ module _ (room : ℕ) (shelf : List ℕ) (from at : ℕ) (so : Underway room she
           cramps = sym (cramped-on _ _ room (sym (ap (cramped room) here) ∙ p .0) passes)
               ∙ sym (ap (crampedTo room) here) ∙ so .cramps;
         }
+
+-- it passes bytes with which no mark starts
+pub passes : (room : ℕ) (shelf : List ℕ) (from at k : ℕ) → Underway room shelf from at → at + k ≤ length shelf
+    → Unmarked shelf at (at + k) → Underway room shelf from (at + k)
+passes room shelf from at zero so l none = let e : at + 0 ≡ at = omega arith in rw e so
+passes room shelf from at (suc k) so l none =
+    let e : at + suc k ≡ at + k + 1 = omega arith in
+    let so-far = passes room shelf from at k so (omega arith) (λ i h u. none i h (omega arith)) in
+    let here : getD (drop (at + k) shelf) 0 0 ≡ getD shelf (at + k) 0 =
+    getD-drop (at + k) shelf 0 0 ∙ ap (λ (i : ℕ). getD shelf i 0) (omega arith) in
+    rw e (goes-on room shelf from (at + k) so-far (omega arith)
+    (tried-unmarked room (drop (at + k) shelf) (λ m. none (at + k) (omega arith) (omega arith) (sym here ∙ m))))
+
+pub passes-to : (room : ℕ) (shelf : List ℕ) (from at to : ℕ) → Underway room shelf from at → at ≤ to → to ≤ length shelf
+    → Unmarked shelf at to → Underway room shelf from to
+passes-to room shelf from at to so h l none =
+    let e : at + (to - at) ≡ to = omega arith in
+    rw e at (passes room shelf from at (to - at) so (omega arith) (rw e none))
+
+-- the bytes with which no mark starts: none, and one more
+pub unmarked-none : (shelf : List ℕ) (at : ℕ) → Unmarked shelf at at
+unmarked-none shelf at i h u e = omega (arith, h, u)
+
+pub unmarked-more : (shelf : List ℕ) (from at to : ℕ) → Unmarked shelf from at → Unmarked shelf at to
+    → Unmarked shelf from to
+unmarked-more shelf from at to low high i h u = by-order i at (λ l. low i h l) (λ l. high i l u)
+
+pub unmarked-one : (shelf : List ℕ) (at to : ℕ) → to ≡ at + 1 → (getD shelf at 0 ≡ 0xC9 → ⊥) → Unmarked shelf at to
+unmarked-one shelf at to e none i h u m =
+    let same : i ≡ at = omega (arith, e, h, u) in
+    none (ap (λ (k : ℕ). getD shelf k 0) (sym same) ∙ m)

@@ -1,7 +1,9 @@
 // Inner: each `requires` is shown by `rescuing`. Which record of a shelf is kept, and the search for the next one. A
 // polynomial is made only where the bytes read as a record, in scratch that holds whatever was made last.
+mod marks;
 mod same;
 
+use marks::next_mark;
 use record::count_in;
 use same::is_same;
 ghost use mathlib.Core.Path.{_≡_};
@@ -56,7 +58,8 @@ fn try_at(shelf: &[u8], at: usize, coeffs: &mut [i64]) -> Tried
     try_one(&shelf[at..], coeffs)
 }
 
-// The search for the next record that is kept, from a place on, byte by byte. It ends at once when one is found.
+// The search for the next record that is kept, from a place on, byte by byte: of those with which no mark starts none
+// is tried. It ends at once when one is found.
 pub fn search(shelf: &[u8], from: usize, coeffs: &mut [i64]) -> Sought
     requires { ⌜ from ≤ length (now shelf) ⌝ }
     ensures { λ r. ⌜ r .cramped ≡ crampedTo (length (now (coeffs .entry))) (drop from (now (shelf .entry))) ⌝ }
@@ -76,7 +79,7 @@ pub fn search(shelf: &[u8], from: usize, coeffs: &mut [i64]) -> Sought
                 cramped = true;
                 break at;
             }
-            Tried::Passed => at += 1,
+            Tried::Passed => at = next_mark(shelf, at + 1),
         }
     };
     Sought { cramped, place }

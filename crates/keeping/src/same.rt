@@ -7,7 +7,7 @@ use record::width_in;
 use widths::least_width;
 use wrapped_sums::bits_of;
 ghost use mathlib.Core.Path.{_≡_};
-ghost use mathlib.Core.Bool.{true, not};
+ghost use mathlib.Core.Bool.{true, not, _||_};
 ghost use Prim.Native.Nat.{_+_, _*_, _≤_, _<_};
 ghost use lib.ListN.{length, drop};
 ghost use lib.IntN.{natAbs};
@@ -47,7 +47,27 @@ fn unlike(bytes: &[u8], w: usize, coeffs: &[i64], i: usize) -> bool
     standing(coeffs[i], w) != number_of(bytes, w, coeffs.len(), i)
 }
 
-// Is one of them? The loop goes on when it has found one: one that can stop is not made one of vectors.
+// Is one of `count` entries, from a place on? The loop goes on when it has found one: where its length is known, one
+// that can't stop is made one of vectors.
+fn differ_some(bytes: &[u8], w: usize, coeffs: &[i64], from: usize, count: usize) -> bool
+    requires { ⌜ (oneOf widths w ≡ true) × (10 + length (now coeffs) * w ≤ length (now bytes))
+        × (heightOf (now coeffs) ≤ top w) × (from + count ≤ length (now coeffs)) ⌝ }
+    ensures { λ r.
+        ⌜ (differTo from (coefficientsAt w (length (now (coeffs .entry))) (drop 10 (now (bytes .entry))))
+        (now (coeffs .entry)) || r)
+        ≡ differTo (from + count) (coefficientsAt w (length (now (coeffs .entry))) (drop 10 (now (bytes .entry))))
+        (now (coeffs .entry)) ⌝ }
+{
+    let mut found = false;
+    let mut i = 0;
+    while i < count {
+        found = found | unlike(bytes, w, coeffs, from + i);
+        i += 1;
+    }
+    found
+}
+
+// Is one of all? By sixteens, and then what they leave; a sixteen that has one ends it.
 fn differ_at(bytes: &[u8], w: usize, coeffs: &[i64]) -> bool
     requires { ⌜ (oneOf widths w ≡ true) × (10 + length (now coeffs) * w ≤ length (now bytes))
         × (heightOf (now coeffs) ≤ top w) ⌝ }
@@ -55,13 +75,14 @@ fn differ_at(bytes: &[u8], w: usize, coeffs: &[i64]) -> bool
         ⌜ r ≡ differTo (length (now (coeffs .entry)))
         (coefficientsAt w (length (now (coeffs .entry))) (drop 10 (now (bytes .entry)))) (now (coeffs .entry)) ⌝ }
 {
-    let mut found = false;
     let mut i = 0;
-    while i < coeffs.len() {
-        found = found | unlike(bytes, w, coeffs, i);
-        i += 1;
+    while 16 <= coeffs.len() - i {
+        if differ_some(bytes, w, coeffs, i, 16) {
+            return true;
+        }
+        i += 16;
     }
-    found
+    differ_some(bytes, w, coeffs, i, coeffs.len() - i)
 }
 
 // The same, with a loop of its own for each width.

@@ -6,7 +6,7 @@ use native.Mathlib.Omega.{arith}
 use borrow.Author.Needs.{needs}
 use lib.ListN.{length, drop}
 use Rattle.keeping.specs.Trying.{triedOf}
-use Rattle.keeping.proofs.Searching.{Underway, begun, at-end, at-kept, at-cramped, goes-on}
+use Rattle.keeping.proofs.Searching.{Underway, begun, at-end, at-kept, at-cramped, goes-on, passes-to}
 use Rattle.keeping.proofs.search.Statement.{statement}
 use Rattle.keeping.proofs.search.Tie as tie
 
@@ -51,16 +51,24 @@ enum-told-2 c = search needs
 enum-told-3 : tie.Need-enum-told-3 Inv-loop μ-loop
 enum-told-3 c = search needs
 
-add-at : tie.Need-add-at Inv-loop μ-loop
-add-at c = search needs
+add-next-mark : tie.Need-add-next-mark Inv-loop μ-loop
+add-next-mark c = search needs
+
+next-mark-requires : tie.Need-next-mark-requires Inv-loop μ-loop
+next-mark-requires c κs = omega (arith, left (c .before .before .before))
 
 loop-less : tie.Need-loop-less Inv-loop μ-loop
-loop-less c = search needs
+loop-less c =
+    let n = c .next-mark .ensures in
+    omega (arith, n .0, n .1, left (c .before .before .before .before))
 
 loop-again : tie.Need-loop-again Inv-loop μ-loop
 loop-again c =
-    let a = c .before .before .before in (
-      goes-on _ _ _ _ (before a .loop .inv .0) (left a) (sym (c .enum-told3 .given .1) ∙ how a),
+    let told = c .before in
+    let a = told .before .before .before in
+    let n = c .next-mark .ensures in (
+      passes-to _ _ _ _ _
+          (goes-on _ _ _ _ (before a .loop .inv .0) (left a) (sym (told .enum-told3 .given .1) ∙ how a)) (n .0) (n .1) (n .2),
       before a .loop .inv .1,
       kept-long a,
     )
@@ -102,7 +110,8 @@ search-spec =
     enum-told
     enum-told-2
     enum-told-3
-    add-at
+    add-next-mark
+    next-mark-requires
     loop-less
     loop-again
     same-length
