@@ -13,7 +13,7 @@ use lib.Seq.{length-take-le}
 use lib.Dec.{eqb}
 use lib.IntN.{ℤ}
 use Rattle.definitions.specs.Integers.{0ℤ}
-use Rattle.definitions.specs.Series.{firsts, spread}
+use Rattle.definitions.specs.Series.{Series, firsts, spread}
 use Rattle.definitions.specs.Numbers.{divides, phi, rOf, mOf, tOf}
 use Rattle.definitions.specs.Polynomials.{polynomial, degree}
 use Rattle.definitions.specs.Steps.{entries}
@@ -28,6 +28,18 @@ use Rattle.whole_from_half.specs.Ready.{Ready}
 use Rattle.index.specs.declared.Parts.{Parts}
 use Rattle.index.proofs.Laws.{index-good, parts-r, parts-m, parts-t, parts-free}
 use Rattle.squarefree_from_half.proofs.Growing.{front-entry, front-length}
+
+-- z^t for z, of series that are equal up to a degree
+pub spread-front : (t top : ℕ) → 1 ≤ t → (f g : Series) → ((i : ℕ) → i < top + 1 → f i ≡ g i) → (k : ℕ)
+    → k < top * t + 1 → spread t f k ≡ spread t g k
+spread-front t top pos f g same k h = go (ℕ-discrete (k % t) 0)
+  where
+    below : k / t < top + 1
+    below = NatL.div-lt-iff-lt-mul {k = t} {x = k} {y = top + 1} pos .1 (omega (arith, NatL.add-mul top 1 t, pos))
+
+    go : Dec (k % t ≡ 0) → spread t f k ≡ spread t g k
+    go (yes z) = spread-on t k f z ∙ same (k / t) below ∙ sym (spread-on t k g z)
+    go (no z) = spread-off t k f z ∙ sym (spread-off t k g z)
 
 -- what the making goes by: `top`, the degree for m, has room; and where the first entries are the polynomial of m, z^t
 -- for z makes that of n
@@ -135,18 +147,6 @@ module _ (kind n : ℕ) (a : Parts) (l : List ℤ) (R : Ready kind n a l) where
           (omega (arith, front-length (top + 1) (polynomial kind (mOf n)) x q))
           ∙ front-entry (top + 1) (polynomial kind (mOf n)) x q i h
 
-      at-k : (k : ℕ) → k < top * a .t + 1 → Dec (k % a .t ≡ 0) → spread (a .t) (entries (x ++ drop (top + 1) l)) k
-          ≡ spread (a .t) (polynomial kind (mOf n)) k
-      at-k k h (yes z) =
-          spread-on (a .t) k (entries (x ++ drop (top + 1) l)) z ∙ in-front (k / a .t) below
-          ∙ sym (spread-on (a .t) k (polynomial kind (mOf n)) z)
-        where
-          below : k / a .t < top + 1
-          below = NatL.div-lt-iff-lt-mul {k = a .t} {x = k} {y = top + 1} t-pos .1
-              (omega (arith, NatL.add-mul top 1 (a .t), t-pos))
-      at-k k h (no z) = spread-off (a .t) k (entries (x ++ drop (top + 1) l)) z
-          ∙ sym (spread-off (a .t) k (polynomial kind (mOf n)) z)
-
       spaced :
           (y : List ℤ) → y ≡ firsts (length (x ++ drop (top + 1) l)) (spread (a .t) (entries (x ++ drop (top + 1) l)))
           → y ≡ coefficients kind n
@@ -154,7 +154,7 @@ module _ (kind n : ℕ) (a : Parts) (l : List ℤ) (R : Ready kind n a l) where
       spaced y p =
           p ∙ ap (λ k. firsts k (spread (a .t) (entries (x ++ drop (top + 1) l)))) spaced-length
           ∙ firsts-same (top * a .t + 1) _ (spread (a .t) (polynomial kind (mOf n)))
-          (λ k h. at-k k h (ℕ-discrete (k % a .t) 0))
+          (spread-front (a .t) top t-pos (entries (x ++ drop (top + 1) l)) (polynomial kind (mOf n)) in-front)
           ∙ ap₂ firsts (sym room-is ∙ R .room ∙ add-one (degree kind n))
           (ap (λ t. spread t (polynomial kind (mOf n))) t-is ∙ sym (taken-apart kind n above-zero))
 

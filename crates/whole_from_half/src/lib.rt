@@ -12,7 +12,7 @@ ghost use Rattle.squarefree_from_half.specs.Growth.{Lower};
 ghost use Rattle.whole_from_half.specs.Ready.{Ready};
 
 // z^t for z; where t is 1 nothing moves.
-fn spread_by(b: &mut [i64], top: usize, t: usize)
+pub fn spread_by(b: &mut [i64], top: usize, t: usize)
     requires { ⌜ (1 ≤ t) × (length (now b) ≡ top * t + 1) ⌝ }
     ensures { λ _. ⌜ now (b .exit) ≡ firsts (length (now (b .entry))) (spread t (entries (now (b .entry)))) ⌝ }
 {

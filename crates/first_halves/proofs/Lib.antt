@@ -1,0 +1,2 @@
+-- What the function's proof cites.
+pub mod FirstHalves

@@ -1,0 +1,1 @@
+-- Nothing of its own: the contracts speak of halves and of the polynomial.
