@@ -19,6 +19,7 @@ use Rattle.record.specs.Header.{headerOf, fields, kindIn, widthIn, indexIn, cou
 use Rattle.record.proofs.Headers.{right, length-header, header-codes}
 use Rattle.record.proofs.HeaderTrips.{header-same}
 use Rattle.record.proofs.Passes.{length-body, sets-append}
+use Rattle.half_passes.proofs.Places.{coefficients-take}
 use Rattle.forms.specs.declared.Form.{Form}
 use Rattle.forms.specs.declared.Form.the-variants.{Whole, Half}
 use Rattle.forms.specs.Format.{mark, stored, recordOf, size, unevenFor, storedIn, coefficientsIn, sizeIn}
@@ -112,13 +113,6 @@ body-append w [] ys = refl
 body-append w (x ∷ xs) ys =
     ap (λ (l : List ℕ). bytesOf w (twos w x) ++ l) (body-append w xs ys)
     ∙ sym (append-assoc (bytesOf w (twos w x)) (body w xs) (body w ys))
-
-coefficients-take : (w h k : ℕ) (bs : List ℕ) → h ≤ k → take h (coefficientsAt w k bs) ≡ coefficientsAt w h bs
-unfolding coefficientsAt
-coefficients-take w zero k bs l = refl
-coefficients-take w (suc h) zero bs l = absurd (omega arith)
-coefficients-take w (suc h) (suc k) bs l =
-    ap (_∷_ (signedOf w (number (take w bs)))) (coefficients-take w h k (drop w bs) (omega arith))
 
 module _ (from : Form) (bs : List ℕ) (p : Bytes bs) (l : lookCode from bs ≡ DONE) where
   pub size-other : (to : Form) → size to (coefficientsIn from bs) ≡ sizeIn to bs

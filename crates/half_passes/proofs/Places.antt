@@ -1,9 +1,9 @@
 -- The places of the entries in a record's bytes: entry i of k, in w bytes each, stands from i * w on (`entry-at`), and
 -- within k * w (`room`). And the store of the other half: one turn puts the next entry of the whole (`other-turn`).
 use Prim.Native.Nat.{ℕ, zero, suc, _+_, _*_, _-_, _<_, _≤_}
-use mathlib.Core.Path.{_≡_, sym, ap, _∙_}
+use mathlib.Core.Path.{_≡_, refl, sym, ap, _∙_}
 use mathlib.Core.Bool.{Bool}
-use mathlib.Core.List.{List}
+use mathlib.Core.List.{List, _∷_}
 use native.Mathlib.Omega.{arith}
 use native.Mathlib.Numerals.{add-one}
 use native.Mathlib.Nat.{zero-mul, suc-mul, mul-le-mul-right}
@@ -31,6 +31,14 @@ entry-in w (suc k) (suc i) bs l =
 pub entry-at : (w k i : ℕ) (bs : List ℕ) → i < k
     → signedOf w (number (take w (drop (10 + i * w) bs))) ≡ entries (coefficientsAt w k (drop 10 bs)) i
 entry-at w k i bs l = rw (← drop-drop (i * w) 10 bs) (entry-in w k i (drop 10 bs) l)
+
+-- fewer of them are the first of them
+pub coefficients-take : (w h k : ℕ) (bs : List ℕ) → h ≤ k → take h (coefficientsAt w k bs) ≡ coefficientsAt w h bs
+unfolding coefficientsAt
+coefficients-take w zero k bs l = refl
+coefficients-take w (suc h) zero bs l = absurd (omega arith)
+coefficients-take w (suc h) (suc k) bs l =
+    ap (_∷_ (signedOf w (number (take w bs)))) (coefficients-take w h k (drop w bs) (omega arith))
 
 module _ (negate : Bool) (w count i : ℕ) (cs : List ℤ) (out : List ℕ) where
   pub other-turn : {r : ℕ} → i < count → halfOf count ≤ i → r ≡ twos w (image negate (entries cs (count - 1 - i)))

@@ -85,7 +85,7 @@ differ-on cs ds j (suc k) e l = go (ℕ-discrete j (suc k)) (differ-on cs ds j k
     go (no u) more = rw (more (omega arith)) refl
 
 -- the coefficients of its kind and index
-abbrev own : List ℕ → List ℤ
+abbrev pub own : List ℕ → List ℤ
 own bs = coefficients (kindIn bs) (indexIn bs)
 
 pub same-own : (bs : List ℕ) → coefficientsIn Whole bs ≡ own bs → another bs ≡ false
@@ -100,7 +100,7 @@ module _ (bs : List ℕ) (good : lookCode bs ≡ DONE) where
   header = right (mark Whole) bs (fits .header)
 
 module _ (bs : List ℕ) (bytes : Bytes bs) (good : lookCode bs ≡ DONE) where
-  good-in : goodIndex (indexIn bs) ≡ true
+  pub good-in : goodIndex (indexIn bs) ≡ true
   good-in = good-index (indexIn bs) (pos-of-ne-zero (header bs good .index)) (index-small bs (header bs good .long) bytes)
 
   pub length-own : length (own bs) ≡ countIn bs

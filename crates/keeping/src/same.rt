@@ -1,5 +1,9 @@
 // The coefficients of a record beside those of its kind and index, as they stand in the record's bytes.
+use first_halves::first_half;
 use half_passes::number_of;
+use half_passes::uneven_in;
+use index::Parts;
+use index::take_apart;
 use record::count_in;
 use record::index_in;
 use record::kind_in;
@@ -8,6 +12,7 @@ use widths::least_width;
 use wrapped_sums::bits_of;
 ghost use mathlib.Core.Path.{_≡_};
 ghost use mathlib.Core.Bool.{true, not, _||_};
+ghost use mathlib.Core.Logic.{_≢_};
 ghost use Prim.Native.Nat.{_+_, _*_, _≤_, _<_};
 ghost use lib.ListN.{length, drop};
 ghost use lib.IntN.{natAbs};
@@ -16,7 +21,9 @@ ghost use Rattle.definitions.specs.Steps.{entries};
 ghost use Rattle.definitions.specs.Answer.{heightOf};
 ghost use Rattle.definitions.specs.Halves.{differ};
 ghost use Rattle.widths.specs.Numbers.{top, twos, coefficientsAt, widths, oneOf};
-ghost use Rattle.record.specs.Header.{countIn};
+ghost use Rattle.definitions.specs.Numbers.{rOf};
+ghost use Rattle.index.specs.Parts.{partsOf};
+ghost use Rattle.record.specs.Header.{kindIn, indexIn, countIn};
 ghost use Rattle.shelf.specs.Format.{lookCode};
 ghost use Rattle.keeping.specs.Keepable.{differTo, another};
 
@@ -103,7 +110,7 @@ fn differ_in(bytes: &[u8], w: usize, coeffs: &[i64]) -> bool
 
 // Does a record that reads well have the coefficients of its kind and index? They are made, and where they have its
 // width compared.
-pub(crate) fn is_same(bytes: &[u8], coeffs: &mut [i64]) -> bool
+fn has_whole(bytes: &[u8], coeffs: &mut [i64]) -> bool
     requires { ⌜ (lookCode (now bytes) ≡ DONE) × (countIn (now bytes) ≤ length (now coeffs)) ⌝ }
     ensures { λ r. ⌜ r ≡ not (another (now (bytes .entry))) ⌝ }
     ensures { λ _. ⌜ length (now (coeffs .exit)) ≡ length (now (coeffs .entry)) ⌝ }
@@ -115,4 +122,40 @@ pub(crate) fn is_same(bytes: &[u8], coeffs: &mut [i64]) -> bool
     }
     let count = count_in(bytes) as usize;
     !differ_in(bytes, w, &coeffs[..count])
+}
+
+// The same of F(n), n with an odd prime: its first half is made and compared, and then the record's halves with each
+// other.
+fn has_half(bytes: &[u8], parts: Parts, coeffs: &mut [i64]) -> bool
+    requires { ⌜ (lookCode (now bytes) ≡ DONE) × (countIn (now bytes) ≤ length (now coeffs))
+        × (kindIn (now bytes) ≡ 1) × (parts ≡ partsOf (indexIn (now bytes))) × (rOf (indexIn (now bytes)) ≢ 1) ⌝ }
+    ensures { λ r. ⌜ r ≡ not (another (now (bytes .entry))) ⌝ }
+    ensures { λ _. ⌜ length (now (coeffs .exit)) ≡ length (now (coeffs .entry)) ⌝ }
+{
+    let count = count_in(bytes) as usize;
+    let half = (count + 1) / 2;
+    let height = first_half(index_in(bytes), parts, &mut coeffs[..half]);
+    let w = width_in(bytes) as usize;
+    if least_width(height) != w {
+        return false;
+    }
+    if differ_in(bytes, w, &coeffs[..half]) {
+        return false;
+    }
+    !uneven_in(bytes, w, count, false)
+}
+
+pub(crate) fn is_same(bytes: &[u8], coeffs: &mut [i64]) -> bool
+    requires { ⌜ (lookCode (now bytes) ≡ DONE) × (countIn (now bytes) ≤ length (now coeffs)) ⌝ }
+    ensures { λ r. ⌜ r ≡ not (another (now (bytes .entry))) ⌝ }
+    ensures { λ _. ⌜ length (now (coeffs .exit)) ≡ length (now (coeffs .entry)) ⌝ }
+{
+    if kind_in(bytes) != 1 {
+        return has_whole(bytes, coeffs);
+    }
+    let parts = take_apart(index_in(bytes));
+    if parts.r == 1 {
+        return has_whole(bytes, coeffs);
+    }
+    has_half(bytes, parts, coeffs)
 }
