@@ -1,13 +1,15 @@
 //! F for all odd n to 65,535: our library, plain Rust, and FLINT where it is there (`--cfg flint`), one after the other
 //! at each n. The buffers are cleared before the clock runs. Prints the median over the rounds of each total, and its
 //! ratio to plain Rust. Then how the time grows with the additions (growth.rs), and what a working limit costs
-//! (limits.rs), the stored record (records.rs), the walk over a shelf (shelves.rs), and half records (halves.rs).
+//! (limits.rs), the stored record (records.rs), the walk over a shelf (shelves.rs), half records (halves.rs), and
+//! damaged shelves (rescues.rs). `bench PART` prints one part alone: table, or the name of such a file.
 
 mod growth;
 mod halves;
 mod limits;
 mod plain;
 mod records;
+mod rescues;
 mod shelves;
 
 use plain::Answer as Told;
@@ -140,7 +142,7 @@ fn median(mut values: Vec<f64>) -> f64 {
     values[values.len() / 2]
 }
 
-fn main() {
+fn table() {
     round(0, true);
     let rounds: Vec<Vec<Times>> = (0..ROUNDS).map(|turn| round(turn, false)).collect();
     let of = |who: usize, class: usize| median(rounds.iter().map(|r| r[who][class]).collect());
@@ -155,9 +157,20 @@ fn main() {
         }
         println!();
     }
-    growth::print();
-    limits::print();
-    records::print();
-    shelves::print();
-    halves::print();
+}
+
+fn main() {
+    let parts: [(&str, fn()); 7] = [
+        ("table", table),
+        ("growth", growth::print),
+        ("limits", limits::print),
+        ("records", records::print),
+        ("shelves", shelves::print),
+        ("halves", halves::print),
+        ("rescues", rescues::print),
+    ];
+    let part = std::env::args().nth(1);
+    let wanted = |name: &str| part.as_deref().map_or(true, |part| part == name);
+    assert!(parts.iter().any(|(name, _)| wanted(name)), "there is no such part");
+    parts.iter().filter(|(name, _)| wanted(name)).for_each(|(_, print)| print());
 }

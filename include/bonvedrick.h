@@ -6,7 +6,8 @@
  *
  * for n from 1 to 65535, and cascades, which are products of up to eight F(n); with whole 64-bit coefficients, lowest
  * degree first: coeffs[i] belongs to z^i. And stored: a record is a polynomial in bytes, a half record is one that
- * leaves out the half that the other tells, and a shelf is records one after another.
+ * leaves out the half that the other tells, and a shelf is records one after another; of a damaged one the good records
+ * are rescued.
  *
  * Link with libbonvedrick.a (`rt staticlib bonvedrick` writes target/staticlib/libbonvedrick.a, for x86-64).
  *
@@ -49,7 +50,7 @@ extern "C" {
  * PATCH moves for everything else.
  */
 #define BV_VERSION_MAJOR 1
-#define BV_VERSION_MINOR 4
+#define BV_VERSION_MINOR 5
 #define BV_VERSION_PATCH 0
 
 /* The two kinds of polynomial. */
@@ -84,7 +85,8 @@ extern "C" {
 #define BV_REFUSED_KIND UINT64_C(1)    /* kind is not 1 or 2 */
 #define BV_REFUSED_INDEX UINT64_C(2)   /* n is 0 or above 65535; bv_partial: also where n has no odd prime factor */
 #define BV_REFUSED_LIMIT UINT64_C(3)   /* the height limit h or the working limit w is below 1 */
-#define BV_REFUSED_SHORT UINT64_C(4)   /* the slice to be filled is too short; bv_cascade, bv_second: or the scratch */
+#define BV_REFUSED_SHORT UINT64_C(4)   /* the slice to be filled is too short; bv_cascade, bv_second: or the scratch;
+                                          bv_rescue: one of its two, or the scratch */
 #define BV_REFUSED_OVER UINT64_C(5)    /* a step would pass w in magnitude; writing: a coefficient is -2^63;
                                           bv_cascade: a product of first factors is out of range;
                                           bv_second: never */
@@ -194,6 +196,12 @@ typedef struct bv_converted {
     uint64_t written; /* the bytes of the record that was written */
     uint64_t byte;    /* where a field is wrong, the byte of the record at which it starts: 2, 3, 4 or 6; else 0 */
 } bv_converted;
+
+typedef struct bv_rescued {
+    uint64_t code;
+    uint64_t kept;      /* the bytes of all records that are kept */
+    uint64_t stretches; /* how many stretches are skipped: the list has two numbers for each */
+} bv_rescued;
 
 /*
  * The polynomial of a kind and an index n, unless a step on the way would make a value larger in magnitude than w, or a
@@ -443,6 +451,35 @@ bv_record bv_read_half(const uint8_t *bytes, size_t len, int64_t *coeffs, size_t
  */
 bv_converted bv_to_half(const uint8_t *bytes, size_t len, uint8_t *out, size_t room);
 bv_converted bv_to_whole(const uint8_t *bytes, size_t len, uint8_t *out, size_t room);
+
+/*
+ * Rescues the good records of a damaged shelf. A record is kept where bv_read, given the shelf from there on and
+ * entries enough, reads it, and its coefficients are those that bv_polynomial delivers for its kind and n with no
+ * limit: so bytes that only look like a record are not kept, nor is one whose coefficients have changed. The search
+ * starts at the first byte of the shelf. Where a record is kept it goes on right behind it, and anywhere else with the
+ * next byte. The bytes before the first kept record, between two and after the last are one skipped stretch each, if
+ * there are any. So kept and skipped bytes together make up the shelf, in order. Half records are skipped.
+ *
+ *   code               given where                                     out                         list        coeffs
+ *   BV_DONE            nothing below applies                           bytes 0 to kept - 1: the    see below   all 0
+ *                                                                      kept records, in order
+ *   BV_REFUSED_SHORT   room is below kept, or slots is below           untouched                   untouched   all 0
+ *                      2 * stretches, or a record that was tried and
+ *                      reads has more coefficients than `entries`
+ *
+ * On BV_DONE the first 2 * stretches numbers of the list are, for each stretch in order, the byte of the shelf at which
+ * it starts and its length. On refusal kept and stretches are 0; no degree is told. coeffs is a slice to work in: the
+ * whole of it is 0 afterwards, however long it is. A record is tried at each byte of a skipped stretch and at the start
+ * of each kept record, and it reads if bv_read, given entries enough, reads it, be the coefficients the right ones or
+ * not. One that doesn't read is skipped, whatever there is room for: so is one of too large a width.
+ *
+ * With room >= len, slots >= len + 1 and entries >= 65536 nothing is ever refused. (2 * (len / 11 + 1) slots do too: a
+ * stretch and the record behind it have more than 11 bytes.) Then the shelf is gone through once, and else twice: to
+ * find out whether there is room enough, and to write. What was kept is kept whole when it is rescued again. The shelf
+ * is only read.
+ */
+bv_rescued bv_rescue(const uint8_t *shelf, size_t len, uint8_t *out, size_t room, uint64_t *list, size_t slots,
+                     int64_t *coeffs, size_t entries);
 
 /*
  * A cascade: the product of F(n) over a list of indices, in which an index may come again. That is a filter made of

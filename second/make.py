@@ -1,11 +1,13 @@
 """Makes every stored file anew, byte for byte: python3 second/make.py (some minutes; nothing else is needed).
 
-The files are what the programs of crates/ must print, and the requests that `trial` reads.
+The files are what the programs of crates/ must print, the requests that `trial` reads, and the shelf that `rescue`
+reads.
 """
 
 import os
 
 import listing
+import rescues
 import trial
 from spelling import answered, asked
 
@@ -29,14 +31,17 @@ def listed():
         return listing.listing(file.read())
 
 
-def store(path, lines):
+def store(path, parts):
     with open(os.path.join(CRATES, path), "wb") as file:
-        file.writelines(line.encode() for line in lines)
+        file.writelines(part if isinstance(part, bytes) else part.encode() for part in parts)
     print("made", path)
 
 
 if __name__ == "__main__":
     store("list/stdout", listed())
+    shelf = rescues.damaged()
+    store("rescue/stdin", [shelf])
+    store("rescue/stdout", [rescues.program(shelf)[0]])
     made = requests()
     store("trial/stdin", made.keys())
     store("trial/stdout", made.values())

@@ -6,6 +6,7 @@ fields in their order, and what then stands in each buffer that can be written.
 
 import answers
 import halves
+import rescues
 import shelf
 import shelves
 import steps
@@ -75,7 +76,12 @@ def towhole(numbers, data):
     return halves.to_whole(data, *numbers)
 
 
-REQUESTS = (polynomial, partial, comb, accumulate, write, read, cascade, second, lookup, browse, writehalf, readhalf, tohalf, towhole)
+def rescue(numbers, scratch, data):
+    return rescues.rescue(data, *numbers, scratch)
+
+
+REQUESTS = (polynomial, partial, comb, accumulate, write, read, cascade, second, lookup, browse, writehalf, readhalf,
+            tohalf, towhole, rescue)
 ANSWERS = {f.__name__: f for f in REQUESTS}
 
 

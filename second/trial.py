@@ -5,6 +5,7 @@ import choice
 import halves
 import over
 import refusals
+import rescues
 import shelf
 import shelves
 import steps
@@ -52,6 +53,7 @@ def stops():
 
 
 def cases():
-    parts = (edges, steps.cases, shelf.cases, stops, over.cases, cascades.cases, table, seconds, shelves.cases, halves.cases)
+    parts = (edges, steps.cases, shelf.cases, stops, over.cases, cascades.cases, table, seconds, shelves.cases,
+             halves.cases, rescues.cases)
     for some in parts:
         yield from some()

@@ -1189,6 +1189,296 @@ static void halves(void) {
     long_halves();
 }
 
+/* Rescuing. A shelf is put together from these parts, so that what is kept and skipped of it is known: whether the part
+ * is a record that is kept, and how many coefficients a record that reads has, kept or not. Where two meet they make no
+ * record. */
+typedef struct part {
+    size_t len;
+    int keeps;
+    size_t count;
+    uint8_t bytes[40];
+} part;
+
+#define F6_BYTES 0xC9, 0x50, 1, 1, 6, 0, 3, 0, 0, 0, 1, 0xFF, 1
+
+static const part PARTS[] = {
+    {13, 1, 3, {F6_BYTES}},
+    {15, 1, 5, {0xC9, 0x50, 2, 1, 6, 0, 5, 0, 0, 0, 0xFF, 0xFF, 0, 1, 1}},
+    {11, 1, 1, {0xC9, 0x50, 2, 1, 1, 0, 1, 0, 0, 0, 1}},
+    {12, 1, 2, {0xC9, 0x50, 1, 1, 1, 0, 2, 0, 0, 0, 0xFF, 1}},
+    {12, 1, 2, {0xC9, 0x50, 2, 1, 0xF1, 0xFF, 2, 0, 0, 0, 0xFF, 1}}, /* I(65521) */
+    /* these read and are others: one coefficient, all, the other kind, another index, wide ones */
+    {13, 0, 3, {0xC9, 0x50, 1, 1, 6, 0, 3, 0, 0, 0, 1, 0xFF, 2}},
+    {11, 0, 1, {0xC9, 0x50, 2, 1, 1, 0, 1, 0, 0, 0, 0xFF}},
+    {12, 0, 2, {0xC9, 0x50, 1, 1, 2, 0, 2, 0, 0, 0, 0xFF, 1}},
+    {13, 0, 3, {0xC9, 0x50, 1, 1, 3, 0, 3, 0, 0, 0, 1, 0xFF, 1}},
+    {16, 0, 3, {0xC9, 0x50, 1, 2, 6, 0, 3, 0, 0, 0, 1, 0, 0xFF, 0, 1, 0}},
+    {22, 0, 3, {0xC9, 0x50, 1, 4, 6, 0, 3, 0, 0, 0, 1, 0, 0, 0, 0xFF, 0xFF, 0, 0, 1}},
+    {18, 0, 1, {0xC9, 0x50, 2, 8, 1, 0, 1, 0, 0, 0, 1, 0, 0, 0, 1}},
+    /* and these don't: too wide, -128 in one byte, a half record, wrong fields, cut, no record at all */
+    {16, 0, 0, {0xC9, 0x50, 1, 2, 6, 0, 3, 0, 0, 0, 1, 0, 0xFF, 0xFF, 1, 0}},
+    {18, 0, 0, {0xC9, 0x50, 2, 8, 1, 0, 1, 0, 0, 0, 1}},
+    {13, 0, 0, {0xC9, 0x50, 1, 1, 6, 0, 3, 0, 0, 0, 1, 0x80, 1}},
+    {12, 0, 0, {0xC9, 0x51, 1, 1, 6, 0, 3, 0, 0, 0, 1, 0xFF}},
+    {13, 0, 0, {0xC9, 0x50, 3, 1, 6, 0, 3, 0, 0, 0, 1, 0xFF, 1}},
+    {13, 0, 0, {0xC9, 0x50, 1, 3, 6, 0, 3, 0, 0, 0, 1, 0xFF, 1}},
+    {13, 0, 0, {0xC9, 0x50, 1, 1, 0, 0, 3, 0, 0, 0, 1, 0xFF, 1}},
+    {13, 0, 0, {0xC9, 0x50, 1, 1, 6, 0, 4, 0, 0, 0, 1, 0xFF, 1}},
+    {9, 0, 0, {F6_BYTES}},
+    {2, 0, 0, {0xC9, 0x50}},
+    {1, 0, 0, {0xC9}},
+    {1, 0, 0, {7}},
+};
+
+/* What is kept and skipped of a shelf, and the most coefficients of a record that is tried and reads. */
+typedef struct outcome {
+    size_t kept, stretches, most;
+    uint8_t bytes[200];
+    uint64_t list[16];
+} outcome;
+
+/* the numbers of the list, and few entries to work in: every one 77 */
+static uint64_t numbers[40];
+static int64_t work[40];
+
+/* A shelf in rooms of any size: the answer, and all that is lent. */
+static void rescued(const uint8_t *shelf, size_t len, const outcome *o, size_t room, size_t slots, size_t entries) {
+    const size_t all = entries <= COUNT(work) ? COUNT(work) : COUNT(buf);
+    int64_t *coeffs = entries <= COUNT(work) ? work : buf;
+    fresh_out();
+    for (size_t i = 0; i < COUNT(numbers); i++)
+        numbers[i] = 77;
+    for (size_t i = 0; i < all; i++)
+        coeffs[i] = 77;
+    bv_rescued a = bv_rescue(len == 0 ? NULL : shelf, len, room == 0 ? NULL : out, room, slots == 0 ? NULL : numbers,
+                             slots, entries == 0 ? NULL : coeffs, entries);
+    int fits = o->kept <= room && 2 * o->stretches <= slots && o->most <= entries, same = 1;
+    size_t kept = fits ? o->kept : 0, told = fits ? o->stretches : 0;
+    for (size_t i = 0; i < COUNT(numbers); i++)
+        same = same && numbers[i] == (i < 2 * told ? o->list[i] : 77);
+    for (size_t i = 0; i < all; i++)
+        same = same && coeffs[i] == (i < entries ? 0 : 77);
+    HOLD(same && a.code == (fits ? BV_DONE : BV_REFUSED_SHORT) && a.kept == kept && a.stretches == told &&
+         out_holds(o->bytes, kept));
+}
+
+/* The shelf of some parts, put at a place, its length, and its outcome. */
+static size_t put_parts(uint8_t *shelf, const size_t *which, size_t many, outcome *o) {
+    size_t len = 0;
+    memset(o, 0, sizeof *o);
+    for (size_t i = 0; i < many; i++) {
+        const part *p = &PARTS[which[i]];
+        memcpy(shelf + len, p->bytes, p->len);
+        if (p->keeps) {
+            memcpy(o->bytes + o->kept, p->bytes, p->len);
+            o->kept += p->len;
+        } else if (i > 0 && !PARTS[which[i - 1]].keeps) {
+            o->list[2 * o->stretches - 1] += p->len;
+        } else {
+            o->list[2 * o->stretches] = len;
+            o->list[2 * o->stretches + 1] = p->len;
+            o->stretches++;
+        }
+        o->most = p->count > o->most ? p->count : o->most;
+        len += p->len;
+    }
+    return len;
+}
+
+/* Every shelf of up to three parts, in rooms of each sort: none, one less, just enough, and more. */
+static void all_parts(void) {
+    for (size_t k = 0; k < COUNT(PARTS) * COUNT(PARTS) * COUNT(PARTS); k++) {
+        const size_t which[] = {k % COUNT(PARTS), k / COUNT(PARTS) % COUNT(PARTS), k / COUNT(PARTS) / COUNT(PARTS)};
+        for (size_t many = which[2] ? 3 : which[1] ? 2 : 0; many <= 3; many++) {
+            uint8_t room_for[8 + 120], *shelf = room_for + k % 8;
+            outcome o;
+            const size_t len = put_parts(shelf, which, many, &o);
+            rescued(shelf, len, &o, o.kept, 2 * o.stretches, o.most);
+            /* where nothing can be refused, and at the edge of that */
+            const size_t ample = 2 * (len / 11 + 1);
+            rescued(shelf, len, &o, len, 2 * (len / 12 + 1), 40);
+            if (many < 3 || k % 7 == 0) {
+                rescued(shelf, len, &o, len, ample, 65536);
+                rescued(shelf, len, &o, len, ample - 1, 65536);
+                rescued(shelf, len, &o, len, ample, 65535);
+            }
+            if (many < 3 && len > 0)
+                rescued(shelf, len, &o, len - 1, ample, 65536);
+            if (o.kept > 0)
+                rescued(shelf, len, &o, o.kept - 1, 40, 40);
+            if (o.stretches > 0)
+                rescued(shelf, len, &o, sizeof out, 2 * o.stretches - 1, 40);
+            if (o.most > 0)
+                rescued(shelf, len, &o, sizeof out, 40, o.most - 1);
+            for (size_t at = 0; many < 3 && at < 64; at++) {
+                const size_t rooms[] = {0, o.kept - (o.kept > 0), o.kept, o.kept + 2};
+                const size_t slots[] = {0, 2 * o.stretches - (o.stretches > 0), 2 * o.stretches, 2 * o.stretches + 3};
+                const size_t lent[] = {0, o.most - (o.most > 0), o.most, o.most + 2};
+                rescued(shelf, len, &o, rooms[at % 4], slots[at / 4 % 4], lent[at / 16]);
+            }
+        }
+    }
+}
+
+/* Between two records that are kept: each byte of F(6)'s and of I(6)'s changed to each other one, and each number of
+ * bytes of it lost. It is then none that is kept, and is skipped. */
+static void changed_bytes(void) {
+    for (size_t k = 0; k < 2; k++) {
+        const part *one = &PARTS[k], *first = &PARTS[3], *last = &PARTS[2];
+        outcome o = {first->len + last->len, 1, 0, {0}, {first->len, one->len}};
+        uint8_t shelf[60];
+        memcpy(o.bytes, first->bytes, first->len);
+        memcpy(o.bytes + first->len, last->bytes, last->len);
+        for (size_t at = 0; at < one->len; at++)
+            for (unsigned byte = 0; byte < 256; byte++) {
+                if (byte == one->bytes[at])
+                    continue;
+                memcpy(shelf, first->bytes, first->len);
+                memcpy(shelf + first->len, one->bytes, one->len);
+                memcpy(shelf + first->len + one->len, last->bytes, last->len);
+                shelf[first->len + at] = (uint8_t)byte;
+                rescued(shelf, o.kept + one->len, &o, o.kept, 2, 40);
+            }
+        for (size_t end = 0; end < one->len; end++) {
+            memcpy(shelf, first->bytes, first->len);
+            memcpy(shelf + first->len, one->bytes, end);
+            memcpy(shelf + first->len + end, last->bytes, last->len);
+            o.stretches = end > 0, o.list[1] = end;
+            rescued(shelf, o.kept + end, &o, o.kept, 2, 40);
+        }
+    }
+}
+
+/* I(n) = z - 1 for each prime n, and no other n has so few coefficients but 1. */
+static void primes(void) {
+    for (size_t n = 1; n <= 65535; n++) {
+        const uint8_t shelf[] = {0xC9, 0x50, 2, 1, (uint8_t)n, (uint8_t)(n >> 8), 2, 0, 0, 0, 0xFF, 1};
+        size_t d = 2;
+        while (d * d <= n && n % d != 0)
+            d++;
+        const int prime = n > 1 && d * d > n;
+        outcome o = {prime ? 12 : 0, !prime, prime ? 2 : 0, {0}, {0, prime ? 0 : 12}};
+        memcpy(o.bytes, shelf, 12);
+        rescued(shelf, 12, &o, 12, 2, o.most);
+    }
+}
+
+/* A record among the coefficients of another that reads, of each width and at each place: it is found, since the search
+ * goes on one byte behind the other's start. The other counts for the entries; but not where its last byte is gone, or
+ * its last coefficient is the lowest of its width. */
+static void hidden(void) {
+    static const struct {
+        size_t width, n, count;
+    } fakes[] = {{1, 17, 17}, {2, 15, 9}, {4, 5, 5}, {8, 3, 3}};
+    for (size_t i = 0; i < COUNT(fakes); i++)
+        for (size_t before = 0; before + 13 < fakes[i].width * fakes[i].count; before++) {
+            const size_t width = fakes[i].width, count = fakes[i].count, rest = width * count - before - 13;
+            uint8_t shelf[60];
+            const size_t len = put(shelf, 1, fakes[i].n, width, count, 0);
+            memset(shelf + 10, 1, len - 10);
+            memcpy(shelf + 10 + before, PARTS[0].bytes, 13);
+            outcome o = {13, 2, count, {F6_BYTES}, {0, 10 + before, 23 + before, rest}};
+            for (size_t entries = 0; entries <= count + 1; entries++) {
+                rescued(shelf, len, &o, 13, 4, entries);
+                rescued(shelf, len, &o, len, 2 * (len / 11 + 1), entries);
+            }
+            o.most = 3;
+            if (rest >= width) {
+                memset(shelf + len - width, 0, width);
+                shelf[len - 1] = 0x80;
+                rescued(shelf, len, &o, 13, 4, 3);
+                rescued(shelf, len, &o, 13, 4, 2);
+            }
+            o.list[3] = rest - 1;
+            if (rest == 1)
+                o.stretches = 1, o.list[2] = 0;
+            rescued(shelf, len - 1, &o, 13, 4, 3);
+            rescued(shelf, len - 1, &o, 13, 4, 2);
+        }
+}
+
+/* Polynomials of every sort in as much room as they need, and in one less of each; with the last coefficient another;
+ * and rooms above 2^32. */
+static void long_rescues(void) {
+    static uint8_t shelf[1 + 10 + 2 * 65536 + 13], kept[sizeof shelf];
+    for (size_t i = 0; i < COUNT(POLYNOMIALS) + 2; i++) {
+        /* the last two are in two bytes each */
+        static const polynomial_case wide[] = {{1, 40755, 17280, 0, 0, 0, 0, 0}, {2, 62205, 35325, 0, 0, 0, 0, 0}};
+        const polynomial_case *p = i < COUNT(POLYNOMIALS) ? &POLYNOMIALS[i] : &wide[i - COUNT(POLYNOMIALS)];
+        const size_t width = i < COUNT(POLYNOMIALS) ? 1 : 2, count = p->degree + 1, size = 10 + width * count;
+        HOLD(bv_polynomial(p->kind, p->n, NONE, NONE, buf, 65536).code == BV_DONE);
+        shelf[0] = 7;
+        HOLD(wrote(bv_write(p->kind, p->n, buf, count, shelf + 1, size), BV_DONE, p->degree, size));
+        memcpy(shelf + 1 + size, PARTS[0].bytes, 13);
+        for (size_t less = 0; less < 6; less++) {
+            /* no less, a byte, a number, an entry; then the last coefficient another, and that with an entry less */
+            const size_t room = size + 13 - (less == 1), slots = 2 - (less == 2);
+            const size_t enough = count > 3 ? count : 3, entries = enough - (less == 3) - (less == 5);
+            uint64_t told[3] = {77, 77, 77};
+            memset(kept, 7, sizeof kept);
+            fresh();
+            shelf[size] = (uint8_t)(shelf[size] + (less >= 4));
+            bv_rescued a = bv_rescue(shelf, 1 + size + 13, kept, room, told, slots, buf, entries);
+            shelf[size] = (uint8_t)(shelf[size] - (less >= 4));
+            HOLD(a.code == (less == 0 || less == 4 ? BV_DONE : BV_REFUSED_SHORT) && zero_to(entries - 1) &&
+                 untouched_from(entries) && told[2] == 77 && kept[size + 13] == 7);
+            if (less == 0)
+                HOLD(a.kept == size + 13 && a.stretches == 1 && told[0] == 0 && told[1] == 1 &&
+                     memcmp(kept, shelf + 1, size + 13) == 0);
+            else if (less == 4)
+                HOLD(a.kept == 13 && a.stretches == 1 && told[0] == 0 && told[1] == 1 + size &&
+                     memcmp(kept, PARTS[0].bytes, 13) == 0 && kept[13] == 7);
+            else
+                HOLD(a.kept == 0 && a.stretches == 0 && told[0] == 77 && told[1] == 77 && kept[0] == 7);
+        }
+    }
+
+    const size_t far = (size_t)1 << 32, page = 65536;
+    const int any = MAP_PRIVATE | MAP_ANONYMOUS | MAP_NORESERVE;
+    uint8_t *wide = mmap(NULL, far + page, PROT_READ | PROT_WRITE, any, -1, 0);
+    uint64_t *list = mmap(NULL, far * 8 + page, PROT_READ | PROT_WRITE, any, -1, 0);
+    if (wide == MAP_FAILED || (void *)list == MAP_FAILED) {
+        printf("edges.c: there is no room for 2^32 bytes and as many numbers\n");
+        exit(1);
+    }
+    shelf[0] = 7;
+    memcpy(shelf + 1, PARTS[0].bytes, 13);
+    for (size_t more = 0; more < 2; more++) { /* so many are 0 or 1 in 32 bits */
+        memset(wide, 7, 16);
+        list[0] = list[1] = list[2] = 77;
+        for (size_t i = 0; i < 4; i++)
+            work[i] = 77;
+        bv_rescued a = bv_rescue(shelf, 14, wide, far + more, list, far + more, work, 3);
+        HOLD(a.code == BV_DONE && a.kept == 13 && a.stretches == 1);
+        HOLD(memcmp(wide, shelf + 1, 13) == 0 && wide[13] == 7 && list[0] == 0 && list[1] == 1 && list[2] == 77);
+        HOLD(work[0] == 0 && work[1] == 0 && work[2] == 0 && work[3] == 77);
+    }
+    munmap(wide, far + page);
+    munmap(list, far * 8 + page);
+    /* more to work in than any record needs */
+    fresh_scratch();
+    uint64_t told[2];
+    bv_rescued a = bv_rescue(shelf, 14, kept, 13, told, 2, scratch, 131086);
+    HOLD(a.code == BV_DONE && a.kept == 13 && a.stretches == 1 && scratch_holds(131086, 0));
+    fresh_scratch();
+    a = bv_rescue(shelf, 14, kept, 12, told, 2, scratch, 131086);
+    HOLD(a.code == BV_REFUSED_SHORT && a.kept == 0 && a.stretches == 0 && scratch_holds(131086, 0));
+}
+
+static void rescues(void) {
+    const outcome none = {0, 0, 0, {0}, {0}};
+    part before[COUNT(PARTS)];
+    memcpy(before, PARTS, sizeof PARTS);
+    rescued(PARTS[0].bytes, 0, &none, 0, 0, 0);
+    rescued(PARTS[0].bytes, 0, &none, sizeof out, 40, 40);
+    all_parts();
+    changed_bytes();
+    primes();
+    hidden();
+    long_rescues();
+    HOLD(memcmp(before, PARTS, sizeof PARTS) == 0);
+}
+
 /* Each code has its name, and no other number has one. */
 static void names(void) {
     static const char *const of[] = {"DONE",   "KIND",   "INDEX", "LIMIT",  "SHORT",  "OVER",  "TALL",
@@ -1214,6 +1504,7 @@ int main(void) {
     seconds();
     shelves();
     halves();
+    rescues();
     names();
     printf("%d outcomes, all as told in bonvedrick.h\n", calls);
     return 0;

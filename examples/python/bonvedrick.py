@@ -140,6 +140,12 @@ class Converted(NamedTuple):
     byte: int
 
 
+class Rescued(NamedTuple):
+    code: int
+    kept: int
+    stretches: int
+
+
 class Entry(NamedTuple):
     """A record on a shelf: what its header says, the byte of the shelf at which it starts, and its bytes, a part of
     the shelf itself."""
@@ -170,6 +176,7 @@ FUNCTIONS = {  # what each answers and takes
     "bv_read_half": (Record, *SHELF, *WORDS),
     "bv_to_half": (Converted, *SHELF, *BYTES),
     "bv_to_whole": (Converted, *SHELF, *BYTES),
+    "bv_rescue": (Rescued, *SHELF, *BYTES, *INDICES, *WORDS),
 }
 
 
@@ -363,6 +370,26 @@ class Bonvedrick:
                     return
                 at = a.start + a.length
                 yield Entry(a.kind, a.n, a.degree, a.start, view[a.start : at])
+
+    def rescue(
+        self,
+        shelf: Shelf,
+        room: SupportsIndex = SIZE_MAX,
+        slots: SupportsIndex = SIZE_MAX,
+        entries: SupportsIndex = MOST_ENTRIES,
+    ) -> tuple[bytes, list[tuple[int, int]]]:
+        """The good records of a damaged shelf, one after another, and the start and length of each stretch that is
+        skipped. `room` is how many bytes are lent for the records, `slots` how many numbers for the list, two a
+        stretch, and `entries` how many are lent to work in: enough of each, where none is said."""
+        room, slots = _within("room", room, 0, SIZE_MAX), _within("slots", slots, 0, SIZE_MAX)
+        work = _room("entries", entries)
+        with _shelf("shelf", shelf) as view:
+            # no more than can be needed: a stretch and the record behind it have more than 11 bytes
+            out = (c_uint8 * min(room, len(view)))()
+            numbers = (c_uint64 * min(slots, 2 * (len(view) // 11 + 1)))()
+            a = self._ask("bv_rescue", *_address(view), out, numbers, work)
+        told = iter(numbers[: 2 * a.stretches])
+        return bytes(memoryview(out)[: a.kept]), list(zip(told, told))
 
     def _ask(self, function, *arguments):
         """The answer of a C function, or Refused. An array goes over with its length."""

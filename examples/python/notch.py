@@ -72,6 +72,8 @@ print("a comb on nothing:", bv.comb(1, []))
 print("a record that was cut:", told(bv.read, record[:15]))
 print("a half record, read as a whole one:", told(bv.read, half))
 print("2 as its last coefficient, halved:", told(bv.to_half, record[:-1] + b"\2"))
+kept, skipped = bv.rescue(record + record[:-1] + b"\2" + record + record[:15])
+print(f"a shelf with that one and a cut one, rescued: {len(kept)} bytes, skipped {skipped}")
 for at, byte in (2, 3), (3, 0), (4, 0), (6, 12):
     print(f"{byte} at byte {at}:", told(bv.read, record[:at] + bytes([byte]) + record[at + 1:]))
 print("a coefficient too few:", told(bv.write, F, N, f[1:]))

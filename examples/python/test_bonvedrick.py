@@ -138,12 +138,18 @@ def small(n):
     return [1] * n if n % 2 else [1] + [0] * (n // 2 - 1) + [1]
 
 
+def short_of(needed, delivered):
+    """As `entries`, where no degree is told."""
+    return u64, lambda v: refused("SHORT") if v < needed else delivered
+
+
 F15_DONE, I15_DONE = (F15, Answer(0, 8, 6, 1, 0, 1)), (I15, Answer(0, 7, 4, 1, 0, 0))
 F15_STOPS = {0: ([1, 0, 0, 0, 0], Stop(0, 4, 0, 3)), 1: ([1, -1, 0, 0, 0], Stop(0, 4, 4, 2))}
 I15_STOP = ([-1, -1, -1, -1], Stop(0, 3, 3, 2))
 BY_8 = ([1] * 8, Answer(0, 7, 0, 1, 0, 8))
 F15_SECOND, I15_SECOND = (F15, Answer(0, 8, 0, 1, 0, 1)), (I15, Answer(0, 7, 0, 1, 0, 0))
 F6_FOUND = (F6_RECORD, Found(0, 0, 0, HOUSE, 20, 13))
+RESCUED = (F6_RECORD + EVEN_I6, [(13, 20), (48, 3)])  # of F(6), what reads and is another, I(6), and the rest
 TO_HALF, TO_WHOLE = (F6_HALF, Converted(0, 2, 13, 12, 0)), (F6_RECORD, Converted(0, 2, 12, 13, 0))
 
 # For each function good arguments, and for each number among them what fits its C type and what the rules give then.
@@ -220,6 +226,10 @@ REQUESTS = {
     "to_whole": (
         dict(data=F6_HALF, room=13),
         dict(room=entries(13, TO_WHOLE, 2)),
+    ),
+    "rescue": (
+        dict(shelf=F6_RECORD + I6_RECORD + EVEN_I6 + b"abc", room=28, slots=4, entries=5),
+        dict(room=short_of(28, RESCUED), slots=short_of(4, RESCUED), entries=short_of(5, RESCUED)),
     ),
 }
 # The lists among the arguments, what fits their C type, and what the rules give for any numbers of 64 bits in them.
@@ -632,6 +642,87 @@ class Shelves(Wrapper):
                 self.assertEqual(self.outcome("records", shelf=data), (TypeError, 0))
 
 
+class Rescues(Wrapper):
+    def told(self, shelf, **rooms):
+        came, calls = self.outcome("rescue", shelf=shelf, **rooms)
+        self.assertEqual(calls, 1)
+        return came
+
+    def test_what_is_kept_and_what_is_skipped(self):
+        other = I6_RECORD + OTHER_F6 + I1_RECORD  # these read, and their coefficients are others
+        for shelf, kept, skipped in [
+            (b"", b"", []),
+            (b"\xc9", b"", [(0, 1)]),
+            (F6_RECORD, F6_RECORD, []),
+            (F6_RECORD + EVEN_I6 + F6_RECORD, F6_RECORD + EVEN_I6 + F6_RECORD, []),
+            (other, b"", [(0, 44)]),
+            (other + F6_RECORD + other + EVEN_I6 + other, F6_RECORD + EVEN_I6, [(0, 44), (57, 44), (116, 44)]),
+            (F6_HALF + F6_RECORD + I6_HALF, F6_RECORD, [(0, 12), (25, 13)]),
+            (F6_RECORD[:12] + F6_RECORD + EVEN_I6[:14], F6_RECORD, [(0, 12), (25, 14)]),
+        ]:
+            with self.subTest(length=len(shelf)):
+                self.assertEqual(self.told(shelf), (kept, skipped))
+                self.assertEqual(self.told(kept), (kept, []))
+                if kept:
+                    self.assertEqual(self.told(shelf, room=len(kept) - 1), refused("SHORT"))
+                if skipped:
+                    self.assertEqual(self.told(shelf, slots=2 * len(skipped) - 1), refused("SHORT"))
+                rooms = dict(room=len(kept), slots=2 * len(skipped), entries=5)
+                self.assertEqual(self.told(shelf, **rooms), (kept, skipped))
+
+    def test_each_byte_that_is_another(self):
+        shelf = F6_RECORD + EVEN_I6 + F6_RECORD
+        for at in range(13, 28):
+            for bit in range(8):
+                damaged = bytearray(shelf)
+                damaged[at] ^= 1 << bit
+                self.assertEqual(self.told(damaged), (2 * F6_RECORD, [(13, 15)]))
+        for end in range(len(shelf)):
+            kept = 28 if end >= 28 else 13 if end >= 13 else 0
+            self.assertEqual(self.told(shelf[:end]), (shelf[:kept], [(kept, end - kept)] if end > kept else []))
+
+    def test_every_polynomial_in_as_much_room_as_it_needs(self):
+        for n in 1, 2, 3, 105, 32768, 40755, 62205, 65521, 65535:
+            for kind in F, I:
+                coeffs, _ = self.bv.polynomial(kind, n)
+                record = self.bv.write(kind, n, coeffs)
+                rooms = dict(room=len(record), slots=2, entries=len(coeffs))
+                self.assertEqual(self.told(b"x" + record, **rooms), (record, [(0, 1)]))
+                for name, enough in rooms.items():
+                    self.assertEqual(self.told(b"x" + record, **{**rooms, name: enough - 1}), refused("SHORT"))
+
+    def test_the_rooms_that_it_lends_are_always_enough(self):
+        """As many stretches as there can be: a byte before each of the least records, and one after all."""
+        least = bytes.fromhex("c9 50 02 01 01 00 01 00 00 00 01")
+        for many in range(40):
+            for more in b"", b"x":
+                shelf = (b"x" + least) * many + more
+                skipped = [(12 * i, 1) for i in range(many + len(more))]
+                self.assertEqual(self.told(shelf), (least * many, skipped))
+
+    def test_shelves_of_every_sort(self):
+        for shelf in [b"x" + F6_RECORD, bytearray(b"x" + F6_RECORD), memoryview(b"x" + F6_RECORD)]:
+            self.assertEqual(self.told(shelf), (F6_RECORD, [(0, 1)]))
+        with tempfile.TemporaryFile() as file:
+            file.write(b"x" + F6_RECORD)
+            file.flush()
+            with mmap.mmap(file.fileno(), 0, access=mmap.ACCESS_READ) as mapped:
+                self.assertEqual(self.told(mapped), (F6_RECORD, [(0, 1)]))
+        for data in "c950", list(F6_RECORD), None, 13, array.array("B", F6_RECORD), memoryview(b"x" + F6_RECORD)[::2]:
+            self.assertEqual(self.outcome("rescue", shelf=data), (TypeError, 0))
+
+    def test_c_is_lent_the_very_bytes_and_no_more_room_than_is_needed(self):
+        shelf = I1_RECORD + F6_RECORD + b"x"
+        start = ctypes.cast(ctypes.c_char_p(shelf), ctypes.c_void_p).value
+        self.bv.rescue(memoryview(shelf)[11:])
+        self.assertEqual(Counting.arguments[:2], (start + 11, 14))
+        self.assertEqual(Counting.arguments[3::2], (14, 4, bonvedrick.MOST_ENTRIES))
+        changing = bytearray(b"x" + F6_RECORD)
+        for rooms in dict(), dict(room=0):
+            self.outcome("rescue", shelf=changing, **rooms)
+            changing.append(0)  # nothing of it is held any more
+
+
 class Refusals(Wrapper):
     def each(self):
         """A refusal of each code, and one that this wrapper does not know, with what it says."""
@@ -657,6 +748,7 @@ class Refusals(Wrapper):
             ("UNEVEN", lambda: self.bv.to_half(damaged(12, 2))),
             ("SHORT", lambda: self.bv.to_whole(F6_HALF, 12)),
             ("RWIDTH", lambda: self.bv.read_half(F6_HALF[:3] + b"\3" + F6_HALF[4:])),
+            ("SHORT", lambda: self.bv.rescue(F6_RECORD, entries=2)),
         ]
         for at, byte, name in [(0, 0, "MARK"), *fields, (10, 128, "WIDTH")]:
             asked.append((name, lambda at=at, byte=byte: self.bv.read(damaged(at, byte))))
@@ -696,6 +788,7 @@ class Refusals(Wrapper):
                 "UNEVEN (18)",
                 "SHORT (4), degree 2",
                 "RWIDTH (13), the record's width, at byte 3, is wrong: right is 1, 2, 4 or 8",
+                "SHORT (4)",
                 "MARK (9)",
                 "RKIND (12), the record's kind, at byte 2, is wrong: right is 1 or 2",
                 "RWIDTH (13), the record's width, at byte 3, is wrong: right is 1, 2, 4 or 8",

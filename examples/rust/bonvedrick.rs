@@ -7,6 +7,7 @@
 
 use std::fmt;
 use std::iter::FusedIterator;
+use std::ops::Range;
 
 /// The C functions and their answers, as include/bonvedrick.h has them.
 mod c {
@@ -81,6 +82,13 @@ mod c {
         pub byte: u64,
     }
 
+    #[repr(C)]
+    pub struct Rescued {
+        pub code: u64,
+        pub kept: u64,
+        pub stretches: u64,
+    }
+
     unsafe extern "C" {
         pub fn bv_polynomial(kind: u64, n: u64, h: i64, w: i64, buf: *mut i64, len: usize) -> Answer;
         pub fn bv_partial(kind: u64, n: u64, j: u64, w: i64, buf: *mut i64, len: usize) -> Stop;
@@ -108,6 +116,16 @@ mod c {
         pub fn bv_read_half(bytes: *const u8, len: usize, coeffs: *mut i64, count: usize) -> Record;
         pub fn bv_to_half(bytes: *const u8, len: usize, out: *mut u8, room: usize) -> Converted;
         pub fn bv_to_whole(bytes: *const u8, len: usize, out: *mut u8, room: usize) -> Converted;
+        pub fn bv_rescue(
+            shelf: *const u8,
+            len: usize,
+            out: *mut u8,
+            room: usize,
+            list: *mut u64,
+            slots: usize,
+            coeffs: *mut i64,
+            entries: usize,
+        ) -> Rescued;
         pub fn bv_cascade(
             indices: *const u64,
             count: usize,
@@ -413,6 +431,22 @@ pub struct Entry<'a> {
     pub start: usize,
 }
 
+/// What `rescue` kept of a shelf, and what it skipped: parts of the buffers that were lent.
+#[derive(Debug)]
+pub struct Rescued<'a> {
+    /// The kept records, one after another.
+    pub kept: &'a mut [u8],
+    /// For each skipped stretch the byte of the shelf at which it starts, and its length.
+    pub list: &'a mut [u64],
+}
+
+impl Rescued<'_> {
+    /// The skipped stretches, in order, each as the places of the shelf that it has: `&shelf[stretch]` are its bytes.
+    pub fn skipped(&self) -> impl Iterator<Item = Range<usize>> + '_ {
+        self.list.chunks_exact(2).map(|told| place(told[0])..place(told[0]) + place(told[1]))
+    }
+}
+
 // SAFETY of each call below: a Rust slice is what the library asks of a pointer and a length, and `&mut` is alone.
 // `kind as u64` is 1 or 2, which an enum says for itself.
 
@@ -547,6 +581,22 @@ impl<'a> Iterator for Records<'a> {
 }
 
 impl FusedIterator for Records<'_> {}
+
+/// The good records of a damaged shelf, and the stretches that are skipped. For len bytes, as many to write to and a
+/// list of 2 (len / 11 + 1) numbers are always enough; coeffs is to work in, and 65536 entries do for every shelf.
+pub fn rescue<'a>(
+    shelf: &[u8],
+    out: &'a mut [u8],
+    list: &'a mut [u64],
+    coeffs: &mut [i64],
+) -> Result<Rescued<'a>, Refusal> {
+    let (numbers, slots, work, entries) = (list.as_mut_ptr(), list.len(), coeffs.as_mut_ptr(), coeffs.len());
+    let a = unsafe {
+        c::bv_rescue(shelf.as_ptr(), shelf.len(), out.as_mut_ptr(), out.len(), numbers, slots, work, entries)
+    };
+    outcome(a.code, None, 0)?;
+    Ok(Rescued { kept: &mut out[..place(a.kept)], list: &mut list[..2 * place(a.stretches)] })
+}
 
 /// The product of F(n) over the indices. The scratch is to work in, and needs as many entries as the longest factor
 /// has.

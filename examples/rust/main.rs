@@ -1,12 +1,12 @@
 //! A mains notch in Rust, over the safe wrapper. At 750 samples a second 50 Hz is one turn in 15 samples, so F(15)
 //! stops it. It asks, grows the buffer as the refusal tells, shows how the polynomial grows divisor by divisor, and
 //! stores it. Then it asks which registers of a chip the steps of a larger one fit, for a cascade, and both engines;
-//! finds the record on a shelf, and halves it.
+//! finds the record on a shelf, and halves it; and rescues a damaged shelf.
 mod bonvedrick;
 
 use bonvedrick::{
     Kind, NO_LIMIT, Refusal, accumulate, cascade, comb, lookup, partial, polynomial, read, read_half, records,
-    registers, second, to_half, to_whole, write,
+    registers, rescue, second, to_half, to_whole, write,
 };
 
 const RATE: u64 = 750;
@@ -112,5 +112,13 @@ fn main() -> Result<(), Refusal> {
     if let Err(e) = to_half(&uneven, &mut bytes) {
         println!("2 as the last coefficient: {e}");
     }
+
+    // our notch, once more with that slip, which reads well, then F(6), and our notch cut short
+    let damaged = [found.bytes, &uneven, &house[..13], &found.bytes[..12]].concat();
+    let (mut kept, mut list) = ([0; 63], [0; 12]);
+    println!("rescued in 8 entries: {:?}", rescue(&damaged, &mut kept, &mut list, &mut buf[..8]).err());
+    let rescued = rescue(&damaged, &mut kept, &mut list, &mut buf)?;
+    let skipped: Vec<_> = rescued.skipped().collect();
+    println!("in {}: {} bytes kept of {}, skipped {skipped:?}", buf.len(), rescued.kept.len(), damaged.len());
     Ok(())
 }

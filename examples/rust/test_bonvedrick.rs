@@ -4,8 +4,9 @@ mod bonvedrick;
 
 use bonvedrick::{
     Fault, Field, Kind, NO_LIMIT, Refusal, Shelf, Stretch, accumulate, cascade, comb, lookup, partial, polynomial,
-    read, read_half, records, registers, second, to_half, to_whole, write, write_half,
+    read, read_half, records, registers, rescue, second, to_half, to_whole, write, write_half,
 };
+use std::ops::Range;
 
 /// F(6), its record and its half record; and those of I(6).
 const SIX: [i64; 3] = [1, -1, 1];
@@ -505,6 +506,82 @@ fn a_record_that_does_not_read_is_told_once_and_then_nothing() {
     // a program that takes all or nothing
     let all: Result<Vec<_>, _> = records(&[&RECORD[..], &RECORD[..12]].concat()).map(|r| r.map(|r| r.n)).collect();
     assert_eq!(all, Err(broken(Fault::Cut, 13, None)));
+}
+
+/// What is kept of a shelf, and which of its places are skipped, in so much room. What is lent past the parts told, and
+/// what is not lent, is not touched.
+fn rescued(shelf: &[u8], room: usize, slots: usize, entries: usize) -> Result<(Vec<u8>, Vec<Range<usize>>), Refusal> {
+    let (mut out, mut list, mut coeffs) = ([7; 99], [77; 20], [77; 9]);
+    let told = rescue(shelf, &mut out[..room], &mut list[..slots], &mut coeffs[..entries])
+        .map(|r| (r.kept.to_vec(), r.skipped().collect::<Vec<_>>()));
+    let (kept, stretches) = told.as_ref().map_or((0, 0), |(kept, skipped)| (kept.len(), skipped.len()));
+    assert!(out[kept..].iter().all(|&byte| byte == 7) && list[2 * stretches..].iter().all(|&number| number == 77));
+    assert!(coeffs[..entries].iter().all(|&entry| entry == 0) && coeffs[entries..].iter().all(|&entry| entry == 77));
+    told
+}
+
+#[test]
+fn a_damaged_shelf_is_rescued_or_refused_without_a_degree() {
+    let [six, inverse, one] = three(); // these read, and their coefficients are others
+    let short = Err(Refusal::Short { degree: None });
+    assert_eq!(rescued(&[], 0, 0, 0), Ok((vec![], vec![])));
+    assert_eq!(rescued(&[1], 0, 2, 0), Ok((vec![], vec![0..1])));
+    assert_eq!(rescued(&[1], 0, 1, 0), short);
+    assert_eq!(rescued(&RECORD, 13, 0, 3), Ok((RECORD.to_vec(), vec![])));
+    // before, between and after
+    let shelf = [&[1, 2][..], &RECORD, &six, &inverse, &INVERSE_RECORD, &one].concat();
+    let kept = [&RECORD[..], &INVERSE_RECORD].concat();
+    for (room, slots, entries) in [(28, 6, 5), (99, 20, 9), (28, 7, 5)] {
+        assert_eq!(rescued(&shelf, room, slots, entries), Ok((kept.clone(), vec![0..2, 15..48, 63..81])));
+    }
+    for (room, slots, entries) in [(27, 20, 9), (99, 5, 9), (99, 20, 4), (0, 20, 9), (99, 0, 9), (99, 20, 0)] {
+        assert_eq!(rescued(&shelf, room, slots, entries), short);
+    }
+    assert_eq!(rescued(&kept, 28, 0, 5), Ok((kept, vec![])));
+    // half records are skipped, and so is what doesn't read, whatever there is room for
+    let shelf = [&HALF[..], &INVERSE_HALF, &RECORD[..12]].concat();
+    assert_eq!(rescued(&shelf, 0, 2, 0), Ok((vec![], vec![0..37])));
+    let wide = [0xC9, 0x50, 1, 2, 6, 0, 3, 0, 0, 0, 1, 0, 0xFF, 0xFF, 1, 0];
+    assert_eq!(rescued(&wide, 0, 2, 0), Ok((vec![], vec![0..16])));
+    // a record among the coefficients of one that is skipped, which counts for the entries
+    let inside = [&[0xC9, 0x50, 1, 1, 15, 0, 9, 0, 0, 0][..], &[0xC9, 0x50, 2, 1, 1, 0, 1, 0, 0, 0, 1]].concat();
+    assert_eq!(rescued(&inside, 11, 2, 9), Ok((inside[10..].to_vec(), vec![0..10])));
+    assert_eq!(rescued(&inside, 11, 2, 8), short);
+}
+
+#[test]
+fn each_byte_of_a_record_that_is_another_has_it_skipped() {
+    let shelf = [&RECORD[..], &INVERSE_RECORD, &RECORD].concat();
+    for at in 0..15 {
+        for bit in 0..8 {
+            let mut damaged = shelf.clone();
+            damaged[13 + at] ^= 1 << bit;
+            assert_eq!(rescued(&damaged, 26, 2, 5), Ok((RECORD.repeat(2), vec![13..28])));
+        }
+    }
+    for end in 0..shelf.len() {
+        let cut = if end >= 28 { 28 } else if end >= 13 { 13 } else { 0 };
+        let rest = if cut < end { vec![cut..end] } else { vec![] };
+        assert_eq!(rescued(&shelf[..end], cut, 2, 5), Ok((shelf[..cut].to_vec(), rest)));
+    }
+}
+
+#[test]
+fn every_record_of_a_polynomial_is_kept_in_as_much_room_as_it_needs() {
+    let (mut room, mut record) = (vec![77; 65536], vec![0; 10 + 8 * 65536]);
+    for n in [1, 2, 3, 4, 9, 105, 1155, 32768, 40755, 62205, 65521, 65535] {
+        for kind in [Kind::F, Kind::I] {
+            let count = polynomial(kind, n, NO_LIMIT, NO_LIMIT, &mut room).unwrap().coeffs.len();
+            let record = write(kind, n, &room[..count], &mut record).unwrap();
+            let shelf = [&[9][..], record].concat();
+            let (mut out, mut list, mut coeffs) = (vec![7; record.len()], [77; 2], vec![77; count]);
+            let r = rescue(&shelf, &mut out, &mut list, &mut coeffs).unwrap();
+            assert!(r.kept == record && r.skipped().eq([0..1]));
+            assert!(coeffs.iter().all(|&entry| entry == 0));
+            let short = rescue(&shelf, &mut out, &mut list, &mut coeffs[1..]).map(|r| r.kept.len());
+            assert_eq!(short, Err(Refusal::Short { degree: None }));
+        }
+    }
 }
 
 #[test]

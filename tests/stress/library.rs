@@ -81,6 +81,14 @@ pub struct Converted {
     pub byte: u64,
 }
 
+#[repr(C)]
+#[derive(Debug, PartialEq, Clone, Copy, Default)]
+pub struct Rescued {
+    pub code: u64,
+    pub kept: u64,
+    pub stretches: u64,
+}
+
 extern "C" {
     fn bv_polynomial(kind: u64, n: u64, h: i64, w: i64, buf: *mut i64, len: usize) -> Answer;
     fn bv_partial(kind: u64, n: u64, j: u64, w: i64, buf: *mut i64, len: usize) -> Stop;
@@ -104,6 +112,16 @@ extern "C" {
     fn bv_read_half(bytes: *const u8, len: usize, coeffs: *mut i64, count: usize) -> Record;
     fn bv_to_half(bytes: *const u8, len: usize, out: *mut u8, room: usize) -> Converted;
     fn bv_to_whole(bytes: *const u8, len: usize, out: *mut u8, room: usize) -> Converted;
+    fn bv_rescue(
+        shelf: *const u8,
+        len: usize,
+        out: *mut u8,
+        room: usize,
+        list: *mut u64,
+        slots: usize,
+        coeffs: *mut i64,
+        entries: usize,
+    ) -> Rescued;
 }
 
 fn lent<T>(a: &mut [T]) -> *mut T {
@@ -164,4 +182,9 @@ pub fn to_half(bytes: &[u8], out: &mut [u8]) -> Converted {
 
 pub fn to_whole(bytes: &[u8], out: &mut [u8]) -> Converted {
     unsafe { bv_to_whole(shown(bytes), bytes.len(), lent(out), out.len()) }
+}
+
+pub fn rescue(shelf: &[u8], out: &mut [u8], list: &mut [u64], coeffs: &mut [i64]) -> Rescued {
+    let (room, slots, entries) = (out.len(), list.len(), coeffs.len());
+    unsafe { bv_rescue(shown(shelf), shelf.len(), lent(out), room, lent(list), slots, lent(coeffs), entries) }
 }

@@ -7,7 +7,7 @@ use crate::records::{damage, made_up};
 use crate::reference::{Reference, LARGEST};
 
 /// A record that reads: its kind, its index, its degree, and what of the bytes is left after it.
-type Read<'a> = (u64, usize, usize, &'a [u8]);
+pub type Read<'a> = (u64, usize, usize, &'a [u8]);
 
 /// The bits that a coefficient needs without its sign, if each magnitude has so many at most: 7, 15, 31 or 63.
 fn bits(magnitude: u128) -> Option<usize> {
@@ -15,7 +15,7 @@ fn bits(magnitude: u128) -> Option<usize> {
 }
 
 /// The record that some bytes start with, or its code.
-fn read<'a>(of: &Reference, bytes: &'a [u8]) -> Result<Read<'a>, u64> {
+pub fn read<'a>(of: &Reference, bytes: &'a [u8]) -> Result<Read<'a>, u64> {
     let (head, rest) = bytes.split_at_checked(10).ok_or(8u64)?;
     let &[c9, fifty, kind, width, low, high, ref count @ ..] = head else { unreachable!() };
     if (c9, fifty) != (0xC9, 0x50) {
@@ -99,7 +99,7 @@ fn shown(of: &Reference, shelf: &[u8], at: u64) -> u64 {
 }
 
 /// A record that is as it should be.
-fn good(random: &mut Random, of: &Reference, most: usize) -> Vec<u8> {
+pub fn good(random: &mut Random, of: &Reference, most: usize) -> Vec<u8> {
     let kind = 1 + random.below(2) as u64;
     let n = 1 + random.below(most);
     let width = random.of(&[1, 1, 1, 2, 4, 8usize]);
