@@ -6,11 +6,11 @@ use Prim.Native.Nat.{ℕ, suc, _+_, _^_, _<_, _≤_}
 use native.Mathlib.Omega.{arith}
 use borrow.Author.Tests.{eq-eqb, ne-eqb}
 use lib.ListN.{length, take, drop, take-append-drop}
-use lib.Seq.{take-all, sets-eq, take-at}
+use lib.Seq.{take-all}
 use lib.Dec.{eqb}
 use Rattle.step_laws.specs.Tests.{by-test}
 use Rattle.text.specs.Text.{NEWLINE}
-use Rattle.text.specs.Puts.{Puts}
+use Rattle.text.proofs.Putting.{put-first}
 use Rattle.listing.specs.Reply.{reply}
 use Rattle.line_so_far.specs.Heading.{heading}
 use Rattle.line_so_far.specs.OpenLine.{startLine, pushed, nextLine}
@@ -47,13 +47,6 @@ pub whole : (input : List ℕ) → 1 + length input < 2 ^ 64
     → heading ++ (printed startLine input ++ ending (after startLine input)) ≡ listing input
 unfolding listing
 whole input h = ap (λ r. heading ++ r) (from input startLine [] 1 keeps-start h)
-
--- what was put at the start of a buffer are its first bytes, all of them
-pub put-first : {text l m : List ℕ} {made : ℕ} → Puts text 0 l m made → made ≤ length l → take made m ≡ text
-put-first {text} {l} {m} {made} p fits =
-    let long : 0 + length text ≡ made = sym (p .place) in
-    ap (take made) (p .leaves ∙ sets-eq text l 0 (omega arith))
-    ∙ take-at text (drop (0 + length text) l) made (omega arith)
 
 -- what a run wrote is what the bytes that it took print
 pub flushed : {s : Line} {piece l m : List ℕ} {r : Progress} → Ran s piece l m r

@@ -64,6 +64,11 @@ listed-even =
     let (k, ek) = h (at + toNext left + sizeAt (there left)) in
     (j + k, ap length (listed-step left some at) ∙ length-append (stretch at (toNext left)) _ ∙ omega (arith, ej, ek)))
 
+-- so no number of a list is left over
+pub listed-pairs : (shelf : List ℕ) → 2 * (length (listed shelf) / 2) ≡ length (listed shelf)
+unfolding listed
+listed-pairs shelf = let (k, e) = listed-even shelf 0 in omega arith
+
 module _ (shelf : List ℕ) (bytes : Bytes shelf) (room slots entries : ℕ) (all : length shelf ≤ room)
     (most : 65536 ≤ entries) where
   done : length (listed shelf) ≤ slots → rescueCode shelf room slots entries ≡ DONE

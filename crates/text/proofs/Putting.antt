@@ -4,8 +4,8 @@ use mathlib.Core.List.{List, [], _∷_, _++_, append-assoc, append-nil}
 use Prim.Native.Nat.{ℕ, zero, suc, _+_, _^_, _<_, _≤_}
 use native.Mathlib.Nat.{not-suc-le-zero, add-zero}
 use native.Mathlib.Omega.{arith}
-use lib.ListN.{length, set, length-append}
-use lib.Seq.{sets}
+use lib.ListN.{length, take, drop, set, length-append}
+use lib.Seq.{sets, sets-eq, take-at}
 use lib.IntN.{ℤ, pos, negsuc, natAbs}
 use Rattle.text.specs.Text.{SPACE, MINUS, decimal, sign, signed, spaced}
 use Rattle.text.specs.Puts.{Puts}
@@ -82,3 +82,10 @@ module _ {at p q : ℕ} {l m o : List ℕ} where
   pub put-plain : (n : ℕ) → Puts (SPACE ∷ []) at l m p → Puts (decimal n) p m o q → Puts (spaced (pos n ∷ [])) at l o q
   unfolding sign
   put-plain n f g = put-one (pos n) f g
+
+-- what was put at the start of a buffer are its first bytes, all of them
+pub put-first : {text l m : List ℕ} {made : ℕ} → Puts text 0 l m made → made ≤ length l → take made m ≡ text
+put-first {text} {l} {m} {made} p fits =
+    let long : 0 + length text ≡ made = sym (p .place) in
+    ap (take made) (p .leaves ∙ sets-eq text l 0 (omega arith))
+    ∙ take-at text (drop (0 + length text) l) made (omega arith)

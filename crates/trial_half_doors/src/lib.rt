@@ -1,9 +1,6 @@
 // An inner crate: each door of the library that is about half records, asked for the program `trial`, and its answer
 // told (second/README.md has the form). Nothing is promised but that each function is safe and ends: what is told is
 // held to a stored output. The buffers that a request does not take are empty.
-ghost use Prim.Native.Nat.{_≤_};
-ghost use mathlib.Core.Path.{_≡_};
-ghost use lib.ListN.{length};
 use trial_lines::Row;
 
 // The names of the requests, as `trial_lines::name` reads them.
@@ -28,25 +25,6 @@ fn read_half(entries: &mut [i64], bytes: &[u8]) {
     trial_output::entries(entries);
 }
 
-// Room to convert into. Only the length is known of it, so that no proof goes through its bytes.
-fn filled() -> [u8; 65536]
-    ensures { λ r. ⌜ 65536 ≡ length r ⌝ }
-{
-    [170; 65536]
-}
-
-// How much of it is lent: as much as the first number says, or all.
-fn room(asked: Row, len: usize) -> usize
-    ensures { λ r. ⌜ r ≤ len ⌝ }
-{
-    let v = asked.bits;
-    if v[0] < len as u64 {
-        v[0] as usize
-    } else {
-        len
-    }
-}
-
 fn to_half(bytes: &[u8], out: &mut [u8]) {
     let a = bonvedrick::bv_to_half(bytes, out);
     trial_output::numbers(&[a.code, a.degree, a.read, a.written, a.byte]);
@@ -61,7 +39,8 @@ fn to_whole(bytes: &[u8], out: &mut [u8]) {
 
 // A conversion of the bytes, to the half form or to the whole one, into as much of the space as is lent.
 fn convert(asked: Row, half: bool, bytes: &[u8], space: &mut [u8]) {
-    let k = room(asked, space.len());
+    let v = asked.bits;
+    let k = trial_lines::room(v[0], space.len());
     if half {
         to_half(bytes, &mut space[..k]);
     } else {
@@ -70,7 +49,7 @@ fn convert(asked: Row, half: bool, bytes: &[u8], space: &mut [u8]) {
 }
 
 fn converted(asked: Row, half: bool, bytes: &[u8]) {
-    let mut space = filled();
+    let mut space = trial_lines::filled();
     convert(asked, half, bytes, &mut space);
 }
 

@@ -6,6 +6,7 @@
 // A reader is told the place of the byte before its word, and tells the place after it. From NOWHERE, which is told
 // where a word is not there, nothing can be read: so whoever reads to the end of a line has read all its words well.
 ghost use Prim.Native.Nat.{_≤_};
+ghost use mathlib.Core.Path.{_≡_};
 ghost use lib.ListN.{length};
 ghost use Rattle.trial_lines.specs.Lends.{Lends};
 use digits::byte_at;
@@ -95,7 +96,7 @@ fn number(line: &[u8], at: usize, before: u8) -> Found {
 }
 
 // The number from -2^63 on that a u64 is modulo 2^64.
-fn signed(bits: u64) -> i64 {
+pub fn signed(bits: u64) -> i64 {
     if bits < 9223372036854775808 {
         return bits as i64;
     }
@@ -229,6 +230,24 @@ pub fn bytes(line: &[u8], at: usize, buf: &mut [u8]) -> Lent
     Lent {
         count: of_bytes(count, buf),
         next,
+    }
+}
+
+// Bytes that are lent to be written over. Only the length is known, so that no proof goes through them.
+pub fn filled() -> [u8; 65536]
+    ensures { λ r. ⌜ 65536 ≡ length r ⌝ }
+{
+    [170; 65536]
+}
+
+// How much of such a buffer is lent: as much as is asked for, or all.
+pub fn room(asked: u64, len: usize) -> usize
+    ensures { λ r. ⌜ r ≤ len ⌝ }
+{
+    if asked < len as u64 {
+        asked as usize
+    } else {
+        len
     }
 }
 

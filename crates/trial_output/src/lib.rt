@@ -94,13 +94,18 @@ pub fn two(a: &[i64], b: &[i64]) {
     io::write_all(STDOUT_FILENO, b"\n");
 }
 
-// What stands in some bytes, and the end of the line.
-pub fn bytes(a: &[u8]) {
+// What stands in some bytes.
+pub fn hex(a: &[u8]) {
     io::write_all(STDOUT_FILENO, b" : x");
     let mut i = 0;
     while i < a.len() {
         io::print_hex(STDOUT_FILENO, a[i] as u64, 2);
         i += 1;
     }
+}
+
+// What stands in some bytes, and the end of the line.
+pub fn bytes(a: &[u8]) {
+    hex(a);
     io::write_all(STDOUT_FILENO, b"\n");
 }

@@ -6,7 +6,7 @@ use borrow.Author.Tests.{le-ltb}
 use lib.ListN.{length}
 use lib.Seq.{length-take-le}
 use Rattle.listing.specs.Stream.{after}
-use Rattle.listing.proofs.Whole.{put-first}
+use Rattle.text.proofs.Putting.{put-first}
 use Rattle.list.specs.Handed.{handed}
 use Rattle.list.proofs.main.Statement.{statement}
 use Rattle.list.proofs.main.Tie as tie

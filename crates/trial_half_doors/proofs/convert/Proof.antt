@@ -1,15 +1,12 @@
 -- `convert`: safe, since as much is lent as the space has.
-use Prim.Native.Nat.{ℕ, _≤_}
-use mathlib.Core.Path.{_≡_, sym}
-use mathlib.Core.List.{List}
-use lib.ListN.{length, take}
+use mathlib.Core.Path.{sym}
 use lib.Seq.{length-take-le}
 use borrow.Author.Needs.{needs}
 use Rattle.trial_half_doors.proofs.convert.Statement.{statement}
 use Rattle.trial_half_doors.proofs.convert.Tie as tie
 
-lent : (k : ℕ) (space : List ℕ) → k ≤ length space → k ≡ length (take k space)
-lent k space h = sym (length-take-le k space h)
+array-read-room : tie.Need-array-read-room
+array-read-room c = search needs
 
 room-requires : tie.Need-room-requires
 room-requires c κs = search needs
@@ -18,8 +15,7 @@ slice-relend-prefix-to-half : tie.Need-slice-relend-prefix-to-half
 slice-relend-prefix-to-half c = search needs
 
 slice-aggregate-to-half : tie.Need-slice-aggregate-to-half
-slice-aggregate-to-half c =
-    lent _ (c .before .before .before .before .before .args .space .now) (c .before .before .room .ensures)
+slice-aggregate-to-half c = sym (length-take-le _ _ (c .before .before .room .ensures))
 
 to-half-requires : tie.Need-to-half-requires
 to-half-requires c κs = search needs
@@ -28,8 +24,7 @@ slice-relend-prefix-to-whole : tie.Need-slice-relend-prefix-to-whole
 slice-relend-prefix-to-whole c = search needs
 
 slice-aggregate-to-whole : tie.Need-slice-aggregate-to-whole
-slice-aggregate-to-whole c =
-    lent _ (c .before .before .before .before .before .args .space .now) (c .before .before .room .ensures)
+slice-aggregate-to-whole c = sym (length-take-le _ _ (c .before .before .room .ensures))
 
 to-whole-requires : tie.Need-to-whole-requires
 to-whole-requires c κs = search needs
@@ -50,6 +45,7 @@ pub convert-spec : {M : Type 1} → statement M
 convert-spec =
     tie.close
     (tie.spec
+    array-read-room
     room-requires
     slice-relend-prefix-to-half
     slice-aggregate-to-half

@@ -1,16 +1,16 @@
--- `trial_output::bytes` is safe and ends: the place stays within the slice.
+-- `trial_output::hex` is safe and ends: the place stays within the slice.
 use Prim.Native.Nat.{_-_, _≤_}
 use native.Mathlib.Omega.{arith}
 use borrow.Author.Needs.{needs}
 use lib.ListN.{length}
-use Rattle.trial_output.proofs.bytes.Statement.{statement}
-use Rattle.trial_output.proofs.bytes.Tie as tie
+use Rattle.trial_output.proofs.hex.Statement.{statement}
+use Rattle.trial_output.proofs.hex.Tie as tie
 
 abbrev Inv-loop : tie.InvT-loop
-Inv-loop a i₀ t4 i = i ≤ length a
+Inv-loop a i₀ i = i ≤ length a
 
 abbrev μ-loop : tie.MeasureT-loop
-μ-loop a i₀ t4 i = length a - i
+μ-loop a i₀ i = length a - i
 
 slice-aggregate-write-all : tie.Need-slice-aggregate-write-all Inv-loop μ-loop
 slice-aggregate-write-all c = search needs
@@ -39,17 +39,11 @@ loop-less c = omega arith
 loop-again : tie.Need-loop-again Inv-loop μ-loop
 loop-again c = omega arith
 
-slice-aggregate-write-all-2 : tie.Need-slice-aggregate-write-all-2 Inv-loop μ-loop
-slice-aggregate-write-all-2 c = search needs
-
-write-all-requires-2 : tie.Need-write-all-requires-2 Inv-loop μ-loop
-write-all-requires-2 c κs = tt
-
 returns : tie.Need-returns Inv-loop μ-loop
 returns c = tt
 
-pub bytes-spec : {M : Type 1} → statement M
-bytes-spec =
+pub hex-spec : {M : Type 1} → statement M
+hex-spec =
     tie.close
     (tie.spec
     Inv-loop
@@ -63,6 +57,4 @@ bytes-spec =
     add-i
     loop-less
     loop-again
-    slice-aggregate-write-all-2
-    write-all-requires-2
     returns)

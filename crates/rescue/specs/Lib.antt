@@ -1,0 +1,2 @@
+-- What `rescue` says of a skipped stretch (docs/RULES.md, 'Rescue').
+pub mod Lines
