@@ -1,5 +1,5 @@
 -- Converting: the answers, a code each, from the tests that led there; and what the stores leave.
-use Prim.Native.Nat.{ℕ, zero, suc, _+_, _*_, _-_, _≤_, _<_}
+use Prim.Native.Nat.{ℕ, zero, suc, _+_, _*_, _≤_, _<_}
 use mathlib.Core.Path.{_≡_, refl, sym, ap, ap₂, _∙_}
 use mathlib.Core.Bool.{Bool, true, false, cond, not, true≢false}
 use mathlib.Core.List.{List, [], _∷_, _++_, append-assoc}
@@ -13,7 +13,7 @@ use borrow.Author.Tests.{ne-eqb, lt-ltb, le-ltb}
 use Rattle.definitions.specs.Codes.{DONE, SHORT, CUT, WIDTH, UNEVEN}
 use Rattle.definitions.specs.Halves.{halfOf, firstHalf, negates, rebuilt}
 use Rattle.even_halves.specs.Halves.{half-rebuilt, length-rebuilt}
-use Rattle.widths.specs.Numbers.{bytesOf, number, twos, signedOf, body, coefficientsAt, width}
+use Rattle.widths.specs.Numbers.{bytesOf, twos, body, coefficientsAt, width}
 use Rattle.widths.proofs.Digits.{Bytes, bytes-drop, body-coefficients}
 use Rattle.record.specs.Header.{headerOf, fields, kindIn, widthIn, indexIn, countIn, degreeIn, headerCode, byteOf}
 use Rattle.record.proofs.Headers.{right, length-header, header-codes}

@@ -1,6 +1,6 @@
 -- The first half of F(n) from the kept half for r: as many entries as it has (`half-long`), the kept half after all steps
 -- (`steps-left`), with the signs of an even index that of m (`signed-is`), and with z^t for z that of n (`half-is`).
-use Prim.Native.Nat.{ℕ, suc, _+_, _*_, _/_, _%_, _≤_, _<_}
+use Prim.Native.Nat.{ℕ, suc, _+_, _*_, _%_, _≤_, _<_}
 use mathlib.Core.Path.{_≡_, refl, sym, ap, ap₂, _∙_}
 use mathlib.Core.Bool.{Bool, true, false, cond}
 use mathlib.Core.List.{List, _++_}
@@ -8,14 +8,14 @@ use mathlib.Core.Logic.{_≢_}
 use native.Mathlib.Omega.{arith}
 use native.Mathlib.Nat as NatL
 use native.Mathlib.Numerals.{add-one}
-use lib.ListN.{length, take, drop, length-append, length-drop, List·getD-append}
-use lib.Seq.{ext-getD, getD-take, length-take-le}
+use lib.ListN.{length, take, List·getD-append}
+use lib.Seq.{getD-take, length-take-le}
 use lib.Dec.{eqb}
 use lib.IntN.{ℤ, natAbs}
 use Rattle.definitions.specs.Integers.{0ℤ}
 use Rattle.definitions.specs.Series.{Series, firsts, alternate, spread}
 use Rattle.definitions.specs.Steps.{entries, largest}
-use Rattle.definitions.specs.Numbers.{divides, phi, rOf, mOf, tOf, divisorsBelow}
+use Rattle.definitions.specs.Numbers.{divides, phi, rOf, mOf}
 use Rattle.definitions.specs.KeptHalf.{halfDegree}
 use Rattle.definitions.specs.Polynomials.{polynomial, degree}
 use Rattle.definitions.specs.Requests.{goodIndex, divisorsDue}

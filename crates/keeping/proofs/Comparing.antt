@@ -15,7 +15,7 @@ use lib.IntN.{ℤ, pos}
 use Rattle.definitions.specs.Codes.{DONE}
 use Rattle.definitions.specs.Steps.{entries, largest}
 use Rattle.definitions.specs.Polynomials.{degree, polynomial}
-use Rattle.definitions.specs.Requests.{knownKind, goodIndex, written}
+use Rattle.definitions.specs.Requests.{goodIndex, written}
 use Rattle.definitions.specs.Answer.{coefficients, height, heightOf}
 use Rattle.definitions.specs.Halves.{differ}
 use Rattle.step_laws.specs.Firsts.{length-firsts}

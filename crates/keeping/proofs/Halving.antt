@@ -13,7 +13,7 @@ use lib.Seq.{length-take-le}
 use lib.IntN.{ℤ}
 use Rattle.definitions.specs.Codes.{DONE}
 use Rattle.definitions.specs.Numbers.{rOf, productOfTo, oddPrimeOf, isPrime}
-use Rattle.definitions.specs.Answer.{coefficients, height, heightOf}
+use Rattle.definitions.specs.Answer.{height, heightOf}
 use Rattle.definitions.specs.Halves.{halfOf, firstHalf, negates, rebuilt, uneven}
 use Rattle.step_laws.specs.Tests.{not-false-is}
 use Rattle.even_halves.specs.Halves.{rebuilt-half, height-rebuilt}

@@ -8,7 +8,6 @@ use native.Mathlib.Omega.{arith}
 use native.Mathlib.Nat as NatL
 use native.Mathlib.Decide.{ℕ-discrete}
 use native.Mathlib.Numerals.{add-one}
-use borrow.Author.Tests.{le-ltb, lt-leb}
 use lib.Dec.{eqb}
 use lib.IntN.{ℤ, pos, natAbs}
 use lib.ListN.{length, take, drop, getD, length-append, length-drop, List·getD-append, getD-replicate}
@@ -21,7 +20,7 @@ use Rattle.definitions.specs.Integers.{0ℤ}
 use Rattle.definitions.specs.Series.{firsts}
 use Rattle.definitions.specs.Numbers.{rOf, mOf, phi, kOf}
 use Rattle.definitions.specs.Polynomials.{F, degree, polynomial}
-use Rattle.definitions.specs.Steps.{entries, largest, belowOne}
+use Rattle.definitions.specs.Steps.{entries, largest}
 use Rattle.definitions.specs.Requests.{knownKind, goodIndex, divisorsDue, overAmong}
 use Rattle.definitions.specs.Requests.{written, zeros}
 use Rattle.definitions.specs.Answer.{coefficients, height, gain}
@@ -34,10 +33,11 @@ use Rattle.step_laws.specs.Tests.{by-order}
 use Rattle.cyclotomic.specs.Degrees.{monic-F}
 use Rattle.cyclotomic.specs.Gain.{gains, gain-prime, gain-composite}
 use Rattle.answers.specs.declared.Answer.{Answer}
-use Rattle.answers.specs.Polynomial.{code, answered, answer, left, leaves}
+use Rattle.answers.specs.Polynomial.{answered, answer, left, leaves}
 use Rattle.index.proofs.Laws.{index-good}
 use Rattle.never_over.specs.Promised.{promisedAt}
 use Rattle.never_over.specs.Heights as Heights
+use Rattle.never_over.specs.Delivered as Deliveries
 use Rattle.next_factor.specs.Taking.{First}
 use Rattle.next_factor.specs.Times.{factor}
 
@@ -79,17 +79,13 @@ module _ (n : ℕ) (good : goodIndex n ≡ true) where
       ap pos (read ∙ ap (λ x. natAbs (seen x)) (e ∙ whole) ∙ ap natAbs (toZ-ofZ fits)) ∙ sym whole
 
   module _ (l : List ℤ) (room : phi n < length l) where
-    delivered : code 1 n (pos largest) (pos largest) (length l) ≡ DONE
-    unfolding code knownKind belowOne degree
-    delivered = rw (good, lt-leb (length l) (phi n) room, never, le-ltb largest (height 1 n) height-fits)
-
     its-answer : answer 1 n (pos largest) (pos largest) (length l) ≡ answered 1 n DONE
-    unfolding answer
-    its-answer = ap (answered 1 n) delivered
+    unfolding knownKind degree
+    its-answer = Deliveries.answer-delivered 1 n refl good (length l) room
 
     its-leaves : leaves 1 n (pos largest) (pos largest) l ≡ written (coefficients 1 n) l
-    unfolding leaves left
-    its-leaves = ap (λ c. left 1 n c l) delivered
+    unfolding knownKind degree
+    its-leaves = Deliveries.leaves-delivered 1 n refl good l room
 
     factor-length : length (coefficients 1 n) ≡ suc (phi n)
     unfolding coefficients degree

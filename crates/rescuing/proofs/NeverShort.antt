@@ -1,21 +1,21 @@
 -- Rooms so large that SHORT is never given: as many bytes as the shelf has, a number more than it has bytes, and 65,536
 -- coefficients (`never-short`). A list of two numbers for each 11 bytes, rounded up, does too (`roomy-done`).
 use Prim.Native.Nat.{ℕ, zero, suc, _+_, _*_, _/_, _≤_, _<_}
-use mathlib.Core.Path.{_≡_, refl, sym, ap, _∙_}
-use mathlib.Core.Bool.{Bool, true, false, cond, not, _&&_, _||_}
-use mathlib.Core.List.{List, [], _∷_, _++_}
+use mathlib.Core.Path.{_≡_, refl, ap, _∙_}
+use mathlib.Core.Bool.{Bool, true, false, not, _&&_}
+use mathlib.Core.List.{List, [], _∷_}
 use native.Mathlib.Omega.{arith}
 use borrow.Author.Tests.{eqb-true, le-ltb}
-use lib.ListN.{length, drop, length-append}
+use lib.ListN.{length, length-append}
 use lib.Dec.{eqb, ltb}
-use Rattle.definitions.specs.Codes.{DONE, SHORT}
+use Rattle.definitions.specs.Codes.{DONE}
 use Rattle.record.specs.Header.{countIn}
 use Rattle.widths.proofs.Digits.{Bytes, bytes-drop}
 use Rattle.forms.proofs.Reading.{count-small}
 use Rattle.shelf.specs.Format.{wholeMark, lookCode}
 use Rattle.shelf.proofs.Alone.{header-looked}
 use Rattle.keeping.specs.Keepable.{keepable, cramped, crampedTo, toNext}
-use Rattle.rescuing.specs.Rescue.{sizeAt, leftBy, stretch, kept, listed, rescueCode}
+use Rattle.rescuing.specs.Rescue.{sizeAt, stretch, kept, listed, rescueCode}
 use Rattle.rescuing.proofs.Searches.{there, left-is, by-searches}
 use Rattle.rescuing.proofs.Turns.{listedIn, crampedIn, listed-none, listed-step, cramped-none, cramped-step}
 use Rattle.rescuing.proofs.Turns.{stretch-empty, stretch-some, kept-le, listed-le}

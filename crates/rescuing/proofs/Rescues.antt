@@ -5,13 +5,11 @@
 use Prim.Native.Nat.{ℕ, zero, suc, _+_, _-_, _≤_, _<_}
 use mathlib.Core.Path.{_≡_, refl, sym, ap, ap₂, _∙_}
 use mathlib.Core.Bool.{true}
-use mathlib.Core.List.{List, [], _∷_, _++_, append-assoc, append-nil}
+use mathlib.Core.List.{List, [], _∷_, _++_, append-assoc}
 use mathlib.Core.Logic.{_⊎_, inl, inr, ⊎-elim}
 use native.Mathlib.Omega.{arith}
-use native.Mathlib.Nat.{zero-add}
-use native.Mathlib.Decide.{ℕ-discrete}
 use lib.ListN.{length, take, drop, length-append, take-append-drop}
-use lib.Seq.{take-at, drop-at, take-length, take-nil, take-append-add, drop-append-add, drop-drop}
+use lib.Seq.{take-at, drop-at, take-length, take-nil, take-append-add, drop-append-add}
 use Rattle.definitions.specs.Codes.{DONE}
 use Rattle.definitions.specs.Answer.{coefficients}
 use Rattle.record.specs.Header.{kindIn, indexIn, countIn}

@@ -1,7 +1,7 @@
 -- One search after the other. What a search skips, the record it finds and what is left are the bytes it was in
 -- (`made-up`); it goes on by a byte at least (`goes-on`), so that there are no more searches than bytes, and of all of
 -- them the first is that in the whole (`searches-step`).
-use Prim.Native.Nat.{ℕ, zero, suc, _+_, _-_, _≤_, _<_}
+use Prim.Native.Nat.{ℕ, zero, suc, _+_, _≤_, _<_}
 use mathlib.Core.Path.{_≡_, refl, sym, ap, _∙_}
 use mathlib.Core.Bool.{true}
 use mathlib.Core.List.{List, [], _∷_, _++_}

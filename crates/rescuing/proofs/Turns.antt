@@ -3,25 +3,24 @@
 -- (`Wrote`).
 use Prim.Native.Nat.{ℕ, zero, suc, _+_, _*_, _-_, _≤_, _<_}
 use mathlib.Core.Path.{_≡_, refl, sym, ap, _∙_}
-use mathlib.Core.Bool.{Bool, true, false, cond, _||_}
+use mathlib.Core.Bool.{Bool, true, false, _||_}
 use mathlib.Core.List.{List, [], _∷_, _++_, append-nil, append-assoc}
-use mathlib.Core.Logic.{_⊎_, inl, inr, ⊎-elim}
+use mathlib.Core.Logic.{_⊎_, ⊎-elim}
 use native.Mathlib.Omega.{arith}
 use native.Mathlib.Nat.{zero-add}
 use borrow.Author.Tests.{eq-eqb, ne-eqb}
 use lib.ListN.{length, take, drop, length-append, length-drop, drop-of-length-le}
 use borrow.Rule.Slice.PartMut.{putMid}
 use lib.Seq.{sets, sets-eq, length-sets, drop-drop}
-use lib.Dec.{eqb}
 use Rattle.record.proofs.Passes.{sets-append}
 use Rattle.shelf.proofs.Alone.{tail}
 use Rattle.step_laws.specs.Tests.{neither}
 use Rattle.keeping.specs.Keepable.{toNext, crampedTo}
 use Rattle.rescuing.specs.declared.passes.Next.{Next}
-use Rattle.rescuing.specs.Rescue.{skippedBy, sizeAt, foundBy, leftBy, searches, keptBy, stretch, listedBy, crampedBy}
+use Rattle.rescuing.specs.Rescue.{sizeAt, foundBy, leftBy, searches, keptBy, stretch, listedBy, crampedBy}
 use Rattle.rescuing.specs.Rescue.{kept, listed}
 use Rattle.rescuing.specs.Passes.{NextIs}
-use Rattle.rescuing.proofs.Searches.{there, size-there, length-skipped, length-found, left-is, length-left}
+use Rattle.rescuing.proofs.Searches.{there, length-skipped, length-found, left-is, length-left}
 use Rattle.rescuing.proofs.Searches.{found-or-end, searches-none, searches-step, by-searches}
 
 -- a stretch has two numbers, an empty one none

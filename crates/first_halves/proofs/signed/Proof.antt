@@ -1,5 +1,5 @@
 -- `signed`: as they are, or alternated.
-use mathlib.Core.Path.{_≡_, refl, sym, _∙_}
+use mathlib.Core.Path.{sym}
 use borrow.Author.Needs.{needs}
 use Rattle.step_laws.specs.Firsts.{firsts-entries}
 use Rattle.first_halves.proofs.signed.Statement.{statement}

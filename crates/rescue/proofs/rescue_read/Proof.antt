@@ -1,11 +1,11 @@
 -- `rescue::rescue_read` is safe and ends. In these rooms SHORT can't be met (`roomy-done`), so what it hands over is all
 -- that is kept, and then all that is listed (`delivered`).
-use Prim.Native.Nat.{ℕ, _*_, _/_, _≤_}
+use Prim.Native.Nat.{ℕ, _*_, _≤_}
 use mathlib.Core.Path.{_≡_, refl, ap, _∙_}
 use mathlib.Core.List.{List, _++_}
 use native.Mathlib.Omega.{arith}
 use borrow.Author.Needs.{needs}
-use lib.ListN.{length, take, drop, length-append}
+use lib.ListN.{length, take, length-append}
 use lib.Seq.{take-at, length-take-le}
 use Rattle.definitions.specs.Codes.{DONE}
 use Rattle.widths.proofs.Digits.{bytes-each}

@@ -1,5 +1,5 @@
 -- `rescue`: the answer and what is left, by the code (Codes).
-use mathlib.Core.Path.{_≡_, refl, sym, _∙_, ap}
+use mathlib.Core.Path.{_≡_, sym, _∙_, ap}
 use mathlib.Core.Bool.{false}
 use lib.ListN.{length}
 use Rattle.definitions.specs.Codes.{DONE}

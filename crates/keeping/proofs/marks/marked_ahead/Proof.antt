@@ -1,14 +1,12 @@
 -- `marked_ahead`: none was found, so none starts among the first i (Searching).
-use Prim.Native.Nat.{ℕ, _+_, _-_, _≤_}
-use mathlib.Core.Path.{_≡_, refl, sym, _∙_, ap}
-use mathlib.Core.Bool.{Bool, true, false, _||_}
+use Prim.Native.Nat.{_+_, _-_, _≤_}
+use mathlib.Core.Path.{_≡_}
+use mathlib.Core.Bool.{false}
 use native.Mathlib.Omega.{arith}
-use borrow.Author.Needs.{needs}
 use borrow.Author.Tests.{eqb-false}
-use lib.ListN.{length}
 use Rattle.step_laws.specs.Tests.{neither}
 use Rattle.keeping.specs.Trying.{Unmarked}
-use Rattle.keeping.proofs.Searching.{unmarked-none, unmarked-more, unmarked-one}
+use Rattle.keeping.proofs.Searching.{unmarked-more, unmarked-one}
 use Rattle.keeping.proofs.marks.marked_ahead.Statement.{statement}
 use Rattle.keeping.proofs.marks.marked_ahead.Tie as tie
 
@@ -39,8 +37,8 @@ loop-again c =
     let a = loop .before .args in
     let k = loop .loop .i in (
       (λ e. let p = neither (loop .loop .found) _ e in
-      unmarked-more (a .shelf .now) (a .at) (a .at + k) (a .at + (k + 1)) (loop .loop .inv .0 (p .0))
-      (unmarked-one (a .shelf .now) (a .at + k) (a .at + (k + 1)) (omega arith) (eqb-false _ _ (p .1)))),
+          unmarked-more (a .shelf .now) (a .at) (a .at + k) (a .at + (k + 1)) (loop .loop .inv .0 (p .0))
+          (unmarked-one (a .shelf .now) (a .at + k) (a .at + (k + 1)) (omega arith) (eqb-false _ _ (p .1)))),
       omega arith,
     )
 

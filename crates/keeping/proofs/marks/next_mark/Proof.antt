@@ -1,9 +1,7 @@
 -- `next_mark`: none starts from the first place to `at` (Searching).
-use Prim.Native.Nat.{ℕ, _+_, _-_, _≤_}
-use mathlib.Core.Path.{_≡_, refl, sym, _∙_, ap}
-use mathlib.Core.Bool.{Bool, true, false, _||_}
+use Prim.Native.Nat.{_+_, _-_, _≤_}
+use mathlib.Core.Path.{refl}
 use native.Mathlib.Omega.{arith}
-use borrow.Author.Needs.{needs}
 use lib.ListN.{length}
 use Rattle.keeping.specs.Trying.{Unmarked}
 use Rattle.keeping.proofs.Searching.{unmarked-more, unmarked-one}

@@ -1,7 +1,7 @@
 -- `differ_at`: none of those before i differs; where one of the next sixteen does, one of all does (Comparing).
 use Prim.Native.Nat.{ℕ, _+_, _-_, _≤_}
 use mathlib.Core.Path.{_≡_, refl, sym, _∙_, ap}
-use mathlib.Core.Bool.{Bool, true, false, _||_}
+use mathlib.Core.Bool.{Bool, false, _||_}
 use native.Mathlib.Omega.{arith}
 use lib.ListN.{length, drop}
 use Rattle.widths.specs.Numbers.{coefficientsAt}

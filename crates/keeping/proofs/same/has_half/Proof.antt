@@ -1,6 +1,6 @@
 -- `has_half`: the first half of its polynomial, and the record's own halves (Halving).
 use Prim.Native.Nat.{ℕ, _≤_}
-use mathlib.Core.Path.{_≡_, refl, sym, _∙_, ap, ap₂}
+use mathlib.Core.Path.{_≡_, sym, _∙_, ap, ap₂}
 use mathlib.Core.Bool.{false, not}
 use mathlib.Core.List.{List, _++_}
 use native.Mathlib.Omega.{arith}
@@ -11,7 +11,7 @@ use Rattle.definitions.specs.Answer.{coefficients, height}
 use Rattle.widths.specs.Numbers.{coefficientsAt, widths, leastOf}
 use Rattle.definitions.specs.Halves.{halfOf, firstHalf, uneven}
 use Rattle.widths.proofs.Digits.{Bytes, bytes-each}
-use Rattle.record.specs.Header.{kindIn, widthIn, indexIn, countIn}
+use Rattle.record.specs.Header.{kindIn, indexIn, countIn}
 use Rattle.keeping.proofs.Comparing.{own, header, fits, good-in, another-wide}
 use Rattle.keeping.proofs.Halving.{counted-degree, half-own, comparable-half, halves-differ, halves-same, stored-right}
 use borrow.Author.Needs.{needs}

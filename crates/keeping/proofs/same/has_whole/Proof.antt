@@ -11,7 +11,7 @@ use Rattle.record.specs.Header.{kindIn, indexIn, countIn}
 use native.Mathlib.Omega.{arith}
 use borrow.Author.Needs.{needs}
 use Rattle.widths.proofs.Digits.{Bytes, bytes-each}
-use Rattle.keeping.proofs.Comparing.{header, fits, another-wide, own-fits, made-height, made-is, comparable, compared}
+use Rattle.keeping.proofs.Comparing.{header, fits, another-wide, made-height, made-is, comparable, compared}
 use Rattle.keeping.proofs.same.has_whole.Statement.{statement}
 use Rattle.keeping.proofs.same.has_whole.Tie as tie
 

@@ -1,5 +1,5 @@
 -- `is_same`: by halves where that is known to do, else as a whole.
-use mathlib.Core.Path.{_≡_, refl, sym, _∙_, ap}
+use mathlib.Core.Path.{_≡_, sym, _∙_, ap}
 use borrow.Author.Needs.{needs}
 use Rattle.widths.proofs.Digits.{bytes-each}
 use Rattle.record.specs.Header.{indexIn}

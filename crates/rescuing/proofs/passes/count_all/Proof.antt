@@ -1,13 +1,12 @@
 -- `count_all`: what was counted, and what the rest counts, is that of the whole shelf (Turns).
 use Prim.Native.Nat.{ℕ, _+_, _-_, _<_, _≤_}
-use mathlib.Core.Path.{_≡_, refl, sym, _∙_, ap}
+use mathlib.Core.Path.{_≡_, refl, sym, _∙_}
 use mathlib.Core.Bool.{true, false, true≢false}
 use mathlib.Core.List.{List}
 use native.Mathlib.Omega.{arith}
-use borrow.Author.Needs.{needs}
 use lib.ListN.{length}
 use Rattle.rescuing.specs.Rescue.{stretch}
-use Rattle.rescuing.specs.Passes.{NextIs, CountIs}
+use Rattle.rescuing.specs.Passes.{NextIs}
 use Rattle.rescuing.proofs.Turns.{Counted, counted-none, counted-cramped, counted-turn, counted-all, counts-small}
 use Rattle.rescuing.proofs.Turns.{bounds}
 use Rattle.rescuing.proofs.passes.count_all.Statement.{statement}

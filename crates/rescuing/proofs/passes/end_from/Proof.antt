@@ -1,10 +1,9 @@
 -- `end_from`: at the end there is no record, and before it one that is kept (Searches).
 use borrow.Author.Needs.{needs}
 use Prim.Native.Nat.{ℕ, _+_}
-use mathlib.Core.Path.{_≡_, refl, sym, _∙_, ap}
-use mathlib.Core.List.{List}
+use mathlib.Core.Path.{sym, _∙_, ap}
 use native.Mathlib.Omega.{arith}
-use lib.ListN.{length, drop, length-drop, drop-of-length-le}
+use lib.ListN.{drop, length-drop, drop-of-length-le}
 use Rattle.record.specs.Header.{headerCode}
 use Rattle.shelf.specs.Format.{wholeMark, sizeIn}
 use Rattle.shelf.proofs.Alone.{tail}

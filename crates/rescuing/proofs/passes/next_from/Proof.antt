@@ -1,8 +1,7 @@
 -- `next_from`: a search, and the end of the record that it found.
 use borrow.Author.Needs.{needs}
-use mathlib.Core.Path.{_≡_, refl, sym, _∙_}
+use mathlib.Core.Path.{sym, _∙_}
 use mathlib.Core.Bool.{true≢false}
-use Rattle.rescuing.specs.Passes.{NextIs}
 use Rattle.rescuing.proofs.passes.next_from.Statement.{statement}
 use Rattle.rescuing.proofs.passes.next_from.Tie as tie
 

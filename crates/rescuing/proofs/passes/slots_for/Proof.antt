@@ -1,5 +1,5 @@
 -- `slots_for`: two numbers, or none (Turns).
-use mathlib.Core.Path.{_≡_, refl, sym, ap}
+use mathlib.Core.Path.{sym, ap}
 use native.Mathlib.Omega.{arith}
 use lib.ListN.{length}
 use Rattle.rescuing.proofs.Turns.{stretch-empty, stretch-some}

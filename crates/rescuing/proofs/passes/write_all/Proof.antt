@@ -1,12 +1,11 @@
 -- `write_all`: what was written, and what is to be written of the rest, is what is written of the whole shelf (Turns).
 use Prim.Native.Nat.{ℕ, _+_, _-_, _<_, _≤_}
-use mathlib.Core.Path.{_≡_, refl, sym, _∙_, ap}
-use mathlib.Core.Bool.{true, false}
+use mathlib.Core.Path.{_≡_, refl, _∙_}
+use mathlib.Core.Bool.{false}
 use mathlib.Core.List.{List}
 use native.Mathlib.Omega.{arith}
-use borrow.Author.Needs.{needs}
 use lib.ListN.{length}
-use Rattle.rescuing.specs.Rescue.{stretch, crampedBy, searches, kept, listed}
+use Rattle.rescuing.specs.Rescue.{stretch, kept}
 use Rattle.rescuing.specs.Passes.{NextIs}
 use Rattle.rescuing.proofs.Turns.{Counted, counted-none, counted-turn, counted-all, Wrote, wrote-none, wrote-turn}
 use Rattle.rescuing.proofs.Codes.{Fits, fits}
