@@ -2,3 +2,4 @@
 pub mod Rescue
 pub mod Passes
 pub mod Pieces
+pub mod Vectors
