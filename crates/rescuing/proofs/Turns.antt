@@ -96,9 +96,6 @@ listed-le =
 
 -- a place of a shelf, and the search from there
 module _ (room : ℕ) (shelf : List ℕ) (at : ℕ) (l : at < length shelf) where
-  left : List ℕ
-  left = drop at shelf
-
   some : 0 < length (drop at shelf)
   some = rw length-drop (omega arith)
 
