@@ -1,5 +1,6 @@
--- The first half of F(n) from the kept half for r: as many entries as it has (`half-long`), the kept half after all steps
--- (`steps-left`), with the signs of an even index that of m (`signed-is`), and with z^t for z that of n (`half-is`).
+-- The first half of F(n) from the kept half for r: as many entries as it has (`half-long`), the kept half after all
+-- steps (`steps-left`), with the signs of an even index that of m (`signed-is`), and with z^t for z that of n
+-- (`half-is`).
 use Prim.Native.Nat.{ℕ, suc, _+_, _*_, _%_, _≤_, _<_}
 use mathlib.Core.Path.{_≡_, refl, sym, ap, ap₂, _∙_}
 use mathlib.Core.Bool.{Bool, true, false, cond}
@@ -111,7 +112,8 @@ module _ (n : ℕ) (a : Parts) (parts : a ≡ partsOf n) (good : goodIndex n ≡
       ey ∙ ap (λ (k : ℕ). firsts k (spread (a .t) (entries (x ++ rest)))) long
       ∙ firsts-same (D * a .t + 1) _ (polynomial 1 n)
       (λ k l. spread-front (a .t) D t-some (entries (x ++ rest)) (polynomial 1 (mOf n)) front k l
-      ∙ ap (λ (f : Series). f k) (ap (λ (t : ℕ). spread t (polynomial 1 (mOf n))) (parts-t n a parts) ∙ sym (taken-apart 1 n pos)))
+      ∙ ap (λ (f : Series). f k) (ap (λ (t : ℕ). spread t (polynomial 1 (mOf n))) (parts-t n a parts) ∙ sym
+      (taken-apart 1 n pos)))
       ∙ sym first
     where
       front : (i : ℕ) → i < D + 1 → entries (x ++ rest) i ≡ polynomial 1 (mOf n) i

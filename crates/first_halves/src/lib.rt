@@ -26,7 +26,8 @@ fn signed(a: &mut [i64], even: bool)
     requires { ⌜ InRange (length (now a)) (now a) ⌝ }
     ensures { λ _.
         ⌜ now (a .exit)
-        ≡ firsts (length (now (a .entry))) (cond even (alternate (entries (now (a .entry)))) (entries (now (a .entry)))) ⌝ }
+        ≡ firsts (length (now (a .entry))) (cond even (alternate (entries (now (a .entry))))
+        (entries (now (a .entry)))) ⌝ }
 {
     if even {
         shapes::alternate(a);

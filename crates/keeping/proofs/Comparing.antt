@@ -59,12 +59,10 @@ module _ (cs ds : List ℤ) where
   alike-same long e = ext-getD _ cs ds long (λ i l. each-alike (length cs) e i l)
 
 -- a loop that looks: one more, and on from one that was found
-pub or-none : (a : Bool) → (a || false) ≡ a
-or-none true = refl
-or-none false = refl
-
-pub differ-next : (cs ds : List ℤ) (from i : ℕ) (before found here : Bool) → (before || found) ≡ differTo (from + i) cs ds
-    → here ≡ differ (entries cs (from + i)) (entries ds (from + i)) → (before || (found || here)) ≡ differTo (from + (i + 1)) cs ds
+pub differ-next : (cs ds : List ℤ) (from i : ℕ) (before found here : Bool) → (before || found) ≡ differTo
+    (from + i) cs ds
+    → here ≡ differ (entries cs (from + i)) (entries ds (from + i)) → (before || (found || here)) ≡ differTo
+    (from + (i + 1)) cs ds
 unfolding differTo
 differ-next cs ds from i before found here e h =
     let next : from + (i + 1) ≡ suc (from + i) = omega arith in
@@ -101,7 +99,8 @@ module _ (bs : List ℕ) (good : lookCode bs ≡ DONE) where
 
 module _ (bs : List ℕ) (bytes : Bytes bs) (good : lookCode bs ≡ DONE) where
   pub good-in : goodIndex (indexIn bs) ≡ true
-  good-in = good-index (indexIn bs) (pos-of-ne-zero (header bs good .index)) (index-small bs (header bs good .long) bytes)
+  good-in = good-index (indexIn bs) (pos-of-ne-zero (header bs good .index))
+      (index-small bs (header bs good .long) bytes)
 
   pub length-own : length (own bs) ≡ countIn bs
   unfolding coefficients degreeIn

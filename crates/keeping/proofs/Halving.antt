@@ -29,7 +29,8 @@ use Rattle.forms.proofs.Done.{stored-fits}
 use Rattle.forms.proofs.ReadWrite.{length-whole}
 use Rattle.shelf.specs.Format.{lookCode}
 use Rattle.keeping.specs.Keepable.{differTo, another}
-use Rattle.keeping.proofs.Comparing.{own, header, fits, length-own, own-same, same-own, own-fits, same-alike, alike-same}
+use Rattle.keeping.proofs.Comparing.{own, header, fits, length-own, own-same, same-own, own-fits, same-alike}
+use Rattle.keeping.proofs.Comparing.{alike-same}
 
 pub counted-degree : (bs : List ℕ) → lookCode bs ≡ DONE → kindIn bs ≡ 1 → countIn bs ≡ degree 1 (indexIn bs) + 1
 unfolding degreeIn
@@ -85,7 +86,8 @@ module _ (bs : List ℕ) (bytes : Bytes bs) (good : lookCode bs ≡ DONE) (kind 
   height-half : heightOf (own bs) ≡ heightOf (firstHalf (own bs))
   height-half =
       ap heightOf (sym own-rebuilt)
-      ∙ height-rebuilt false (length (own bs)) (firstHalf (own bs)) (half-own ∙ ap halfOf (sym (length-own bs bytes good)))
+      ∙ height-rebuilt false (length (own bs)) (firstHalf (own bs))
+      (half-own ∙ ap halfOf (sym (length-own bs bytes good)))
 
   -- where a half, or both, differ
   is-another : (another bs ≡ false → ⊥) → false ≡ not (another bs)

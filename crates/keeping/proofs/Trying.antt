@@ -2,13 +2,14 @@
 -- each outcome says. What is kept reads well and has the coefficients of its kind and index (`keepable-reads`).
 use Prim.Native.Nat.{ℕ, _≤_, _<_}
 use mathlib.Core.Path.{_≡_, refl, sym, ap, _∙_}
-use mathlib.Core.Bool.{Bool, true, false, cond, not, _&&_, true≢false, Bool·not-not}
+use mathlib.Core.Bool.{Bool, true, false, cond, not, _&&_, Bool·not-not}
 use mathlib.Core.List.{List}
 use borrow.Author.Tests.{eq-eqb, ne-eqb, eqb-true, lt-ltb, le-ltb}
 use lib.ListN.{getD}
 use lib.Dec.{eqb}
 use Rattle.definitions.specs.Codes.{DONE}
 use Rattle.record.specs.Header.{countIn, marked}
+use Rattle.record.proofs.HeaderTrips.{and-both}
 use Rattle.shelf.specs.Format.{lookCode}
 use Rattle.keeping.specs.declared.Tried.{Tried}
 use Rattle.keeping.specs.declared.Tried.the-variants.{Kept, Cramped, Passed}
@@ -16,16 +17,11 @@ use Rattle.keeping.specs.Keepable.{another, keepable, cramped}
 use Rattle.keeping.specs.Trying.{triedOf}
 use Rattle.keeping.proofs.Comparing.{header}
 
--- both
-pub both : (a b : Bool) → (a && b) ≡ true → (a ≡ true) × (b ≡ true)
-both true b e = (refl, e)
-both false b e = absurd (true≢false (sym e))
-
 -- what is kept reads, and is not another; and the other way round
 pub keepable-reads : (bs : List ℕ) → keepable bs ≡ true → (lookCode bs ≡ DONE) × (another bs ≡ false)
 unfolding keepable
 keepable-reads bs e =
-    let p = both (eqb (lookCode bs) DONE) (not (another bs)) e in
+    let p = and-both (eqb (lookCode bs) DONE) (not (another bs)) e in
     (eqb-true (lookCode bs) DONE (p .0), sym (Bool·not-not (another bs)) ∙ ap not (p .1))
 
 pub reads-keepable : (bs : List ℕ) → lookCode bs ≡ DONE → another bs ≡ false → keepable bs ≡ true
@@ -43,7 +39,7 @@ module _ (room : ℕ) (bs : List ℕ) where
   tried-unmarked u = tried-unread (λ good. u (first (getD bs 0 0) _ (header bs good .is-marked)))
     where
       first : (b : ℕ) (t : Bool) → (eqb b 0xC9 && t) ≡ true → b ≡ 0xC9
-      first b t e = eqb-true b 0xC9 (both (eqb b 0xC9) t e .0)
+      first b t e = eqb-true b 0xC9 (and-both (eqb b 0xC9) t e .0)
 
   module _ (good : lookCode bs ≡ DONE) where
     pub tried-cramped : room < countIn bs → Cramped ≡ triedOf room bs

@@ -1,5 +1,5 @@
--- Which record is kept (docs/RULES.md, 'Rescue'): one that reads without refusal and whose coefficients are those of its
--- kind and index. And the search for the next one, byte by byte.
+-- Which record is kept (docs/RULES.md, 'Rescue'): one that reads without refusal and whose coefficients are those of
+-- its kind and index. And the search for the next one, byte by byte.
 use Prim.Native.Nat.{ℕ, zero, suc}
 use mathlib.Core.Bool.{Bool, false, cond, not, _&&_, _||_}
 use mathlib.Core.List.{List, [], _∷_}

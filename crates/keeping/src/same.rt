@@ -92,7 +92,7 @@ fn differ_at(bytes: &[u8], w: usize, coeffs: &[i64]) -> bool
     differ_some(bytes, w, coeffs, i, coeffs.len() - i)
 }
 
-// The same, with a loop of its own for each width.
+// The same, with a loop of its own for width 1, which all but two polynomials have.
 fn differ_in(bytes: &[u8], w: usize, coeffs: &[i64]) -> bool
     requires { ⌜ (oneOf widths w ≡ true) × (10 + length (now coeffs) * w ≤ length (now bytes))
         × (heightOf (now coeffs) ≤ top w) ⌝ }
@@ -100,12 +100,10 @@ fn differ_in(bytes: &[u8], w: usize, coeffs: &[i64]) -> bool
         ⌜ r ≡ differTo (length (now (coeffs .entry)))
         (coefficientsAt w (length (now (coeffs .entry))) (drop 10 (now (bytes .entry)))) (now (coeffs .entry)) ⌝ }
 {
-    match w {
-        1 => differ_at(bytes, 1, coeffs),
-        2 => differ_at(bytes, 2, coeffs),
-        4 => differ_at(bytes, 4, coeffs),
-        _ => differ_at(bytes, 8, coeffs),
+    if w == 1 {
+        return differ_at(bytes, 1, coeffs);
     }
+    differ_at(bytes, w, coeffs)
 }
 
 // Does a record that reads well have the coefficients of its kind and index? They are made, and where they have its

@@ -1,10 +1,9 @@
 // `rescue` (docs/RULES.md, 'Rescue'): a damaged shelf on standard input to the rescued one on standard output, and then
-// a line on standard error for each skipped stretch, its start and its length. What is kept and what is skipped is found
-// by the proved library `rescuing`; here it is read and written. Where a read or a write fails, or there is more than
-// the program holds, one line on standard error says so, and the run ends.
-// No contract can say what a read gave or a write wrote. What is said is what is handed over: `write_kept` alone writes
-// to standard output, and takes nothing but all that is kept of the shelf beside it; `write_line` takes nothing but the
-// line of the stretch beside it.
+// a line on standard error for each skipped stretch, its start and its length. What is kept and what is skipped is
+// found by the proved library `rescuing`; here it is read and written. Where a read or a write fails, or there is more
+// than the program holds, one line on standard error says so, and the run ends. No contract can say what a read gave or
+// a write wrote. What is said is what is handed over: `write_kept` alone writes to standard output, and takes nothing
+// but all that is kept of the shelf beside it; `write_line` takes nothing but the line of the stretch beside it.
 
 ghost use mathlib.Core.Path.{_≡_};
 ghost use Prim.Native.Nat.{_+_, _*_, _≤_};

@@ -80,7 +80,8 @@ module _ (shelf out list : List ℕ) (entries : ℕ) where
   pub done-code : false ≡ not (eqb (rescueCode shelf (length out) (length list) entries) DONE)
       → rescueCode shelf (length out) (length list) entries ≡ DONE
   done-code e =
-      eqb-true _ _ (sym (Bool·not-not (eqb (rescueCode shelf (length out) (length list) entries) DONE)) ∙ ap not (sym e))
+      eqb-true _ _ (sym (Bool·not-not (eqb (rescueCode shelf (length out) (length list) entries) DONE)) ∙ ap not
+      (sym e))
 
   pub delivered : (done : rescueCode shelf (length out) (length list) entries ≡ DONE) (k s : ℕ) (out′ list′ : List ℕ)
       → k ≡ length (kept shelf) → s ≡ length (listed shelf) → out′ ≡ sets out 0 (kept shelf)

@@ -46,7 +46,8 @@ module _ (room : ℕ) (enough : 65536 ≤ room) where
   all-free =
       by-searches (λ left. Bytes left → crampedIn room left ≡ false) (λ _. cramped-none room)
       (λ left some h bytes. cramped-step left some room
-      ∙ rw (search-free left bytes, h (rw (left-is left) (bytes-drop (toNext left + sizeAt (there left)) left bytes))) refl)
+      ∙ rw (search-free left bytes, h (rw (left-is left) (bytes-drop (toNext left + sizeAt (there left)) left bytes)))
+      refl)
 
 -- two numbers a stretch
 abbrev Even : ℕ → Type 0

@@ -53,7 +53,8 @@ from-later at late (start ∷ more) h f = omega (arith, f)
 listed-from : (left : List ℕ) (at : ℕ) → From at (listedIn at left)
 listed-from =
     by-searches (λ left. (at : ℕ) → From at (listedIn at left)) (λ at. rw (listed-none at) tt)
-    (λ left some h at. rw (listed-step left some at) (go left at (toNext left) _ (h (at + toNext left + sizeAt (there left)))))
+    (λ left some h at. rw (listed-step left some at) (go left at (toNext left) _
+    (h (at + toNext left + sizeAt (there left)))))
   where
     go : (left : List ℕ) (at k : ℕ) (l : List ℕ) → From (at + k + sizeAt (there left)) l → From at (stretch at k ++ l)
     go left at zero l f = rw (stretch-empty at 0 refl) (from-later at _ l (omega arith) f)

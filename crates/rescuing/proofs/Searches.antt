@@ -48,7 +48,13 @@ module _ (left : List ℕ) where
   left-is = drop-drop (sizeAt there) (toNext left) left
 
   pub length-left : toNext left + sizeAt there + length (leftBy left) ≡ length left
-  length-left = omega (arith, ap length left-is, length-drop (toNext left + sizeAt there) left, length-there, size-there)
+  length-left = omega (
+    arith,
+    ap length left-is,
+    length-drop (toNext left + sizeAt there) left,
+    length-there,
+    size-there,
+  )
 
   -- nothing is left, or a record was found
   pub found-or-end : (leftBy left ≡ []) ⊎ (10 ≤ sizeAt there)
@@ -111,7 +117,8 @@ pub record Stands (bs : List ℕ) : Type 0 where
 pub stands : (shelf : List ℕ) (at start : ℕ) → start ≡ at + toNext (drop at shelf) → start < length shelf
     → Stands (drop start shelf)
 stands shelf at start e l =
-    ⊎-elim (λ (none : there (drop at shelf) ≡ []). absurd (omega (arith, ap length (here ∙ none), length-drop start shelf)))
+    ⊎-elim (λ (none : there (drop at shelf) ≡ []). absurd (omega
+    (arith, ap length (here ∙ none), length-drop start shelf)))
     (λ k. let p = size-at (drop start shelf) (ap keepable here ∙ k) in
     record {
       header = header-looked (drop start shelf) (keepable-reads (drop start shelf) (ap keepable here ∙ k) .0);

@@ -1,6 +1,6 @@
--- A pass over a shelf, search after search: what was counted and what the rest of the shelf counts are that of the whole
--- shelf (`Counted`); and what was written, with what is to be written of the rest, is what is written of the whole
--- (`Wrote`).
+-- A pass over a shelf, search after search: what was counted and what the rest of the shelf counts are that of the
+-- whole shelf (`Counted`); and what was written, with what is to be written of the rest, is what is written of the
+-- whole (`Wrote`).
 use Prim.Native.Nat.{ℕ, zero, suc, _+_, _*_, _-_, _≤_, _<_}
 use mathlib.Core.Path.{_≡_, refl, sym, ap, _∙_}
 use mathlib.Core.Bool.{Bool, true, false, _||_}
@@ -86,7 +86,8 @@ listed-le =
     (λ left some h at. rw (listed-step left some at, length-append)
     (⊎-elim
     (λ (e : leftBy left ≡ []). rw (e, listed-none) (omega (arith, stretch-long at (toNext left) .0)))
-    (λ found. by-skip left at (toNext left) refl found _ (h (at + toNext left + sizeAt (there left)))) (found-or-end left)))
+    (λ found. by-skip left at (toNext left) refl found _ (h (at + toNext left + sizeAt (there left))))
+    (found-or-end left)))
   where
     by-skip : (left : List ℕ) (at k : ℕ) → k ≡ toNext left → 10 ≤ sizeAt (there left)
         → (n : ℕ) → 11 * n ≤ 2 * length (leftBy left) + 20
@@ -117,7 +118,8 @@ module _ (room : ℕ) (shelf : List ℕ) (at : ℕ) (l : at < length shelf) wher
     pub after : drop (r .end) shelf ≡ leftBy (drop at shelf)
     after =
         let e : r .end ≡ at + (toNext (drop at shelf) + sizeAt (there (drop at shelf))) = omega (arith, starts, ends) in
-        rw e (sym (left-is (drop at shelf) ∙ drop-drop (toNext (drop at shelf) + sizeAt (there (drop at shelf))) at shelf))
+        rw e (sym (left-is (drop at shelf) ∙ drop-drop (toNext (drop at shelf) + sizeAt (there (drop at shelf))) at
+        shelf))
 
     pub bounds : (at ≤ r .start) × (r .start ≤ r .end) × (r .end ≤ length shelf) × (at < r .end)
     bounds =
@@ -126,7 +128,8 @@ module _ (room : ℕ) (shelf : List ℕ) (at : ℕ) (l : at < length shelf) wher
           omega (arith, starts),
           omega (arith, ends),
           omega (arith, starts, ends, long, all),
-          ⊎-elim (λ e. omega (arith, starts, ends, long, all, ap length e)) (λ k. omega (arith, starts, ends)) (found-or-end (drop at shelf)),
+          ⊎-elim (λ e. omega (arith, starts, ends, long, all, ap length e)) (λ k. omega (arith, starts, ends))
+              (found-or-end (drop at shelf)),
         )
 
     pub record-is : take (r .end - r .start) (drop (r .start) shelf) ≡ foundBy (drop at shelf)
@@ -138,10 +141,12 @@ module _ (room : ℕ) (shelf : List ℕ) (at : ℕ) (l : at < length shelf) wher
     pub skip-is : r .start - at ≡ toNext (drop at shelf)
     skip-is = omega (arith, starts)
 
-    pub kept-turn : keptIn (drop at shelf) ≡ take (r .end - r .start) (drop (r .start) shelf) ++ keptIn (drop (r .end) shelf)
+    pub kept-turn : keptIn (drop at shelf) ≡ take (r .end - r .start) (drop (r .start) shelf) ++ keptIn
+        (drop (r .end) shelf)
     kept-turn = rw (record-is, after) (kept-step (drop at shelf) some)
 
-    pub listed-turn : listedIn at (drop at shelf) ≡ stretch at (r .start - at) ++ listedIn (r .end) (drop (r .end) shelf)
+    pub listed-turn : listedIn at (drop at shelf) ≡ stretch at (r .start - at) ++ listedIn (r .end)
+        (drop (r .end) shelf)
     listed-turn =
         let e : r .end ≡ at + toNext (drop at shelf) + sizeAt (there (drop at shelf)) = omega (arith, starts, ends) in
         rw (skip-is, after, e) (listed-step (drop at shelf) some at)
@@ -216,7 +221,8 @@ part-stored l vs at fits ys e =
     let none : drop (length l - at) (drop at l) ≡ [] =
     drop-of-length-le (drop at l) {i = length l - at} (rw length-drop (omega arith)) in
     let whole : ys ≡ vs ++ drop (at + length vs) l =
-    e ∙ ap (λ (x : List ℕ). sets x 0 vs) (tail l at) ∙ sets-eq vs (drop at l) 0 (rw (length-drop, zero-add) (omega arith))
+    e ∙ ap (λ (x : List ℕ). sets x 0 vs) (tail l at) ∙ sets-eq vs (drop at l) 0
+    (rw (length-drop, zero-add) (omega arith))
     ∙ rw (zero-add, drop-drop) refl in
     rw (none, whole) (ap (λ (x : List ℕ). take at l ++ x) (append-nil _) ∙ sym (append-assoc (take at l) vs _))
     ∙ sym (sets-eq vs l at fits)
@@ -251,7 +257,8 @@ module _ (room : ℕ) (shelf : List ℕ) (at k s : ℕ) (out₀ list₀ out list
         record {
           outs = store-on out out′ k _ found _ _ (kept-turn room shelf at l r is free) eo (omega (arith, size))
               ∙ so .outs;
-          numbers = store-on list list′ s _ (stretch at (r .start - at)) _ _ (listed-turn room shelf at l r is free) el refl
+          numbers = store-on list list′ s _ (stretch at (r .start - at)) _ _
+              (listed-turn room shelf at l r is free) el refl
               ∙ so .numbers;
           out-long = ap length eo ∙ length-sets out k found ∙ so .out-long;
           list-long = ap length el ∙ length-sets list s (stretch at (r .start - at)) ∙ so .list-long;

@@ -12,7 +12,8 @@ use Rattle.shelf.specs.Format.{sizeIn}
 use Rattle.keeping.specs.Keepable.{toNext, crampedTo}
 use Rattle.rescuing.specs.declared.Rescued.{Rescued}
 
--- A search, in what is left of a shelf: the bytes it skips; the record it finds, none at the end; and what is left then.
+-- A search, in what is left of a shelf: the bytes it skips; the record it finds, none at the end; and what is left
+-- then.
 unfoldable pub skippedBy : List ℕ → List ℕ
 skippedBy left = take (toNext left) left
 

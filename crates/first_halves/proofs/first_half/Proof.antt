@@ -96,7 +96,8 @@ peak-within-requires : tie.Need-peak-within-requires
 peak-within-requires c κs =
     let s = c .before .before in
     let p = start (at s) in
-    rw (front s) (steps-bounded (p .args .n) (p .args .parts) (p .pre .0) (p .pre .1) (p .pre .2) _ _ (s .all-steps .ensures))
+    rw (front s) (steps-bounded (p .args .n) (p .args .parts) (p .pre .0) (p .pre .1) (p .pre .2) _ _
+    (s .all-steps .ensures))
 
 slice-relend-prefix-signed : tie.Need-slice-relend-prefix-signed
 slice-relend-prefix-signed c = fits (c .before .before .before)
@@ -158,7 +159,8 @@ returns c =
     let g = c .before .before .before .before in
     let s = run g in
     let p = start (at s) in (
-      ap (λ x. x .height) (c .before .before .before .before .before .before .peak-within .ensures) ∙ ap heightOf (front s)
+      ap (λ x. x .height) (c .before .before .before .before .before .before .peak-within .ensures) ∙ ap heightOf
+          (front s)
           ∙ height-is (p .args .n) (p .args .parts) (p .pre .0) (p .pre .1) (p .pre .2) _ _ (s .all-steps .ensures),
       half-is (p .args .n) (p .args .parts) (p .pre .0) (p .pre .1) (p .pre .2) (first g) (rest g) _ (first-is g)
           (spaced g ∙ ap (λ (d : ℕ). d * p .args .parts .t + 1) (half (at s)))

@@ -68,7 +68,8 @@ loop-again c =
     let a = told .before .before .before in
     let n = c .next-mark .ensures in (
       passes-to _ _ _ _ _
-          (goes-on _ _ _ _ (before a .loop .inv .0) (left a) (sym (told .enum-told3 .given .1) ∙ how a)) (n .0) (n .1) (n .2),
+          (goes-on _ _ _ _ (before a .loop .inv .0) (left a) (sym (told .enum-told3 .given .1) ∙ how a)) (n .0) (n .1)
+          (n .2),
       before a .loop .inv .1,
       kept-long a,
     )

@@ -39,8 +39,11 @@ same-length c = search needs
 returns-2 : tie.Need-returns-2
 returns-2 c =
     let start = c .before .before .before .before .before .before .before in
-    let a = start .args in
-    (c .before .try-one .ensures .0 ∙ ap (triedOf (length (a .coeffs .now))) (tail (a .shelf .now) (a .at)), c .before .try-one .ensures .1)
+    let a = start .args in (
+      c .before .try-one .ensures .0 ∙ ap (triedOf (length (a .coeffs .now)))
+          (tail (a .shelf .now) (a .at)),
+      c .before .try-one .ensures .1,
+    )
 
 pub try-at-spec : {M : Type 1} → statement M
 try-at-spec =

@@ -1,5 +1,5 @@
--- `rescue::rescue_read` is safe and ends. In these rooms SHORT can't be met (`roomy-done`), so what it hands over is all
--- that is kept, and then all that is listed (`delivered`).
+-- `rescue::rescue_read` is safe and ends. In these rooms SHORT can't be met (`roomy-done`), so what it hands over is
+-- all that is kept, and then all that is listed (`delivered`).
 use Prim.Native.Nat.{ℕ, _*_, _≤_}
 use mathlib.Core.Path.{_≡_, refl, ap, _∙_}
 use mathlib.Core.List.{List, _++_}
@@ -34,7 +34,8 @@ module _ (shelf out list out′ list′ : List ℕ) (entries : ℕ) (r : Rescued
   unfolding rescueAnswer rescueTells rescueLeaves rescueLists
   delivered er eo el =
       let answer = rw done at er in
-      let (keeps, kept-in) = at-start (kept shelf) _ out′ (r .kept) (ap (λ (x : Rescued). x .kept) answer) (rw done at eo) in
+      let (keeps, kept-in) = at-start (kept shelf) _ out′ (r .kept) (ap (λ (x : Rescued). x .kept) answer)
+      (rw done at eo) in
       let (lists, listed-in) = at-start (listed shelf) _ list′ (2 * r .stretches)
       (ap (λ (x : Rescued). 2 * x .stretches) answer ∙ listed-pairs shelf) (rw done at el) in
       record { keeps = keeps; kept-in = kept-in; lists = lists; listed-in = listed-in }

@@ -1,5 +1,5 @@
--- `rescue::say_stretches` is safe and ends: it counts up to the number of stretches. What it hands over at each turn are
--- the two numbers of the next one.
+-- `rescue::say_stretches` is safe and ends: it counts up to the number of stretches. What it hands over at each turn
+-- are the two numbers of the next one.
 use Prim.Native.Nat.{ℕ, _+_, _*_, _-_, _≤_, _<_}
 use mathlib.Core.Path.{_≡_, sym, ap, _∙_}
 use mathlib.Core.List.{List}

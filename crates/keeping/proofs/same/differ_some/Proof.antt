@@ -1,14 +1,14 @@
 -- `differ_some`: what was found so far is that of the first of them, by the definition's own step.
 use Prim.Native.Nat.{_+_, _-_, _≤_}
 use mathlib.Core.Path.{_≡_}
-use mathlib.Core.Bool.{_||_}
+use mathlib.Core.Bool.{_||_, or-false}
 use mathlib.Core.List.{List}
 use native.Mathlib.Omega.{arith}
 use lib.ListN.{length, drop}
 use lib.IntN.{ℤ}
 use Rattle.widths.specs.Numbers.{coefficientsAt}
 use Rattle.keeping.specs.Keepable.{differTo}
-use Rattle.keeping.proofs.Comparing.{differ-next, or-none}
+use Rattle.keeping.proofs.Comparing.{differ-next}
 use Rattle.keeping.proofs.same.differ_some.Statement.{statement}
 use Rattle.keeping.proofs.same.differ_some.Tie as tie
 
@@ -22,13 +22,14 @@ abbrev μ-loop : tie.MeasureT-loop
 μ-loop bytes w coeffs from count found₀ i₀ found i = count - i
 
 abbrev stored : tie.After-shared-slice-known Inv-loop μ-loop → List ℤ
-stored c = coefficientsAt (c .before .args .w) (length (c .before .args .coeffs .now)) (drop 10 (c .before .args .bytes .now))
+stored c = coefficientsAt (c .before .args .w) (length (c .before .args .coeffs .now))
+    (drop 10 (c .before .args .bytes .now))
 
 loop-holds : tie.Need-loop-holds Inv-loop μ-loop
 loop-holds c =
     let a = c .before .args in
     let none : a .from + 0 ≡ a .from = omega arith in
-    (rw none (or-none (differTo (a .from) (stored c) (a .coeffs .now))), omega arith)
+    (rw none (or-false (differTo (a .from) (stored c) (a .coeffs .now))), omega arith)
 
 add-unlike : tie.Need-add-unlike Inv-loop μ-loop
 add-unlike c = record { fits = omega (arith, c .before .before .before .pre .3) }

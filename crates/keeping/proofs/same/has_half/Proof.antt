@@ -13,7 +13,8 @@ use Rattle.definitions.specs.Halves.{halfOf, firstHalf, uneven}
 use Rattle.widths.proofs.Digits.{Bytes, bytes-each}
 use Rattle.record.specs.Header.{kindIn, indexIn, countIn}
 use Rattle.keeping.proofs.Comparing.{own, header, fits, good-in, another-wide}
-use Rattle.keeping.proofs.Halving.{counted-degree, half-own, comparable-half, halves-differ, halves-same, stored-right}
+use Rattle.keeping.proofs.Halving.{counted-degree, half-own, comparable-half, halves-differ, halves-same}
+use Rattle.keeping.proofs.Halving.{stored-right}
 use borrow.Author.Needs.{needs}
 use Rattle.keeping.proofs.same.has_half.Statement.{statement}
 use Rattle.keeping.proofs.same.has_half.Tie as tie
@@ -129,7 +130,8 @@ differ-in-requires c κs =
     let f = c .before .before .before .before .before in
     rw (front f)
     (comparable-half (bs f) (each f) (start f .pre .0) (start f .pre .2) (start f .pre .4) _
-    (c .before .before .before .width-in .ensures) _ (made-own f) (sym (least (c .before .before)) ∙ c .before .if1 .left))
+    (c .before .before .before .width-in .ensures) _ (made-own f)
+    (sym (least (c .before .before)) ∙ c .before .if1 .left))
 
 same-length-2 : tie.Need-same-length-2
 same-length-2 c = search needs
@@ -154,7 +156,9 @@ same-length-3 c = search needs
 returns-3 : tie.Need-returns-3
 returns-3 c =
     let f = c .before .before .before .before .before .before .before .before in (
-      ap not (c .uneven-in .ensures ∙ ap (λ (k : ℕ). uneven false (coefficientsAt (c .before .before .before .before .before .before .width-in .result) k (drop 10 (bs f)))) (counted f))
+      ap not (c .uneven-in .ensures ∙ ap (λ (k : ℕ). uneven false
+          (coefficientsAt (c .before .before .before .before .before .before .width-in .result) k (drop 10 (bs f))))
+          (counted f))
           ∙ halves-same (bs f) (each f) (start f .pre .0) (start f .pre .2) (start f .pre .4) _
           (c .before .before .before .before .before .before .width-in .ensures) _ (made-own f)
           (sym (rw (front f) at (c .before .before .differ-in .ensures)) ∙ c .before .if2 .left),

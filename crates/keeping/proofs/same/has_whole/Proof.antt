@@ -102,7 +102,8 @@ returns-2 : tie.Need-returns-2
 returns-2 c =
     let p = c .before .before .before .before .before .before .before in (
       ap not (c .differ-in .ensures
-          ∙ compared (bs p) (each p) (start p .pre .0) _ (c .before .before .before .before .before .width-in .ensures) _
+          ∙ compared (bs p) (each p) (start p .pre .0) _ (c .before .before .before .before .before .width-in .ensures)
+          _
           (made p _ (c .before .before .count-in .ensures))),
       p .polynomial .kept .1 .1 .1 .1 .0,
     )

@@ -40,13 +40,16 @@ has-half-requires : tie.Need-has-half-requires
 has-half-requires c κs =
     let start = c .before .before .before .before .before .before .before .before in
     let bs = start .args .bytes .now in
-    let b = bytes-each bs (λ i. c .before .before .before .before .before .before .before .shared-slice-known .given i .fits) in
+    let b = bytes-each bs (λ i. c .before .before .before .before .before .before .before .shared-slice-known .given
+    i .fits) in
     let good = good-in bs b (start .pre .0) in
     let apart : c .before .before .before .take-apart .result ≡ partsOf (indexIn bs) =
-    c .before .before .before .take-apart .ensures ∙ ap takenApart (c .before .before .before .before .index-in .ensures .0) ∙ taken-good (indexIn bs) good in (
+    c .before .before .before .take-apart .ensures ∙ ap takenApart
+    (c .before .before .before .before .index-in .ensures .0) ∙ taken-good (indexIn bs) good in (
       start .pre .0,
       start .pre .1,
-      sym (c .before .before .before .before .before .before .kind-in .ensures) ∙ c .before .before .before .before .before .if1 .left,
+      sym (c .before .before .before .before .before .before .kind-in .ensures)
+          ∙ c .before .before .before .before .before .if1 .left,
       apart,
       λ e. c .before .if2 .left (parts-r (indexIn bs) _ apart ∙ e),
     )

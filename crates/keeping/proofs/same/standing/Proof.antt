@@ -22,13 +22,16 @@ stands start w e b is =
     rw (← e, is) (lowest (start .args .w) (start .pre .0) (start .args .x) (start .pre .1))
 
 returns : tie.Need-returns
-returns c = stands (c .before .before) 1 (c .match .keys1) _ (c .before .bits-of .ensures ∙ ap (ofZ w64) (toZ-ofZ (c .before .before .fits .x)))
+returns c = stands (c .before .before) 1 (c .match .keys1) _ (c .before .bits-of .ensures ∙ ap (ofZ w64)
+    (toZ-ofZ (c .before .before .fits .x)))
 
 returns-2 : tie.Need-returns-2
-returns-2 c = stands (c .before .before) 2 (c .match .keys2) _ (c .before .bits-of .ensures ∙ ap (ofZ w64) (toZ-ofZ (c .before .before .fits .x)))
+returns-2 c = stands (c .before .before) 2 (c .match .keys2) _
+    (c .before .bits-of .ensures ∙ ap (ofZ w64) (toZ-ofZ (c .before .before .fits .x)))
 
 returns-3 : tie.Need-returns-3
-returns-3 c = stands (c .before .before) 4 (c .match .keys3) _ (c .before .bits-of .ensures ∙ ap (ofZ w64) (toZ-ofZ (c .before .before .fits .x)))
+returns-3 c = stands (c .before .before) 4 (c .match .keys3) _
+    (c .before .bits-of .ensures ∙ ap (ofZ w64) (toZ-ofZ (c .before .before .fits .x)))
 
 returns-4 : tie.Need-returns-4
 returns-4 c =

@@ -45,7 +45,8 @@ returns : tie.Need-returns
 returns c =
     let start = c .before .before .before .before in
     let a = start .args in
-    numbers-differ (a .w) _ _ (entries (a .coeffs .now) (a .i)) _ (width-bounds (a .w) (start .pre .0) .0) (within start)
+    numbers-differ (a .w) _ _ (entries (a .coeffs .now) (a .i)) _ (width-bounds (a .w) (start .pre .0) .0)
+    (within start)
     (c .before .standing .ensures ∙ ap (twos (a .w)) (read start (c .before .before .standing-arg .given)))
     (c .number-of .ensures .1) (c .number-of .ensures .0)
 

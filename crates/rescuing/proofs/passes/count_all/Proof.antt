@@ -7,7 +7,8 @@ use native.Mathlib.Omega.{arith}
 use lib.ListN.{length}
 use Rattle.rescuing.specs.Rescue.{stretch}
 use Rattle.rescuing.specs.Passes.{NextIs}
-use Rattle.rescuing.proofs.Turns.{Counted, counted-none, counted-cramped, counted-turn, counted-all, counts-small}
+use Rattle.rescuing.proofs.Turns.{Counted, counted-none, counted-cramped, counted-turn, counted-all}
+use Rattle.rescuing.proofs.Turns.{counts-small}
 use Rattle.rescuing.proofs.Turns.{bounds}
 use Rattle.rescuing.proofs.passes.count_all.Statement.{statement}
 use Rattle.rescuing.proofs.passes.count_all.Tie as tie
@@ -43,10 +44,12 @@ module _ (n : tie.After-next-from Inv-loop μ-loop) (free : n .next-from .result
   goes :
       let r = n .next-from .result in
       let l = turn n .loop in
-      Counted (room n) (shelf n) (r .end) (l .kept + (r .end - r .start)) (l .slots + length (stretch (l .at) (r .start - l .at)))
+      Counted (room n) (shelf n) (r .end) (l .kept + (r .end - r .start))
+      (l .slots + length (stretch (l .at) (r .start - l .at)))
   goes = counted-turn _ _ _ _ _ (turn n .loop .inv .0) (within n) _ (is n) free
 
-  steps : let r = n .next-from .result in (turn n .loop .at ≤ r .start) × (r .start ≤ r .end) × (r .end ≤ length (shelf n)) × (turn n .loop .at < r .end)
+  steps : let r = n .next-from .result in (turn n .loop .at ≤ r .start) × (r .start ≤ r .end) ×
+      (r .end ≤ length (shelf n)) × (turn n .loop .at < r .end)
   steps = bounds _ _ _ (within n) _ (is n) free
 
 loop-holds : tie.Need-loop-holds Inv-loop μ-loop
@@ -92,7 +95,8 @@ add-kept c =
     record { fits = omega (arith, counts-small _ _ _ _ _ (goes n (c .before .before .if1 .left)) .0) }
 
 loop-less : tie.Need-loop-less Inv-loop μ-loop
-loop-less c = let b = steps (c .before .before .before .before) (c .before .before .if1 .left) in omega (arith, b .2, b .3)
+loop-less c = let b = steps (c .before .before .before .before) (c .before .before .if1 .left) in omega
+    (arith, b .2, b .3)
 
 loop-again : tie.Need-loop-again Inv-loop μ-loop
 loop-again c =

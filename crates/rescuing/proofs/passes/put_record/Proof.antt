@@ -47,7 +47,8 @@ returns c =
     let size = a .end - a .start in
     let stored = take size (drop (a .start) (a .shelf .now)) in
     let long : length stored ≡ size =
-    length-take-le size (drop (a .start) (a .shelf .now)) (rw length-drop (omega (arith, start .pre .0, start .pre .1))) in (
+    length-take-le size (drop (a .start) (a .shelf .now)) (rw length-drop
+    (omega (arith, start .pre .0, start .pre .1))) in (
       refl,
       part-stored (a .out .now) stored (a .at) (omega (arith, long, start .pre .2)) _
           (c .before .before .copy .ensures

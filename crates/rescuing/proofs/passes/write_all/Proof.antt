@@ -7,7 +7,8 @@ use native.Mathlib.Omega.{arith}
 use lib.ListN.{length}
 use Rattle.rescuing.specs.Rescue.{stretch, kept}
 use Rattle.rescuing.specs.Passes.{NextIs}
-use Rattle.rescuing.proofs.Turns.{Counted, counted-none, counted-turn, counted-all, Wrote, wrote-none, wrote-turn}
+use Rattle.rescuing.proofs.Turns.{Counted, counted-none, counted-turn, counted-all, Wrote, wrote-none}
+use Rattle.rescuing.proofs.Turns.{wrote-turn}
 use Rattle.rescuing.proofs.Codes.{Fits, fits}
 use Rattle.rescuing.proofs.Turns.{wrote-all, not-cramped, bounds}
 use Rattle.rescuing.proofs.passes.write_all.Statement.{statement}
@@ -91,7 +92,8 @@ loop-again c =
     let stretched = c .before .before .before .before .before .before .put-stretch .ensures in
     let recorded = c .before .before .put-record .ensures in (
       rw (stretched .0, recorded .0) (goes n),
-      rw (stretched .0, recorded .0) (wrote-turn (room n) _ _ _ _ _ _ _ _ (turn n .loop .inv .1) (within n) _ (is n) (free n) _ _
+      rw (stretched .0, recorded .0) (wrote-turn (room n) _ _ _ _ _ _ _ _ (turn n .loop .inv .1) (within n) _ (is n)
+          (free n) _ _
           (recorded .1) (stretched .1)),
       long n,
     )
