@@ -5,7 +5,7 @@ use mathlib.Core.List.{List, [], _∷_, _++_}
 use Rattle.definitions.specs.Codes.{DONE, SHORT}
 use Rattle.definitions.specs.Integers.{_⊕_, ⊖, _⊗_}
 use Rattle.definitions.specs.Numbers.{someTo, countTo, divides, shareFactor, phi}
-use Rattle.definitions.specs.Series.{constant, _+ˢ_, -ˢ, _÷_, z^, firsts}
+use Rattle.definitions.specs.Series.{constant, _+ˢ_, -ˢ, _·_, _÷_, z^, firsts}
 use Rattle.definitions.specs.Polynomials.{productTo, atDivisors, z^-1, familyTo, F, I, polynomial, degree}
 use Rattle.definitions.specs.Steps.{entries}
 use Rattle.definitions.specs.Requests.{knownKind}
@@ -38,10 +38,8 @@ rescued :
     × (rescueCode damaged 25 6 3 ≡ DONE) × (rescueCode damaged 24 6 3 ≡ SHORT) × (rescueCode damaged 25 5 3 ≡ SHORT)
     × (rescueCode damaged 25 6 2 ≡ SHORT)
 unfolding F6 other I3 damaged kept listed rescueCode crampedBy listedBy stretch keptBy searches searchesTo leftBy
-    foundBy
-    skippedBy crampedTo toNext cramped keepable another differTo differ entries coefficients firsts polynomial F I
+    foundBy skippedBy crampedTo toNext cramped keepable another differTo differ entries coefficients firsts polynomial F I
     familyTo productTo atDivisors z^-1 z^ constant _+ˢ_ -ˢ _·_ _÷_ _⊕_ ⊖ _⊗_ lookCode readCode headerCode marked
-    fieldCode
-    knownKind oneOf degreeIn degree phi countTo shareFactor someTo divides coefficientsIn storedIn sizeIn coefficientsAt
+    fieldCode knownKind oneOf degreeIn degree phi countTo shareFactor someTo divides coefficientsIn storedIn sizeIn coefficientsAt
     signedOf number top width leastOf heightOf
 rescued = (refl, refl, refl, refl, refl, refl)
