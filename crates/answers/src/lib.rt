@@ -42,6 +42,10 @@ pub const ABSENT: u64 = 17;
 
 pub const UNEVEN: u64 = 18;
 
+pub const POINT: u64 = 19;
+
+pub const COARSE: u64 = 20;
+
 // A polynomial request's answer.
 #[repr(C)]
 pub struct Answer {

@@ -55,3 +55,9 @@ ABSENT = 17
 
 abbrev pub UNEVEN : ℕ
 UNEVEN = 18
+
+abbrev pub POINT : ℕ
+POINT = 19
+
+abbrev pub COARSE : ℕ
+COARSE = 20
