@@ -1,2 +1,3 @@
--- The response at a point: what it is, and what is left where a coefficient comes before the rest.
+-- The response at a point: what it is, and its laws for whoever makes it.
 pub mod Response
+pub mod Laws

@@ -3,7 +3,7 @@
 use Prim.Native.Nat.{ℕ}
 use mathlib.Core.Bool.{Bool, true, false, cond, not, _&&_, _||_}
 use mathlib.Core.List.{List, [], _∷_}
-use lib.Dec.{ltb}
+use lib.Dec.{eqb, ltb}
 use lib.IntN.{ℤ, pos, natAbs}
 use lib.Ieee.{Float, fin, binary64, add, sub, mul, le, ofInt}
 use Rattle.definitions.specs.Codes.{DONE, POINT, COARSE}
@@ -24,7 +24,8 @@ abbrev pub -1ᶠ : Float
 unfoldable pub nextAt : Point → Point → ℤ → Point
 nextAt v at c =
     record {
-      real = add binary64 (sub binary64 (mul binary64 (v .real) (at .real)) (mul binary64 (v .imag) (at .imag))) (ofInt binary64 c);
+      real = add binary64 (sub binary64 (mul binary64 (v .real) (at .real)) (mul binary64 (v .imag) (at .imag)))
+          (ofInt binary64 c);
       imag = add binary64 (mul binary64 (v .real) (at .imag)) (mul binary64 (v .imag) (at .real));
     }
 
@@ -41,6 +42,9 @@ valueAt (c ∷ cs) at = nextAt (valueAt cs at) at c
 unfoldable pub isWithin : Float → Bool
 isWithin x = le -1ᶠ x && le x 1ᶠ
 
+unfoldable pub isInside : Point → Bool
+isInside at = isWithin (at .real) && isWithin (at .imag)
+
 -- a coefficient whose magnitude is above 2^53, and some such among all
 unfoldable pub isCoarse : ℤ → Bool
 isCoarse c = ltb 9007199254740992 (natAbs c)
@@ -51,16 +55,16 @@ someCoarse (c ∷ cs) = isCoarse c || someCoarse cs
 
 -- the refusals in their order: POINT, COARSE
 unfoldable pub code : List ℤ → Point → ℕ
-code cs at = cond (not (isWithin (at .real)) || not (isWithin (at .imag))) POINT (cond (someCoarse cs) COARSE DONE)
+code cs at = cond (not (isInside at)) POINT (cond (someCoarse cs) COARSE DONE)
 
--- the value on code 0, and 0 and 0 on every refusal
-unfoldable pub delivered : Point → Value
-delivered v = record { code = DONE; real = v .real; imag = v .imag }
-
-unfoldable pub refusal : ℕ → Value
-refusal code = record { code = code; real = 0ᶠ; imag = 0ᶠ }
+-- the answer for a code: the value on code 0 alone, and else 0 and 0
+unfoldable pub answered : List ℤ → Point → ℕ → Value
+answered cs at code =
+    record {
+      code = code;
+      real = cond (eqb code DONE) (valueAt cs at .real) 0ᶠ;
+      imag = cond (eqb code DONE) (valueAt cs at .imag) 0ᶠ;
+    }
 
 unfoldable pub answer : List ℤ → Point → Value
-answer cs at =
-   cond (not (isWithin (at .real)) || not (isWithin (at .imag))) (refusal POINT)
-    (cond (someCoarse cs) (refusal COARSE) (delivered (valueAt cs at)))
+answer cs at = answered cs at (code cs at)

@@ -3,7 +3,7 @@
 // the contract is the sequence itself.
 ghost use mathlib.Core.Path.{_≡_};
 ghost use mathlib.Core.Bool.{false};
-ghost use Rattle.response.specs.Response.{isWithin, isCoarse, nextAt, refusal, answer};
+ghost use Rattle.response.specs.Response.{0ᶠ, isWithin, isInside, isCoarse, nextAt, answer};
 
 // A point, and a running value, by its real and its imaginary part.
 #[repr(C)]
@@ -27,6 +27,13 @@ fn within(x: f64) -> bool
     -1.0 <= x && x <= 1.0
 }
 
+// Are both?
+fn inside(at: Point) -> bool
+    ensures { λ r. ⌜ r ≡ isInside at ⌝ }
+{
+    within(at.real) && within(at.imag)
+}
+
 // Is a coefficient's magnitude above 2^53?
 fn coarse(c: i64) -> bool
     ensures { λ r. ⌜ r ≡ isCoarse c ⌝ }
@@ -34,8 +41,9 @@ fn coarse(c: i64) -> bool
     c < -9007199254740992 || 9007199254740992 < c
 }
 
+// A refusal: its code, and 0 and 0.
 fn refused(code: u64) -> Value
-    ensures { λ r. ⌜ r ≡ refusal code ⌝ }
+    ensures { λ r. ⌜ r ≡ record { code = code; real = 0ᶠ; imag = 0ᶠ } ⌝ }
 {
     Value {
         code,
@@ -44,39 +52,41 @@ fn refused(code: u64) -> Value
     }
 }
 
-// One coefficient more, at a point.
+// The value so far times the point, and one coefficient more.
 fn next(running: Point, at: Point, c: i64) -> Point
     requires { ⌜ isCoarse c ≡ false ⌝ }
     ensures { λ r. ⌜ r ≡ nextAt running at c ⌝ }
 {
-    Point {
-        real: (running.real * at.real - running.imag * at.imag) + c as f64,
-        imag: running.real * at.imag + running.imag * at.real,
-    }
+    let coefficient = c as f64;
+    let real = (running.real * at.real - running.imag * at.imag) + coefficient;
+    let imag = running.real * at.imag + running.imag * at.real;
+    Point { real, imag }
 }
 
-// The value of some coefficients at a point, lowest first.
+// The value of some coefficients, lowest first, at a point. One pass: a coefficient is tested where it is taken.
 pub fn response(coeffs: &[i64], at: Point) -> Value
     ensures { λ r. ⌜ r ≡ answer (now (coeffs .entry)) at ⌝ }
 {
-    if !within(at.real) || !within(at.imag) {
+    if !inside(at) {
         return refused(answers::POINT);
     }
     let mut running = Point {
         real: 0.0,
         imag: 0.0,
     };
-    let mut left = coeffs.len();
+    let count = coeffs.len();
+    let mut left = count;
     while 0 < left {
-        left -= 1;
-        let c = coeffs[left];
+        let highest = left - 1;
+        let c = coeffs[highest];
         if coarse(c) {
             return refused(answers::COARSE);
         }
         running = next(running, at, c);
+        left -= 1;
     }
     Value {
-        code: 0,
+        code: answers::DONE,
         real: running.real,
         imag: running.imag,
     }
