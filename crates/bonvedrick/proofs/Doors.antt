@@ -22,6 +22,7 @@ use Rattle.conversions.proofs.to_whole.Reads as to-whole-request
 use Rattle.shelves.proofs.find.Reads as lookup-request
 use Rattle.browsing.proofs.browse.Reads as browse-request
 use Rattle.rescuing.proofs.rescue.Reads as rescue-request
+use Rattle.response.proofs.response.Reads as response-request
 use Rattle.bonvedrick.proofs.bv_polynomial as polynomial
 use Rattle.bonvedrick.proofs.bv_polynomial.Kinds as polynomial-kinds
 use Rattle.bonvedrick.proofs.bv_polynomial.Reads as polynomial-reads
@@ -61,6 +62,9 @@ use Rattle.bonvedrick.proofs.bv_browse.Reads as browse-reads
 use Rattle.bonvedrick.proofs.bv_rescue as rescue
 use Rattle.bonvedrick.proofs.bv_rescue.Kinds as rescue-kinds
 use Rattle.bonvedrick.proofs.bv_rescue.Reads as rescue-reads
+use Rattle.bonvedrick.proofs.bv_response as response
+use Rattle.bonvedrick.proofs.bv_response.Kinds as response-kinds
+use Rattle.bonvedrick.proofs.bv_response.Reads as response-reads
 use Rattle.bonvedrick.proofs.bv_comb as comb
 use Rattle.bonvedrick.proofs.bv_comb.Kinds as comb-kinds
 use Rattle.bonvedrick.proofs.bv_comb.Reads as comb-reads
@@ -145,6 +149,12 @@ pub rescue-door :
     (e : AtExit (endedOf 4 rescue-kinds.ps rescue-kinds.r) κs)
     → rescue-reads.Post κs a z e ≡ rescue-request.Post κs a z e
 rescue-door κs a z e = refl
+
+pub response-door :
+    (κs : Lfts 1) (a : ArgsD response.signature κs) (z : ResD response.signature κs)
+    (e : AtExit (endedOf 1 response-kinds.ps response-kinds.r) κs)
+    → response-reads.Post κs a z e ≡ response-request.Post κs a z e
+response-door κs a z e = refl
 
 -- the slice that a step's door leaves, e, and the one that the step leaves, f, hold the same
 pub comb-door :

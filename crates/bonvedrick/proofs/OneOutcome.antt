@@ -51,6 +51,9 @@ use Rattle.bonvedrick.proofs.bv_browse.Reads as browse-reads
 use Rattle.bonvedrick.proofs.bv_rescue as rescue
 use Rattle.bonvedrick.proofs.bv_rescue.Kinds as rescue-kinds
 use Rattle.bonvedrick.proofs.bv_rescue.Reads as rescue-reads
+use Rattle.bonvedrick.proofs.bv_response as response
+use Rattle.bonvedrick.proofs.bv_response.Kinds as response-kinds
+use Rattle.bonvedrick.proofs.bv_response.Reads as response-reads
 
 pub polynomial-one :
     (κs : Lfts 1) (a : ArgsD polynomial.signature κs) (z z′ : ResD polynomial.signature κs)
@@ -157,3 +160,10 @@ rescue-one κs a z z′ e e′ p p′ = (
   p .1 .1 .0 ∙ sym (p′ .1 .1 .0),
   p .1 .1 .1 ∙ sym (p′ .1 .1 .1),
 )
+
+-- the answer's two floats too, but for the bits of a not-a-number: of those there is one value (docs/EVIDENCE.md)
+pub response-one :
+    (κs : Lfts 1) (a : ArgsD response.signature κs) (z z′ : ResD response.signature κs)
+    (e e′ : AtExit (endedOf 1 response-kinds.ps response-kinds.r) κs)
+    → response-reads.Post κs a z e → response-reads.Post κs a z′ e′ → z ≡ z′
+response-one κs a z z′ e e′ p p′ = p ∙ sym p′

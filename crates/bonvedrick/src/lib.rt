@@ -8,6 +8,8 @@ use forms::Form;
 use forms::Record;
 use forms::Written;
 use rescuing::Rescued;
+use response::Point;
+use response::Value;
 use shelves::Found;
 use steps::Sort;
 use steps::Step;
@@ -25,6 +27,7 @@ ghost use Rattle.conversions.specs.Converting.{convertAnswer, convertLeaves};
 ghost use Rattle.browsing.specs.Browse.{shownAt, told};
 ghost use Rattle.shelves.specs.Lookup.{found};
 ghost use Rattle.rescuing.specs.Rescue.{rescueAnswer, rescueLeaves, rescueLists, rescueClears};
+ghost use Rattle.response.specs.Response as Response;
 
 // The polynomial of a kind and an index, no taller than h and made of steps within w.
 #[no_mangle]
@@ -208,4 +211,12 @@ pub extern "C" fn bv_rescue(
     ensures clears { λ _. ⌜ now (coeffs .exit) ≡ rescueClears (now (coeffs .entry)) ⌝ }
 {
     rescuing::rescue(shelf, out, list, coeffs)
+}
+
+// The value of some coefficients at a point, from the highest down, each operation rounded once.
+#[no_mangle]
+pub extern "C" fn bv_response(coeffs: &[i64], at: Point) -> Value
+    ensures { λ r. ⌜ r ≡ Response.answer (now (coeffs .entry)) at ⌝ }
+{
+    response::response(coeffs, at)
 }
