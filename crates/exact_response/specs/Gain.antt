@@ -61,9 +61,12 @@ weight-within : (l : List ℤ) (h : ℕ) → heightOf l ≤ h → weight l ≤ l
 unfolding weight heightOf
 weight-within [] h b = omega arith
 weight-within (c ∷ cs) h b =
-    omega
-    (arith, NatL.le-trans (NatL.le-max-left (natAbs c) (heightOf cs)) b,
-    weight-within cs h (NatL.le-trans (NatL.le-max-right (natAbs c) (heightOf cs)) b), NatL.suc-mul (length cs) h)
+    omega (
+      arith,
+      NatL.le-trans (NatL.le-max-left (natAbs c) (heightOf cs)) b,
+      weight-within cs h (NatL.le-trans (NatL.le-max-right (natAbs c) (heightOf cs)) b),
+      NatL.suc-mul (length cs) h,
+    )
 
 pub by-height : (kind n h : ℕ) → height kind n ≤ h → suc (degree kind n) * h ≤ most
     → weight (coefficients kind n) ≤ most

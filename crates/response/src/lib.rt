@@ -70,9 +70,10 @@ pub fn response(coeffs: &[i64], at: Point) -> Value
     if !inside(at) {
         return refused(answers::POINT);
     }
+    let zero = 0.0;
     let mut running = Point {
-        real: 0.0,
-        imag: 0.0,
+        real: zero,
+        imag: zero,
     };
     let count = coeffs.len();
     let mut left = count;

@@ -90,8 +90,7 @@ loop-again c =
     let cs = now (start .args .coeffs) in
     let left = loop .loop .left in
     let this = passed (getD cs (left - 1) 0ℤ) (met .before .c .given) in
-    let first = sym (met .coarse .ensures ∙ ap isCoarse this) ∙ c .before .if2 .left in
-    (
+    let first = sym (met .coarse .ensures ∙ ap isCoarse this) ∙ c .before .if2 .left in (
       c .next .ensures ∙ ap₂ (λ v z. nextAt v (start .args .at) z) (loop .loop .inv .0) this
           ∙ value-more cs left (omega arith) (omega arith) (start .args .at),
       coarse-more cs left (omega arith) (omega arith) ∙ rw (first, loop .loop .inv .1) refl,
