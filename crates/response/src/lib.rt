@@ -57,10 +57,17 @@ fn next(running: Point, at: Point, c: i64) -> Point
     requires { ⌜ isCoarse c ≡ false ⌝ }
     ensures { λ r. ⌜ r ≡ nextAt running at c ⌝ }
 {
+    let real = running.real;
+    let imag = running.imag;
+    let x = at.real;
+    let y = at.imag;
     let coefficient = c as f64;
-    let real = (running.real * at.real - running.imag * at.imag) + coefficient;
-    let imag = running.real * at.imag + running.imag * at.real;
-    Point { real, imag }
+    let new_real = (real * x - imag * y) + coefficient;
+    let new_imag = real * y + imag * x;
+    Point {
+        real: new_real,
+        imag: new_imag,
+    }
 }
 
 // The value of some coefficients, lowest first, at a point. One pass: a coefficient is tested where it is taken.

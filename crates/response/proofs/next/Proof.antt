@@ -13,8 +13,7 @@ int-to-float-coefficient c = rw (toZ-ofZ (c .before .fits .c)) (fine-exact (c .b
 returns : tie.Need-returns
 unfolding nextAt
 returns c =
-    let start = c .before .before .before .before .before .before .before .before .before in
-    rw (toZ-ofZ (start .fits .c)) refl
+    rw (toZ-ofZ (c .before .fits .c)) refl
 
 pub next-spec : {M : Type 1} → statement M
 next-spec = tie.close (tie.spec int-to-float-coefficient returns)

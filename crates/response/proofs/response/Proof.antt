@@ -17,12 +17,12 @@ use Rattle.response.proofs.response.Statement.{statement}
 use Rattle.response.proofs.response.Tie as tie
 
 abbrev Inv-loop : tie.InvT-loop
-Inv-loop coeffs at running₀ count left₀ running left =
+Inv-loop coeffs at zero running₀ count left₀ running left =
     (running ≡ valueAt (drop left coeffs) at) × (someCoarse (drop left coeffs) ≡ false)
     × (left ≤ length coeffs)
 
 abbrev μ-loop : tie.MeasureT-loop
-μ-loop coeffs at running₀ count left₀ running left = left
+μ-loop coeffs at zero running₀ count left₀ running left = left
 
 inside-requires : tie.Need-inside-requires Inv-loop μ-loop
 inside-requires c κs = search needs
