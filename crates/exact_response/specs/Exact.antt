@@ -1,25 +1,24 @@
 -- Where the magnitudes of the coefficients add up to at most 2^53, the response at 1, i, -1 and -i is delivered and
--- compares equal to the whole-number value (`response-exact`), which is itself so small (`value-small`), and so is an
--- f64. One invariant for the four points (`Exactly`): both parts hold whole numbers whose magnitudes add up to no more
--- than those of the coefficients so far. For with z = p + q i and |p| + |q| at most 1, all that is met on the way is no
+-- compares equal to the whole-number value (`response-exact`), which is no larger than that (`value-small`), so that
+-- none is lost when it is made an f64. One invariant for the four points (`value-holds`): both parts
+-- hold whole numbers whose magnitudes add up to no more than those of the coefficients so far. For with z = p + q i and |p| + |q| at most 1, all that is met on the way is no
 -- larger.
 use mathlib.Core.Path.{_≡_, refl, sym, ap, _∙_}
-use mathlib.Core.Bool.{true, false}
+use mathlib.Core.Bool.{Bool, true, false}
 use mathlib.Core.List.{List, [], _∷_}
 use Prim.Native.Nat.{ℕ, zero, suc, _+_, _*_, _≤_}
 use native.Mathlib.Omega.{arith}
-use borrow.Author.Tests.{le-ltb}
-use lib.Dec.{T, ltb}
-use lib.IntN.{ℤ, natAbs}
-use lib.Ieee.{Float, binary64, add, sub, mul, ofInt, le, lt, eq}
+use lib.Dec.{T}
+use lib.IntN.{ℤ, pos, natAbs}
+use lib.Ieee.{Float, fin, binary64, add, sub, mul, ofInt, inFloat, le, lt, eq}
 use Rattle.definitions.specs.Codes.{DONE}
 use Rattle.definitions.specs.Integers.{_⊕_, _⊗_, ⊖, _⊝_, 0ℤ}
 use Rattle.step_laws.specs.Signed.{abs-⊕, abs-⊝}
 use Rattle.light_sums.specs.Weight.{weight, abs-⊗}
 use Rattle.whole_floats.specs.Holds.{most, signed, Holds, holds-ofInt, holds-add, holds-sub, holds-mul, holds-eq}
 use Rattle.response.specs.declared.Point.{Point}
-use Rattle.response.specs.Response.{nextAt, valueAt, isWithin, isInside, isCoarse, someCoarse, answer}
-use Rattle.response.specs.Laws.{delivered}
+use Rattle.response.specs.Response.{nextAt, valueAt, isWithin, isInside, someCoarse, answer}
+use Rattle.response.specs.Laws.{fine-small, fine-exact, delivered}
 use Rattle.exact_response.specs.Points.{Quarter, one, i, minusOne, minusI, pointAt, Gauss, wholeAt, timesAnd, wholeValue}
 
 pub record HoldsBoth (v : Point) (w : Gauss) : Type 0 where
@@ -100,13 +99,18 @@ module _ (at : Point) (z : Gauss) (here : HoldsBoth at z) (u : span z ≤ 1) whe
       next-holds (wholeValue cs z) z c u (valueAt cs at) at (omega (arith, value-small cs))
       (value-holds cs (omega arith)) here
 
--- ---- the four points
-unit-holds : (q : Quarter) → HoldsBoth (pointAt q) (wholeAt q)
+-- ---- the four points, with a zero of either sign
+zero-holds : (s : Bool) → Holds (fin s 0 (pos 0)) 0ℤ
+unfolding signed ⊖
+zero-holds false = (0, refl, refl)
+zero-holds true = (0, refl, refl)
+
+unit-holds : (q : Quarter) (s : Bool) → HoldsBoth (pointAt q s) (wholeAt q)
 unfolding pointAt wholeAt signed ⊖
-unit-holds one = record { real = (1, refl, refl); imag = (0, refl, refl) }
-unit-holds i = record { real = (0, refl, refl); imag = (1, refl, refl) }
-unit-holds minusOne = record { real = (1, refl, refl); imag = (0, refl, refl) }
-unit-holds minusI = record { real = (0, refl, refl); imag = (1, refl, refl) }
+unit-holds one s = record { real = (1, refl, refl); imag = zero-holds s }
+unit-holds i s = record { real = zero-holds s; imag = (1, refl, refl) }
+unit-holds minusOne s = record { real = (1, refl, refl); imag = zero-holds s }
+unit-holds minusI s = record { real = zero-holds s; imag = (1, refl, refl) }
 
 unit-small : (q : Quarter) → span (wholeAt q) ≤ 1
 unfolding wholeAt
@@ -115,35 +119,48 @@ unit-small i = omega arith
 unit-small minusOne = omega arith
 unit-small minusI = omega arith
 
-unit-inside : (q : Quarter) → isInside (pointAt q) ≡ true
+zero-within : (s : Bool) → isWithin (fin s 0 (pos 0)) ≡ true
+unfolding isWithin le lt eq
+zero-within false = refl
+zero-within true = refl
+
+unit-inside : (q : Quarter) (s : Bool) → isInside (pointAt q s) ≡ true
 unfolding pointAt isInside isWithin le lt eq
-unit-inside one = refl
-unit-inside i = refl
-unit-inside minusOne = refl
-unit-inside minusI = refl
+unit-inside one s = zero-within s
+unit-inside i s = rw (zero-within s) refl
+unit-inside minusOne s = zero-within s
+unit-inside minusI s = rw (zero-within s) refl
 
 fine : (cs : List ℤ) → weight cs ≤ most → someCoarse cs ≡ false
-unfolding weight someCoarse isCoarse
+unfolding weight someCoarse
 fine [] l = refl
-fine (c ∷ cs) l = rw (le-ltb most (natAbs c) (omega arith)) (fine cs (omega arith))
+fine (c ∷ cs) l = rw (fine-small c (omega arith)) (fine cs (omega arith))
 
--- ---- what is delivered at a quarter
-pub record ExactAt (cs : List ℤ) (q : Quarter) : Type 0 where
-  pub done : answer cs (pointAt q) .code ≡ DONE
-  pub real : T (eq (answer cs (pointAt q) .real) (ofInt binary64 (wholeValue cs (wholeAt q) .re)))
-  pub imag : T (eq (answer cs (pointAt q) .imag) (ofInt binary64 (wholeValue cs (wholeAt q) .im)))
-  pub small : span (wholeValue cs (wholeAt q)) ≤ weight cs
+exactly : (a : ℤ) → natAbs a ≤ most → T (inFloat binary64 a)
+exactly a l = fine-exact a (fine-small a l)
 
-pub response-exact : (cs : List ℤ) (q : Quarter) → weight cs ≤ most → ExactAt cs q
-response-exact cs q l =
+-- ---- what is delivered there
+pub record ExactAt (cs : List ℤ) (q : Quarter) (s : Bool) : Type 0 where
+  pub done : answer cs (pointAt q s) .code ≡ DONE
+  pub real : T (eq (answer cs (pointAt q s) .real) (ofInt binary64 (wholeValue cs (wholeAt q) .re)))
+  pub imag : T (eq (answer cs (pointAt q s) .imag) (ofInt binary64 (wholeValue cs (wholeAt q) .im)))
+  -- each as an f64 is the whole number itself
+  pub exact : T (inFloat binary64 (wholeValue cs (wholeAt q) .re))
+      × T (inFloat binary64 (wholeValue cs (wholeAt q) .im))
+
+pub response-exact : (cs : List ℤ) (q : Quarter) (s : Bool) → weight cs ≤ most → ExactAt cs q s
+response-exact cs q s l =
     let w = wholeValue cs (wholeAt q) in
-    let v = valueAt cs (pointAt q) in
-    let made = delivered cs (pointAt q) (unit-inside q) (fine cs l) in
-    let held = value-holds (pointAt q) (wholeAt q) (unit-holds q) (unit-small q) cs l in
-    let less = value-small (pointAt q) (wholeAt q) (unit-holds q) (unit-small q) cs in
+    let v = valueAt cs (pointAt q s) in
+    let made = delivered cs (pointAt q s) (unit-inside q s) (fine cs l) in
+    let held = value-holds (pointAt q s) (wholeAt q) (unit-holds q s) (unit-small q) cs l in
+    let less = value-small (pointAt q s) (wholeAt q) (unit-holds q s) (unit-small q) cs in
     record {
       done = ap (λ a. a .code) made;
-      real = rw made (holds-eq (v .real) (ofInt binary64 (w .re)) (w .re) (held .real) (holds-ofInt (w .re) (omega arith)));
-      imag = rw made (holds-eq (v .imag) (ofInt binary64 (w .im)) (w .im) (held .imag) (holds-ofInt (w .im) (omega arith)));
-      small = less;
+      real = rw made (compares (v .real) (w .re) (held .real) (omega arith));
+      imag = rw made (compares (v .imag) (w .im) (held .imag) (omega arith));
+      exact = (exactly (w .re) (omega arith), exactly (w .im) (omega arith));
     }
+  where
+    compares : (x : Float) (a : ℤ) → Holds x a → natAbs a ≤ most → T (eq x (ofInt binary64 a))
+    compares x a h l = holds-eq x (ofInt binary64 a) a h (holds-ofInt a l)

@@ -45,14 +45,14 @@ one-gain [] = refl
 one-gain (c ∷ cs) = ap (λ v. timesAnd v (wholeAt one) c) (one-gain cs) ∙ one-more (gainOf cs) c
 
 -- ---- the response at 1
-pub record GainAtOne (kind n : ℕ) : Type 0 where
-  pub real : T (eq (answer (coefficients kind n) (pointAt one) .real) (ofInt binary64 (gain kind n)))
-  pub imag : T (eq (answer (coefficients kind n) (pointAt one) .imag) (ofInt binary64 0ℤ))
+pub record GainAtOne (kind n : ℕ) (s : Bool) : Type 0 where
+  pub real : T (eq (answer (coefficients kind n) (pointAt one s) .real) (ofInt binary64 (gain kind n)))
+  pub imag : T (eq (answer (coefficients kind n) (pointAt one s) .imag) (ofInt binary64 0ℤ))
 
-pub gain-at-one : (kind n : ℕ) → weight (coefficients kind n) ≤ most → GainAtOne kind n
+pub gain-at-one : (kind n : ℕ) (s : Bool) → weight (coefficients kind n) ≤ most → GainAtOne kind n s
 unfolding gain
-gain-at-one kind n l =
-    let exact = response-exact (coefficients kind n) one l in
+gain-at-one kind n s l =
+    let exact = response-exact (coefficients kind n) one s l in
     let value = one-gain (coefficients kind n) in
     record { real = rw value at (exact .real); imag = rw value at (exact .imag) }
 

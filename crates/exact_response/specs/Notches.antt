@@ -1,6 +1,7 @@
 -- A notch is a point where a polynomial is 0. Where its whole-number value at 1, i, -1 or -i is 0, so is the response
 -- there (`notch-exact`). Those of F(n) among them are 1 for n = 1, -1 for n = 2, and i and -i for n = 4 (`notches`).
 use mathlib.Core.Path.{_≡_, refl, sym, ap, _∙_}
+use mathlib.Core.Bool.{Bool}
 use mathlib.Core.List.{List, [], _∷_, map}
 use Prim.Native.Nat.{ℕ, zero, suc, _≤_}
 use native.Mathlib.Omega.{arith}
@@ -20,18 +21,19 @@ use Rattle.exact_response.specs.Exact.{ExactAt, response-exact}
 abbrev pub nought : Gauss
 nought = record { re = 0ℤ; im = 0ℤ }
 
-pub record NotchAt (cs : List ℤ) (q : Quarter) : Type 0 where
-  pub done : answer cs (pointAt q) .code ≡ DONE
-  pub real : T (eq (answer cs (pointAt q) .real) 0ᶠ)
-  pub imag : T (eq (answer cs (pointAt q) .imag) 0ᶠ)
+pub record NotchAt (cs : List ℤ) (q : Quarter) (s : Bool) : Type 0 where
+  pub done : answer cs (pointAt q s) .code ≡ DONE
+  pub real : T (eq (answer cs (pointAt q s) .real) 0ᶠ)
+  pub imag : T (eq (answer cs (pointAt q s) .imag) 0ᶠ)
 
 none : ofInt binary64 0ℤ ≡ 0ᶠ
 unfolding ofInt
 none = refl
 
-pub notch-exact : (cs : List ℤ) (q : Quarter) → weight cs ≤ most → wholeValue cs (wholeAt q) ≡ nought → NotchAt cs q
-notch-exact cs q l e =
-    let exact = response-exact cs q l in
+pub notch-exact : (cs : List ℤ) (q : Quarter) (s : Bool) → weight cs ≤ most → wholeValue cs (wholeAt q) ≡ nought
+    → NotchAt cs q s
+notch-exact cs q s l e =
+    let exact = response-exact cs q s l in
     record { done = exact .done; real = rw (e, none) at (exact .real); imag = rw (e, none) at (exact .imag) }
 
 -- the index whose F has the notch: the order of the root
@@ -58,9 +60,9 @@ F-4 : coefficients 1 4 ≡ pos 1 ∷ pos 0 ∷ pos 1 ∷ []
 unfolding worked made printed
 F-4 = ap (printed 3) worked-right
 
-pub notches : (q : Quarter) → NotchAt (coefficients 1 (order q)) q
+pub notches : (q : Quarter) (s : Bool) → NotchAt (coefficients 1 (order q)) q s
 unfolding weight wholeValue wholeAt timesAnd _⊕_ _⊗_ ⊖
-notches one = rw F-1 (notch-exact (negsuc 0 ∷ pos 1 ∷ []) one (omega arith) refl)
-notches i = rw F-4 (notch-exact (pos 1 ∷ pos 0 ∷ pos 1 ∷ []) i (omega arith) refl)
-notches minusOne = rw F-2 (notch-exact (pos 1 ∷ pos 1 ∷ []) minusOne (omega arith) refl)
-notches minusI = rw F-4 (notch-exact (pos 1 ∷ pos 0 ∷ pos 1 ∷ []) minusI (omega arith) refl)
+notches one s = rw F-1 (notch-exact (negsuc 0 ∷ pos 1 ∷ []) one s (omega arith) refl)
+notches i s = rw F-4 (notch-exact (pos 1 ∷ pos 0 ∷ pos 1 ∷ []) i s (omega arith) refl)
+notches minusOne s = rw F-2 (notch-exact (pos 1 ∷ pos 1 ∷ []) minusOne s (omega arith) refl)
+notches minusI s = rw F-4 (notch-exact (pos 1 ∷ pos 0 ∷ pos 1 ∷ []) minusI s (omega arith) refl)

@@ -1,20 +1,23 @@
 -- The four points, as floats and as whole numbers, and the value there in whole numbers. A reader of `Exact` believes
 -- these.
+use mathlib.Core.Bool.{Bool}
 use mathlib.Core.List.{List, [], _∷_}
-use lib.IntN.{ℤ, negsuc}
+use lib.IntN.{ℤ, pos, negsuc}
+use lib.Ieee.{fin}
 use Rattle.definitions.specs.Integers.{_⊕_, _⊗_, _⊝_, 0ℤ, 1ℤ}
 use Rattle.response.specs.declared.Point.{Point}
-use Rattle.response.specs.Response.{0ᶠ, 1ᶠ, -1ᶠ}
+use Rattle.response.specs.Response.{1ᶠ, -1ᶠ}
 
 -- 1, i, -1 and -i
 pub data Quarter : Type 0 where
   one i minusOne minusI : Quarter
 
-unfoldable pub pointAt : Quarter → Point
-pointAt one = record { real = 1ᶠ; imag = 0ᶠ }
-pointAt i = record { real = 0ᶠ; imag = 1ᶠ }
-pointAt minusOne = record { real = -1ᶠ; imag = 0ᶠ }
-pointAt minusI = record { real = 0ᶠ; imag = -1ᶠ }
+-- each with a zero of either sign, -0 where s is true
+unfoldable pub pointAt : Quarter → (s : Bool) → Point
+pointAt one s = record { real = 1ᶠ; imag = fin s 0 (pos 0) }
+pointAt i s = record { real = fin s 0 (pos 0); imag = 1ᶠ }
+pointAt minusOne s = record { real = -1ᶠ; imag = fin s 0 (pos 0) }
+pointAt minusI s = record { real = fin s 0 (pos 0); imag = -1ᶠ }
 
 -- a whole number with its imaginary part
 pub record Gauss : Type 0 where

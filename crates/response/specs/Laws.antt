@@ -48,6 +48,10 @@ coarse-some cs zero h = h
 coarse-some [] (suc i) h = h
 coarse-some (c ∷ cs) (suc i) h = rw (coarse-some cs i h) (or-true (isCoarse c))
 
+pub fine-small : (c : ℤ) → natAbs c ≤ 9007199254740992 → isCoarse c ≡ false
+unfolding isCoarse
+fine-small c l = le-ltb 9007199254740992 (natAbs c) l
+
 pub fine-exact : (c : ℤ) → isCoarse c ≡ false → T (inFloat binary64 c)
 unfolding isCoarse inFloat
 fine-exact (pos n) h = le→leb n 9007199254740992 (ltb-false 9007199254740992 n h)
