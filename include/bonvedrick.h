@@ -14,10 +14,10 @@
  * WHAT HOLDS FOR EVERY FUNCTION
  *
  *   Any number may be passed for any number, and for a double any double, infinite or not a number: nothing is asked
- *   beforehand. Each call answers a struct whose `code` is BV_DONE (0), and then everything that was asked for is there;
- *   or it is one of the refusals below, and then every other field is 0, but for the `degree`, the `byte`, the `shelf`
- *   and the `start` where the function's table tells them. Where several refusals apply, the first in the order told at
- *   the function is given.
+ *   beforehand. Each call answers a struct whose `code` is BV_DONE (0), and then everything that was asked for is
+ *   there; or it is one of the refusals below, and then every other field is 0, but for the `degree`, the `byte`, the
+ *   `shelf` and the `start` where the function's table tells them. Where several refusals apply, the first in the order
+ *   told at the function is given.
  *
  *   A slice is a pointer and the number of its elements (not of its bytes). The number may be 0, and then the pointer
  *   may be NULL: an empty slice. Otherwise the pointer must be aligned, as C has it, and point to that many elements,
@@ -562,9 +562,9 @@ bv_answer bv_cascade(const uint64_t *indices, size_t count, int64_t h, int64_t *
 bv_answer bv_second(uint64_t kind, uint64_t n, int64_t h, int64_t *buf, size_t len, int64_t *scratch, size_t room);
 
 /*
- * The response at a point: the value there of the polynomial that has these coefficients, any that were made here or any
- * others. With x and y for at.real and at.imag it starts from real = 0 and imag = 0, goes through the coefficients c
- * from the highest degree down, the last entry first, and makes at each
+ * The response at a point: the value there of the polynomial that has these coefficients, made here or not. With x and
+ * y for at.real and at.imag it starts from real = 0 and imag = 0, goes through the coefficients c from the highest
+ * degree down, the last entry first, and makes at each
  *
  *   new real = (real * x - imag * y) + c
  *   new imag = real * y + imag * x
