@@ -1,8 +1,9 @@
 //! F for all odd n to 65,535: our library, plain Rust, and FLINT where it is there (`--cfg flint`), one after the other
 //! at each n. The buffers are cleared before the clock runs. Prints the median over the rounds of each total, and its
 //! ratio to plain Rust. Then how the time grows with the additions (growth.rs), and what a working limit costs
-//! (limits.rs), the stored record (records.rs), the walk over a shelf (shelves.rs), half records (halves.rs), and
-//! damaged shelves (rescues.rs). `bench PART` prints one part alone: table, or the name of such a file.
+//! (limits.rs), the stored record (records.rs), the walk over a shelf (shelves.rs), half records (halves.rs), damaged
+//! shelves (rescues.rs), and the response at a point (responses.rs). `bench PART` prints one part alone: table, or the
+//! name of such a file.
 
 mod growth;
 mod halves;
@@ -10,6 +11,7 @@ mod limits;
 mod plain;
 mod records;
 mod rescues;
+mod responses;
 mod shelves;
 
 use plain::Answer as Told;
@@ -160,7 +162,7 @@ fn table() {
 }
 
 fn main() {
-    let parts: [(&str, fn()); 7] = [
+    let parts: [(&str, fn()); 8] = [
         ("table", table),
         ("growth", growth::print),
         ("limits", limits::print),
@@ -168,6 +170,7 @@ fn main() {
         ("shelves", shelves::print),
         ("halves", halves::print),
         ("rescues", rescues::print),
+        ("responses", responses::print),
     ];
     let part = std::env::args().nth(1);
     let wanted = |name: &str| part.as_deref().map_or(true, |part| part == name);

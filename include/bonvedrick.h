@@ -7,16 +7,17 @@
  * for n from 1 to 65535, and cascades, which are products of up to eight F(n); with whole 64-bit coefficients, lowest
  * degree first: coeffs[i] belongs to z^i. And stored: a record is a polynomial in bytes, a half record is one that
  * leaves out the half that the other tells, and a shelf is records one after another; of a damaged one the good records
- * are rescued.
+ * are rescued. And plotted: the response of any coefficients at a point of the complex plane, in double.
  *
  * Link with libbonvedrick.a (`rt staticlib bonvedrick` writes target/staticlib/libbonvedrick.a, for x86-64).
  *
  * WHAT HOLDS FOR EVERY FUNCTION
  *
- *   Any number may be passed for any number: nothing is asked beforehand. Each call answers a struct whose `code` is
- *   BV_DONE (0), and then everything that was asked for is there; or it is one of the refusals below, and then every
- *   other field is 0, but for the `degree`, the `byte`, the `shelf` and the `start` where the function's table tells
- *   them. Where several refusals apply, the first in the order told at the function is given.
+ *   Any number may be passed for any number, and for a double any double, infinite or not a number: nothing is asked
+ *   beforehand. Each call answers a struct whose `code` is BV_DONE (0), and then everything that was asked for is
+ *   there; or it is one of the refusals below, and then every other field is 0, but for the `degree`, the `byte`, the
+ *   `shelf` and the `start` where the function's table tells them. Where several refusals apply, the first in the order
+ *   told at the function is given.
  *
  *   A slice is a pointer and the number of its elements (not of its bytes). The number may be 0, and then the pointer
  *   may be NULL: an empty slice. Otherwise the pointer must be aligned, as C has it, and point to that many elements,
@@ -30,6 +31,10 @@
  *   No memory is allocated, no file or clock is looked at, nothing is kept between calls, there is no setting up: the
  *   answer and the contents of the slices follow from the arguments alone. Calls from several threads at once are fine,
  *   each on its own slices. Every call ends.
+ *
+ *   bv_response, which alone works with doubles, takes the floating-point environment to be the one that a C program
+ *   starts with: rounding to nearest, and subnormal numbers kept. Nothing tests that, and where it was changed (by
+ *   fesetround, or by x86's flush-to-zero and denormals-are-zero) other numbers come out.
  *
  * The answers and the contents are proved of the library's code, for every input (the contracts in
  * crates/bonvedrick/src/lib.rt).
@@ -50,7 +55,7 @@ extern "C" {
  * PATCH moves for everything else.
  */
 #define BV_VERSION_MAJOR 1
-#define BV_VERSION_MINOR 5
+#define BV_VERSION_MINOR 6
 #define BV_VERSION_PATCH 0
 
 /* The two kinds of polynomial. */
@@ -102,6 +107,8 @@ extern "C" {
 #define BV_REFUSED_LIST UINT64_C(16)   /* bv_cascade: no index, more than 8, or a total degree above 65535 */
 #define BV_REFUSED_ABSENT UINT64_C(17) /* bv_lookup: neither shelf has such a record */
 #define BV_REFUSED_UNEVEN UINT64_C(18) /* half records: the halves of the polynomial don't match (see bv_write_half) */
+#define BV_REFUSED_POINT UINT64_C(19)  /* bv_response: a part of the point is not from -1 to 1, or is not a number */
+#define BV_REFUSED_COARSE UINT64_C(20) /* bv_response: a coefficient is larger in magnitude than 2^53 */
 /* 'writing' is bv_write and bv_write_half; 'reading' is bv_read, bv_read_half, bv_to_half and bv_to_whole, and
    bv_lookup and bv_browse for a record that they meet. 10 was given where any field of a header was wrong; it is given
    no more. */
@@ -127,11 +134,16 @@ static inline const char *bv_name(uint64_t code) {
     case BV_REFUSED_LIST: return "LIST";
     case BV_REFUSED_ABSENT: return "ABSENT";
     case BV_REFUSED_UNEVEN: return "UNEVEN";
+    case BV_REFUSED_POINT: return "POINT";
+    case BV_REFUSED_COARSE: return "COARSE";
     default: return "?";
     }
 }
 
-/* Every field of every answer is 64 bits, in this order; the gain alone has a sign, as coefficients have. */
+/*
+ * Every field of every answer is 64 bits, in this order. All are whole numbers, of which the gain alone has a sign, as
+ * coefficients have; but that bv_value has two doubles (IEEE's binary64).
+ */
 
 typedef struct bv_answer {
     uint64_t code;
@@ -202,6 +214,18 @@ typedef struct bv_rescued {
     uint64_t kept;      /* the bytes of all records that are kept */
     uint64_t stretches; /* how many stretches are skipped: the list has two numbers for each */
 } bv_rescued;
+
+/* A point of the complex plane: it is passed, not pointed to. */
+typedef struct bv_point {
+    double real;
+    double imag;
+} bv_point;
+
+typedef struct bv_value {
+    uint64_t code;
+    double real;
+    double imag;
+} bv_value;
 
 /*
  * The polynomial of a kind and an index n, unless a step on the way would make a value larger in magnitude than w, or a
@@ -536,6 +560,34 @@ bv_answer bv_cascade(const uint64_t *indices, size_t count, int64_t h, int64_t *
  * with BV_NO_LIMIT as w, and that BV_REFUSED_OVER is never given.
  */
 bv_answer bv_second(uint64_t kind, uint64_t n, int64_t h, int64_t *buf, size_t len, int64_t *scratch, size_t room);
+
+/*
+ * The response at a point: the value there of the polynomial that has these coefficients, made here or not. With x and
+ * y for at.real and at.imag it starts from real = 0 and imag = 0, goes through the coefficients c from the highest
+ * degree down, the last entry first, and makes at each
+ *
+ *   new real = (real * x - imag * y) + c
+ *   new imag = real * y + imag * x
+ *
+ * both of the old real and imag. Each of the seven operations is rounded once, to the nearest double, half way to the
+ * even one; c is exact. The answer is what this sequence gives, bit by bit, with its signs of zero and its infinities:
+ * no product is fused with a sum, and nothing is reordered. Only the bits of a not-a-number (which one it is) are open.
+ *
+ *   code                given where                                                  real, imag
+ *   BV_DONE             nothing below applies                                        the value
+ *   BV_REFUSED_POINT    a part of the point is not from -1 to 1, or is not a number  0
+ *   BV_REFUSED_COARSE   a coefficient is larger in magnitude than 2^53               0
+ *
+ * The order is that of the table. -1, 1, -0 and subnormal parts are good, and so are coefficients of 2^53 and -2^53. No
+ * coefficient at all gives 0 and 0, at a good point. coeffs is only read.
+ *
+ * At 1, -1, i and -i the answer compares equal to the whole number that the value is, where the magnitudes of the
+ * coefficients add up to at most 2^53: at 1 that is their sum, the gain, and F(1) at 1, F(2) at -1 and F(4) at i and -i
+ * are 0. A frequency f at a rate of samples is the point cos(2 pi f / rate), sin(2 pi f / rate), and the magnitude of
+ * the value there, hypot(real, imag), is how much of it comes through. Infinities, and not-a-numbers after them, arise
+ * only at points outside the unit circle, as 1 + i is, and from well above a thousand coefficients.
+ */
+bv_value bv_response(const int64_t *coeffs, size_t count, bv_point at);
 
 #ifdef __cplusplus
 }

@@ -7,6 +7,7 @@ fields in their order, and what then stands in each buffer that can be written.
 import answers
 import halves
 import rescues
+import responses
 import shelf
 import shelves
 import steps
@@ -80,8 +81,12 @@ def rescue(numbers, scratch, data):
     return rescues.rescue(data, *numbers, scratch)
 
 
+def response(numbers, coeffs):
+    return (responses.response(coeffs, *numbers),)
+
+
 REQUESTS = (polynomial, partial, comb, accumulate, write, read, cascade, second, lookup, browse, writehalf, readhalf,
-            tohalf, towhole, rescue)
+            tohalf, towhole, rescue, response)
 ANSWERS = {f.__name__: f for f in REQUESTS}
 
 

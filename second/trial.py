@@ -6,6 +6,7 @@ import halves
 import over
 import refusals
 import rescues
+import responses
 import shelf
 import shelves
 import steps
@@ -54,6 +55,6 @@ def stops():
 
 def cases():
     parts = (edges, steps.cases, shelf.cases, stops, over.cases, cascades.cases, table, seconds, shelves.cases,
-             halves.cases, rescues.cases)
+             halves.cases, rescues.cases, responses.cases)
     for some in parts:
         yield from some()

@@ -1479,11 +1479,143 @@ static void rescues(void) {
     HOLD(memcmp(before, PARTS, sizeof PARTS) == 0);
 }
 
+/* The parts of a point at their edges, as bits: from -1 to 1, and outside. */
+static const uint64_t EDGES[] = {
+    0x0000000000000000, 0x8000000000000000, /* 0 and -0 */
+    0x3FF0000000000000, 0xBFF0000000000000, /* 1 and -1 */
+    0x3FEFFFFFFFFFFFFF, 0xBFEFFFFFFFFFFFFF, /* next to them, inside */
+    0x3FF0000000000001, 0xBFF0000000000001, /* and outside */
+    0x3FE0000000000000, 0xBFE0000000000001, /* about a half */
+    0x3FB999999999999A, 0xBFD5555555555555, /* a tenth, a third */
+    0x3FE6A09E667F3BCD, 0xBFE6A09E667F3BCC, /* root of a half, from both sides */
+    0x0000000000000001, 0x8000000000000001, /* the least */
+    0x000FFFFFFFFFFFFF, 0x800FFFFFFFFFFFFF, /* the largest subnormal */
+    0x0010000000000000, 0x8010000000000000, /* the least normal */
+    0x1E60000000000000, 0x9E50000000000000, /* 2^-537, -2^-538: their squares are about the least */
+    0x3CA0000000000000, 0xBC90000000000001, /* 2^-53, about -2^-54 */
+    0x4000000000000000, 0xC000000000000000, /* 2 and -2 */
+    0x7FEFFFFFFFFFFFFF, 0xFFEFFFFFFFFFFFFF, /* the largest */
+    0x7FF0000000000000, 0xFFF0000000000000, /* infinite */
+    0x7FF8000000000000, 0xFFF8000000000000, /* not a number, quiet */
+    0x7FF0000000000001, 0xFFF7FFFFFFFFFFFF, /* and signalling */
+};
+
+/* The point with two of these parts. */
+static bv_point point_of(size_t real, size_t imag) {
+    bv_point point;
+    memcpy(&point.real, &EDGES[real], sizeof point.real);
+    memcpy(&point.imag, &EDGES[imag], sizeof point.imag);
+    return point;
+}
+
+/* The same bits, or no number both. */
+static int same_part(double a, double b) {
+    return memcmp(&a, &b, sizeof a) == 0 || (a != a && b != b);
+}
+
+/* The sequence that the header tells, as plain C. The Makefile has it compiled with no operation fused. */
+static bv_value evaluated(const int64_t *coeffs, size_t count, bv_point at) {
+    bv_value v = {BV_DONE, 0, 0};
+    if (!(at.real >= -1 && at.real <= 1 && at.imag >= -1 && at.imag <= 1))
+        v.code = BV_REFUSED_POINT;
+    for (size_t i = 0; i < count && v.code == BV_DONE; i++)
+        if (coeffs[i] > INT64_C(1) << 53 || coeffs[i] < -(INT64_C(1) << 53))
+            v.code = BV_REFUSED_COARSE;
+    for (size_t i = count; i > 0 && v.code == BV_DONE; i--) {
+        const double real = (v.real * at.real - v.imag * at.imag) + (double)coeffs[i - 1];
+        v.imag = v.real * at.imag + v.imag * at.real;
+        v.real = real;
+    }
+    return v;
+}
+
+static bv_value responded(const int64_t *coeffs, size_t count, bv_point at) {
+    const bv_value right = evaluated(coeffs, count, at), v = bv_response(count == 0 ? NULL : coeffs, count, at);
+    HOLD(v.code == right.code && same_part(v.real, right.real) && same_part(v.imag, right.imag));
+    return v;
+}
+
+/* Lists of up to three coefficients at every edge, at points with every pair of parts; of three at some. */
+static void small_responses(void) {
+    const int64_t most = INT64_C(1) << 53;
+    const int64_t edges[] = {0,        1,        -1,        3,         most,      -most,
+                             most - 1, most + 1, -most - 1, INT64_MAX, INT64_MIN, INT64_MIN + 1};
+    const size_t many = COUNT(edges), all = COUNT(EDGES);
+    for (size_t at = 0; at < all * all; at++)
+        responded(NULL, 0, point_of(at % all, at / all));
+    for (size_t k = 0; k < many * many * many; k++) {
+        const int64_t coeffs[] = {edges[k % many], edges[k / many % many], edges[k / many / many]};
+        const size_t count = k < many ? 1 : k < many * many ? 2 : 3, step = count < 3 ? 1 : 7;
+        for (size_t at = k % step; at < all * all; at += step)
+            responded(coeffs, count, point_of(at % all, at / all));
+    }
+}
+
+/* At 1, i, -1 and -i, with either sign of the part that is 0, the answer is the whole number: the magnitudes of these
+ * coefficients add up to at most 2^53. */
+static void whole_responses(const int64_t *coeffs, size_t count) {
+    for (size_t turn = 0; turn < 4; turn++)
+        for (int sign = 0; sign < 2; sign++) {
+            const double zero = sign ? -0.0 : 0.0, one = turn < 2 ? 1 : -1;
+            int64_t value[4] = {0, 0, 0, 0}; /* of 1, i, -1 and -i */
+            for (size_t i = 0; i < count; i++)
+                value[i * turn % 4] += coeffs[i];
+            bv_value v = responded(coeffs, count, turn % 2 ? (bv_point){zero, one} : (bv_point){one, zero});
+            HOLD(v.code == BV_DONE && v.real == (double)(value[0] - value[2]) &&
+                 v.imag == (double)(value[1] - value[3]));
+        }
+}
+
+static void responses(void) {
+    const int64_t half = INT64_C(1) << 52;
+    const int64_t sums[][4] = {
+        {half, half, 0, 0},       {half, 0, half, 0},      {-half, half, 0, 0},
+        {half, 0, -half, 0},      {2 * half, 0, 0, 0},     {0, 0, 0, -2 * half},
+        {2 * half - 1, -1, 0, 0}, {1, 0, 0, 1 - 2 * half}, {half / 2, -half / 2, half / 2, half / 2}};
+    small_responses();
+    for (size_t i = 0; i < COUNT(sums); i++)
+        whole_responses(sums[i], 4);
+    for (size_t i = 0; i < COUNT(POLYNOMIALS); i++) {
+        const polynomial_case *p = &POLYNOMIALS[i];
+        const size_t count = p->degree + 1;
+        HOLD(bv_polynomial(p->kind, p->n, NONE, NONE, buf, 65536).code == BV_DONE);
+        HOLD(bv_response(buf, count, (bv_point){1, 0}).real == (double)p->gain);
+        whole_responses(buf, count);
+        for (size_t at = 0; at < 16; at++)
+            responded(buf, count, point_of(at, (5 * at + 3) % 16));
+    }
+    /* about where the parts become infinite, and then no number; a coefficient above 2^53 at either end of many */
+    for (size_t i = 0; i < 65536; i++)
+        buf[i] = 2 * half;
+    for (size_t count = 1900; count < 2100; count++)
+        for (size_t corner = 0; corner < 4; corner++)
+            responded(buf, count, (bv_point){corner % 2 ? 1 : -1, corner / 2 ? 1 : -1});
+    for (size_t i = 0; i < 4; i++) {
+        static const size_t places[] = {0, 1, 40000, 65535};
+        buf[places[i]]++;
+        HOLD(responded(buf, 65536, (bv_point){0.5, -0.5}).code == BV_REFUSED_COARSE);
+        buf[places[i]]--;
+    }
+    HOLD(responded(buf, 65536, (bv_point){0.5, -0.5}).code == BV_DONE);
+
+    /* more than 2^32 coefficients, which in 32 bits are one: refused from whichever end they are looked at */
+    const size_t far = (size_t)1 << 32, bytes = 8 * (far + 1);
+    int64_t *wide = mmap(NULL, bytes, PROT_READ | PROT_WRITE, MAP_PRIVATE | MAP_ANONYMOUS | MAP_NORESERVE, -1, 0);
+    if ((void *)wide == MAP_FAILED) {
+        printf("edges.c: there is no room for 2^32 coefficients\n");
+        exit(1);
+    }
+    wide[1] = wide[far] = 2 * half + 1;
+    HOLD(bv_response(wide, far + 1, (bv_point){1, 1}).code == BV_REFUSED_COARSE);
+    HOLD(bv_response(wide, far + 1, (bv_point){2, 1}).code == BV_REFUSED_POINT);
+    munmap(wide, bytes);
+}
+
 /* Each code has its name, and no other number has one. */
 static void names(void) {
-    static const char *const of[] = {"DONE",   "KIND",   "INDEX", "LIMIT",  "SHORT",  "OVER",  "TALL",
-                                     "STEP",   "CUT",    "MARK",  "?",      "WIDTH",  "RKIND", "RWIDTH",
-                                     "RINDEX", "RCOUNT", "LIST",  "ABSENT", "UNEVEN", "?",     "?"};
+    static const char *const of[] = {"DONE", "KIND",   "INDEX",  "LIMIT", "SHORT",  "OVER",   "TALL",   "STEP",
+                                     "CUT",  "MARK",   "?",      "WIDTH", "RKIND",  "RWIDTH", "RINDEX", "RCOUNT",
+                                     "LIST", "ABSENT", "UNEVEN", "POINT", "COARSE", "?",      "?"};
     for (size_t code = 0; code < COUNT(of); code++)
         HOLD(strcmp(bv_name(code), of[code]) == 0);
     HOLD(strcmp(bv_name(UINT64_MAX), "?") == 0);
@@ -1505,6 +1637,7 @@ int main(void) {
     shelves();
     halves();
     rescues();
+    responses();
     names();
     printf("%d outcomes, all as told in bonvedrick.h\n", calls);
     return 0;

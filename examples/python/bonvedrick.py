@@ -5,7 +5,8 @@ function does and refuses is told in include/bonvedrick.h.
 
 ctypes would cut a number to 64 bits without a word, so each number and each entry is looked at first: one that does
 not fit its C type is an OverflowError, and what is no whole number is a TypeError. Then nothing was asked. A whole
-number is what operator.index takes for one: True is 1, numpy's whole numbers are good, 1.0 and "1" are not.
+number is what operator.index takes for one: True is 1, numpy's whole numbers are good, 1.0 and "1" are not. A point is
+what complex takes for a number, so a real one too, and no text.
 
 Shelves are never copied: C looks at the bytes where they are, those of a file that is mapped too, and what it finds
 comes out as a memoryview of them, which can be read and converted as it is. Nobody may write to them during a call.
@@ -20,8 +21,8 @@ import mmap
 import operator
 import os
 from collections.abc import Mapping, Set
-from ctypes import POINTER, c_int, c_int64, c_size_t, c_ssize_t, c_uint8, c_uint64, c_void_p
-from typing import Iterable, Iterator, NamedTuple, SupportsIndex, Union
+from ctypes import POINTER, c_double, c_int, c_int64, c_size_t, c_ssize_t, c_uint8, c_uint64, c_void_p
+from typing import Iterable, Iterator, NamedTuple, SupportsComplex, SupportsFloat, SupportsIndex, Union
 
 F, I = 1, 2
 OWN, HOUSE = 1, 2  # the shelves of a lookup
@@ -51,6 +52,8 @@ NAMES = {
     16: "LIST",
     17: "ABSENT",
     18: "UNEVEN",
+    19: "POINT",
+    20: "COARSE",
 }
 # The codes that tell a degree, where the answer has one.
 TELL_DEGREE = {"SHORT", "OVER", "TALL"}
@@ -67,6 +70,7 @@ UNREAD = {"CUT", "MARK", "WIDTH", *FIELDS}
 SHELVES = {0: "shelf", OWN: "own shelf", HOUSE: "house shelf"}
 
 Shelf = Union[bytes, bytearray, memoryview, mmap.mmap]
+Number = Union[complex, SupportsComplex, SupportsFloat, SupportsIndex]
 
 
 class Answer(NamedTuple):
@@ -146,6 +150,12 @@ class Rescued(NamedTuple):
     stretches: int
 
 
+class Value(NamedTuple):
+    code: int
+    real: float
+    imag: float
+
+
 class Entry(NamedTuple):
     """A record on a shelf: what its header says, the byte of the shelf at which it starts, and its bytes, a part of
     the shelf itself."""
@@ -155,6 +165,12 @@ class Entry(NamedTuple):
     degree: int
     start: int
     record: memoryview
+
+
+class _Point(ctypes.Structure):
+    """C's point, which is passed as it is."""
+
+    _fields_ = [("real", c_double), ("imag", c_double)]
 
 
 WORDS = (POINTER(c_int64), c_size_t)
@@ -177,6 +193,7 @@ FUNCTIONS = {  # what each answers and takes
     "bv_to_half": (Converted, *SHELF, *BYTES),
     "bv_to_whole": (Converted, *SHELF, *BYTES),
     "bv_rescue": (Rescued, *SHELF, *BYTES, *INDICES, *WORDS),
+    "bv_response": (Value, *WORDS, _Point),
 }
 
 
@@ -391,6 +408,14 @@ class Bonvedrick:
         told = iter(numbers[: 2 * a.stretches])
         return bytes(memoryview(out)[: a.kept]), list(zip(told, told))
 
+    def response(self, coeffs: Iterable[SupportsIndex], point: Number) -> complex:
+        """The value at a point of the polynomial with these coefficients, in floats from the highest degree down, each
+        operation rounded once. Each part of the point is from -1 to 1, and no coefficient is above 2^53 in
+        magnitude."""
+        words, at = _words("coeffs", coeffs), _complex("point", point)
+        a = self._ask("bv_response", words, _Point(at.real, at.imag))
+        return complex(a.real, a.imag)
+
     def _ask(self, function, *arguments):
         """The answer of a C function, or Refused. An array goes over with its length."""
         passed = []
@@ -418,8 +443,10 @@ def _refusal(answer, told):
 
 
 def _struct(answer):
-    """The C struct of an answer: 64-bit numbers; the gain alone has a sign, as the coefficients have."""
-    types = [(field, c_int64 if field == "gain" else c_uint64) for field in answer._fields]
+    """The C struct of an answer: 64-bit numbers; the gain alone has a sign, as the coefficients have, and a value's
+    parts are doubles."""
+    others = {"gain": c_int64, "real": c_double, "imag": c_double}
+    types = [(field, others.get(field, c_uint64)) for field in answer._fields]
     return type(answer.__name__, (ctypes.Structure,), {"_fields_": types})
 
 
@@ -437,6 +464,13 @@ def _u64(name, value):
 
 def _i64(name, value):
     return _within(name, value, -(2**63), 2**63 - 1)
+
+
+def _complex(name, value):
+    """The complex number that value is; text is none, though complex would read it."""
+    if isinstance(value, str):
+        raise TypeError(f"{name} is a number, not a str")
+    return complex(value)
 
 
 def _numbers(name, values, low, high):

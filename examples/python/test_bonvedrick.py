@@ -1,5 +1,5 @@
 """Tests of the wrapper: numbers of every size in every place, what is no number, shelves of every sort that are not
-copied, and refusals that are carried around.
+copied, values at points with the signs of their zeros, and refusals that are carried around.
 Usage: test_bonvedrick.py libbonvedrick.so [words of unittest]"""
 
 import array
@@ -7,9 +7,12 @@ import copy
 import ctypes
 import decimal
 import enum
+import fractions
+import math
 import mmap
 import multiprocessing
 import pickle
+import struct
 import sys
 import tempfile
 import tracemalloc
@@ -138,6 +141,16 @@ def small(n):
     return [1] * n if n % 2 else [1] + [0] * (n // 2 - 1) + [1]
 
 
+def response_of(coeffs, point=1):
+    """The value by python's own floats, which round each operation once; each coefficient at most 2^53 is one."""
+    if any(abs(c) > 2**53 for c in coeffs):
+        return refused("COARSE")
+    real, imag, at = 0.0, 0.0, complex(point)
+    for c in reversed(coeffs):
+        real, imag = (real * at.real - imag * at.imag) + float(c), real * at.imag + imag * at.real
+    return complex(real, imag)
+
+
 def short_of(needed, delivered):
     """As `entries`, where no degree is told."""
     return u64, lambda v: refused("SHORT") if v < needed else delivered
@@ -239,6 +252,7 @@ LISTS = {
     "write": ("coeffs", dict(kind=F, n=6), F6, i64, record_of),
     "write_half": ("coeffs", dict(kind=F, n=6), F6, i64, half_of),
     "cascade": ("indices", dict(h=2), [1, 2, 3], u64, cascade_of),
+    "response": ("coeffs", dict(point=1), F6, i64, response_of),
 }
 
 
@@ -723,6 +737,78 @@ class Rescues(Wrapper):
             changing.append(0)  # nothing of it is held any more
 
 
+def bits(value):
+    """The bits of both parts, by which -0 is not 0; every NaN is one."""
+    return [struct.pack("<d", part) if part == part else "NaN" for part in (value.real, value.imag)]
+
+
+class Responses(Wrapper):
+    def held_to(self, coeffs, point):
+        self.assertEqual(bits(self.bv.response(coeffs, point)), bits(response_of(coeffs, point)))
+
+    def test_points_that_are_refused(self):
+        above = math.nextafter(1, 2) if hasattr(math, "nextafter") else 1 + 2**-52
+        for part in above, -above, 2, 1e308, math.inf, -math.inf, math.nan:
+            for other in 0, -0.0, 1, -1, 0.5, part, math.nan:
+                for point in complex(part, other), complex(other, part):
+                    for coeffs in [], F6, [2**53 + 1], [-(2**63), 1]:
+                        self.assertEqual(self.outcome("response", coeffs=coeffs, point=point), (refused("POINT"), 1))
+        for point in 1, -1, 1 + 1j, -1 - 1j, complex(-0.0, 5e-324):
+            self.assertEqual(bits(self.bv.response([], point)), bits(0j))
+            for place in range(3):
+                coeffs = [2**53, -(2**53), 2**53]
+                self.held_to(coeffs, point)
+                for c in 2**53 + 1, -(2**53) - 1, 2**63 - 1, -(2**63):
+                    coeffs[place] = c
+                    self.assertEqual(self.outcome("response", coeffs=coeffs, point=point), (refused("COARSE"), 1))
+
+    def test_the_value_is_that_of_the_sequence_bit_by_bit(self):
+        parts = [0.0, -0.0, 1.0, -1.0, 0.1, -0.3, 0.7, 1e-160, -3e-308, 5e-324, 1 - 2**-53]
+        for coeffs in [0], [0, 0], [0, 0, -3], [-1, 1], [1, 2**53], [3, -(2**53), 7, 2**53 - 1], list(range(9)), F15:
+            for real in parts:
+                for imag in parts:
+                    self.held_to(coeffs, complex(real, imag))
+        # told
+        self.assertEqual(bits(self.bv.response([0], -1 - 1j)), bits(complex(0.0, -0.0)))
+        self.assertEqual(bits(self.bv.response([5], complex(-0.0, -0.0))), bits(complex(5.0, -0.0)))
+        self.assertEqual(bits(self.bv.response([-1, 1], complex(1, -0.0))), bits(0j))
+        self.assertEqual(bits(self.bv.response([1, 2**53], 1)), bits(complex(2.0**53, 0.0)))  # a tie
+
+    def test_infinities_and_what_is_no_number(self):
+        for point in 1 + 1j, -1 + 1j, 1 - 1j, -1 - 1j:
+            met = set()
+            for many in range(1938, 1950):
+                self.held_to([2**53] * many, point)
+                told = self.bv.response([2**53] * many, point)
+                met.update((math.isinf(part), math.isnan(part)) for part in (told.real, told.imag))
+            self.assertEqual(met, {(False, False), (True, False), (False, True)})
+
+    def test_the_gain_and_the_notches(self):
+        for n in 1, 2, 3, 4, 9, 105, 32768, 65521, 65535:
+            for kind in F, I:
+                coeffs, told = self.bv.polynomial(kind, n)
+                self.assertEqual(self.bv.response(coeffs, 1), told.gain)
+                for point in -1, 1j, -1j:
+                    self.held_to(coeffs, point)
+        for n, point in (1, 1), (2, -1), (4, 1j), (4, -1j):
+            self.assertEqual(self.bv.response(self.bv.polynomial(F, n)[0], point), 0)
+
+    def test_what_is_a_point(self):
+        class Half:
+            def __float__(self):
+                return 0.5
+
+        class Turn:
+            def __complex__(self):
+                return 1j
+
+        for point in 1, True, 0.5, Half(), Turn(), 1j, fractions.Fraction(1, 3), decimal.Decimal("0.25"):
+            self.held_to(F15, point)
+        for point in "1", "1j", b"1", None, [1], (0, 1), object():
+            self.assertEqual(self.outcome("response", coeffs=F15, point=point), (TypeError, 0))
+        self.assertEqual(self.outcome("response", coeffs=F15, point=10**400), (OverflowError, 0))
+
+
 class Refusals(Wrapper):
     def each(self):
         """A refusal of each code, and one that this wrapper does not know, with what it says."""
@@ -749,6 +835,8 @@ class Refusals(Wrapper):
             ("SHORT", lambda: self.bv.to_whole(F6_HALF, 12)),
             ("RWIDTH", lambda: self.bv.read_half(F6_HALF[:3] + b"\3" + F6_HALF[4:])),
             ("SHORT", lambda: self.bv.rescue(F6_RECORD, entries=2)),
+            ("POINT", lambda: self.bv.response([2**53 + 1], 2)),
+            ("COARSE", lambda: self.bv.response([2**53 + 1], 1)),
         ]
         for at, byte, name in [(0, 0, "MARK"), *fields, (10, 128, "WIDTH")]:
             asked.append((name, lambda at=at, byte=byte: self.bv.read(damaged(at, byte))))
@@ -789,6 +877,8 @@ class Refusals(Wrapper):
                 "SHORT (4), degree 2",
                 "RWIDTH (13), the record's width, at byte 3, is wrong: right is 1, 2, 4 or 8",
                 "SHORT (4)",
+                "POINT (19)",
+                "COARSE (20)",
                 "MARK (9)",
                 "RKIND (12), the record's kind, at byte 2, is wrong: right is 1 or 2",
                 "RWIDTH (13), the record's width, at byte 3, is wrong: right is 1, 2, 4 or 8",

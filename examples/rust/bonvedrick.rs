@@ -11,6 +11,8 @@ use std::ops::Range;
 
 /// The C functions and their answers, as include/bonvedrick.h has them.
 mod c {
+    use super::Point;
+
     #[repr(C)]
     pub struct Answer {
         pub code: u64,
@@ -89,6 +91,12 @@ mod c {
         pub stretches: u64,
     }
 
+    #[repr(C)]
+    pub struct Value {
+        pub code: u64,
+        pub value: Point,
+    }
+
     unsafe extern "C" {
         pub fn bv_polynomial(kind: u64, n: u64, h: i64, w: i64, buf: *mut i64, len: usize) -> Answer;
         pub fn bv_partial(kind: u64, n: u64, j: u64, w: i64, buf: *mut i64, len: usize) -> Stop;
@@ -144,6 +152,7 @@ mod c {
             scratch: *mut i64,
             room: usize,
         ) -> Answer;
+        pub fn bv_response(coeffs: *const i64, count: usize, at: Point) -> Value;
     }
 }
 
@@ -152,6 +161,14 @@ mod c {
 pub enum Kind {
     F = 1,
     I = 2,
+}
+
+/// A complex number: a point, and the value there.
+#[repr(C)]
+#[derive(Clone, Copy, Debug, Default, PartialEq)]
+pub struct Point {
+    pub real: f64,
+    pub imag: f64,
 }
 
 /// For the height limit h and the working limit w: none.
@@ -234,7 +251,7 @@ impl fmt::Display for Fault {
 /// field that is wrong, and the byte of the record at which it starts. `List` is of `cascade`. `Record` is of `lookup`
 /// and `records`: a record on the way doesn't read; the byte is that of the shelf at which it starts, and the shelf is
 /// `None` where there is only one. `Absent` is of `lookup`. `Uneven` is of half records: the halves of the polynomial
-/// don't match.
+/// don't match. `Point` and `Coarse` are of `response`.
 #[derive(Clone, Copy, Debug, PartialEq, Eq)]
 pub enum Refusal {
     Kind,
@@ -252,6 +269,8 @@ pub enum Refusal {
     Record { fault: Fault, byte: usize, shelf: Option<Shelf> },
     Absent,
     Uneven,
+    Point,
+    Coarse,
     /// A code that this wrapper doesn't know: a later library.
     Unknown(u64),
 }
@@ -280,6 +299,8 @@ impl Refusal {
             16 => Refusal::List,
             17 => Refusal::Absent,
             18 => Refusal::Uneven,
+            19 => Refusal::Point,
+            20 => Refusal::Coarse,
             other => Refusal::Unknown(other),
         }
     }
@@ -322,6 +343,8 @@ impl Refusal {
             Refusal::List => 16,
             Refusal::Absent => 17,
             Refusal::Uneven => 18,
+            Refusal::Point => 19,
+            Refusal::Coarse => 20,
             Refusal::Unknown(code) => code,
         }
     }
@@ -355,6 +378,8 @@ impl fmt::Display for Refusal {
             }
             Refusal::Absent => f.write_str("neither shelf has such a record"),
             Refusal::Uneven => f.write_str("the halves of the polynomial don't match"),
+            Refusal::Point => f.write_str("a part of the point is not from -1 to 1"),
+            Refusal::Coarse => f.write_str("a coefficient is larger in magnitude than 2^53"),
             Refusal::Unknown(code) => write!(f, "code {code}"),
         }
     }
@@ -623,4 +648,12 @@ pub fn second<'a>(
     let (work, room) = (scratch.as_mut_ptr(), scratch.len());
     let a = unsafe { c::bv_second(kind as u64, n, h, buf.as_mut_ptr(), buf.len(), work, room) };
     delivered(a, buf)
+}
+
+/// The value at a point of the polynomial with these coefficients, in f64 from the highest degree down, each operation
+/// rounded once. Each part of the point is from -1 to 1, and no coefficient is above 2^53 in magnitude.
+pub fn response(coeffs: &[i64], at: Point) -> Result<Point, Refusal> {
+    let a = unsafe { c::bv_response(coeffs.as_ptr(), coeffs.len(), at) };
+    outcome(a.code, None, 0)?;
+    Ok(a.value)
 }

@@ -1,13 +1,14 @@
 //! A mains notch in Rust, over the safe wrapper. At 750 samples a second 50 Hz is one turn in 15 samples, so F(15)
 //! stops it. It asks, grows the buffer as the refusal tells, shows how the polynomial grows divisor by divisor, and
 //! stores it. Then it asks which registers of a chip the steps of a larger one fit, for a cascade, and both engines;
-//! finds the record on a shelf, and halves it; and rescues a damaged shelf.
+//! finds the record on a shelf, and halves it; rescues a damaged shelf; and asks what comes through of the hum.
 mod bonvedrick;
 
 use bonvedrick::{
-    Kind, NO_LIMIT, Refusal, accumulate, cascade, comb, lookup, partial, polynomial, read, read_half, records,
-    registers, rescue, second, to_half, to_whole, write,
+    Kind, NO_LIMIT, Point, Refusal, accumulate, cascade, comb, lookup, partial, polynomial, read, read_half, records,
+    registers, rescue, response, second, to_half, to_whole, write,
 };
+use std::f64::consts::TAU;
 
 const RATE: u64 = 750;
 const MAINS: u64 = 50;
@@ -120,5 +121,14 @@ fn main() -> Result<(), Refusal> {
     let rescued = rescue(&damaged, &mut kept, &mut list, &mut buf)?;
     let skipped: Vec<_> = rescued.skipped().collect();
     println!("in {}: {} bytes kept of {}, skipped {skipped:?}", buf.len(), rescued.kept.len(), damaged.len());
+
+    for hz in [0, MAINS, 3 * MAINS] {
+        let (imag, real) = (TAU * hz as f64 / RATE as f64).sin_cos();
+        let value = response(f.coeffs, Point { real, imag })?;
+        println!("{hz} Hz comes through times {:.3}", value.real.hypot(value.imag));
+    }
+    println!("at half the rate: {:?}", response(f.coeffs, Point { real: -1.0, imag: 0.0 })?);
+    println!("at 2: {:?}", response(f.coeffs, Point { real: 2.0, imag: 0.0 }));
+    println!("2^53 + 1 as a coefficient: {:?}", response(&[1, (1 << 53) + 1], Point { real: 1.0, imag: 0.0 }));
     Ok(())
 }

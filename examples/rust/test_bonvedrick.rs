@@ -3,8 +3,8 @@
 mod bonvedrick;
 
 use bonvedrick::{
-    Fault, Field, Kind, NO_LIMIT, Refusal, Shelf, Stretch, accumulate, cascade, comb, lookup, partial, polynomial,
-    read, read_half, records, registers, rescue, second, to_half, to_whole, write, write_half,
+    Fault, Field, Kind, NO_LIMIT, Point, Refusal, Shelf, Stretch, accumulate, cascade, comb, lookup, partial,
+    polynomial, read, read_half, records, registers, rescue, response, second, to_half, to_whole, write, write_half,
 };
 use std::ops::Range;
 
@@ -49,7 +49,9 @@ fn every_code_has_its_refusal() {
         (16, Refusal::List),
         (17, Refusal::Absent),
         (18, Refusal::Uneven),
-        (19, Refusal::Unknown(19)),
+        (19, Refusal::Point),
+        (20, Refusal::Coarse),
+        (21, Refusal::Unknown(21)),
         (u64::MAX, Refusal::Unknown(u64::MAX)),
     ];
     for (code, refusal) in refusals {
@@ -598,4 +600,100 @@ fn the_text_has_the_place_on_the_shelf() {
     );
     assert_eq!(Refusal::Absent.to_string(), "neither shelf has such a record");
     assert_eq!(Refusal::Uneven.to_string(), "the halves of the polynomial don't match");
+    assert_eq!(Refusal::Point.to_string(), "a part of the point is not from -1 to 1");
+    assert_eq!(Refusal::Coarse.to_string(), "a coefficient is larger in magnitude than 2^53");
+}
+
+/// The largest magnitude of a coefficient, and the number next to it.
+const MOST: i64 = 1 << 53;
+const PAST: i64 = MOST + 1;
+
+fn at(real: f64, imag: f64) -> Point {
+    Point { real, imag }
+}
+
+/// The value, as bits: so that -0 is not 0.
+fn bits(value: Point) -> (u64, u64) {
+    (value.real.to_bits(), value.imag.to_bits())
+}
+
+/// The sequence that is promised.
+fn plain(coeffs: &[i64], at: Point) -> Point {
+    coeffs.iter().rev().fold(Point::default(), |v, &c| Point {
+        real: (v.real * at.real - v.imag * at.imag) + c as f64,
+        imag: v.real * at.imag + v.imag * at.real,
+    })
+}
+
+#[test]
+fn a_point_outside_is_refused_before_a_coefficient() {
+    let above = 1.0 + f64::EPSILON;
+    for part in [above, -above, 2.0, f64::MAX, f64::INFINITY, f64::NEG_INFINITY, f64::NAN, -f64::NAN] {
+        for other in [0.0, -0.0, 1.0, -1.0, 0.5, part, f64::NAN] {
+            for coeffs in [&[][..], &[1, -1, 1], &[PAST], &[i64::MIN, 1]] {
+                assert_eq!(response(coeffs, at(part, other)), Err(Refusal::Point));
+                assert_eq!(response(coeffs, at(other, part)), Err(Refusal::Point));
+            }
+        }
+    }
+    for part in [0.0, -0.0, 1.0, -1.0, f64::MIN_POSITIVE, f64::from_bits(1), 1.0 - f64::EPSILON / 2.0] {
+        assert_eq!(response(&[], at(part, -part)).map(bits), Ok((0, 0)));
+        assert_eq!(response(&[PAST, 1], at(part, part)), Err(Refusal::Coarse));
+        assert_eq!(response(&[MOST], at(part, -part)).map(|v| v.real), Ok(MOST as f64));
+    }
+}
+
+#[test]
+fn a_coefficient_above_2_to_the_53_is_refused_wherever_it_is() {
+    for c in [PAST, -PAST, 1 << 54, i64::MAX, i64::MIN, i64::MIN + 1] {
+        for place in 0..5 {
+            let mut coeffs = [1, MOST, -MOST, 0, 2];
+            assert!(response(&coeffs, at(0.5, 1.0)).is_ok());
+            coeffs[place] = c;
+            assert_eq!(response(&coeffs, at(0.5, 1.0)), Err(Refusal::Coarse));
+        }
+    }
+}
+
+#[test]
+fn the_value_is_that_of_the_sequence_bit_by_bit() {
+    let parts = [0.0, -0.0, 1.0, -1.0, 0.1, -0.3, 0.7, 1e-160, -3e-308, f64::from_bits(1), 1.0 - f64::EPSILON];
+    let slices = [&[0][..], &[0, 0], &[0, 0, -3], &[-1, 1], &[1, MOST], &[3, -MOST, 7, MOST - 1], &[1, 2, 3, 4, 5, 6]];
+    for coeffs in slices {
+        for real in parts {
+            for imag in parts {
+                let point = at(real, imag);
+                assert_eq!(response(coeffs, point).map(bits), Ok(bits(plain(coeffs, point))), "{coeffs:?} {point:?}");
+            }
+        }
+    }
+    // signs of zero, told
+    assert_eq!(response(&[0], at(-1.0, -1.0)).map(bits), Ok((0, 1 << 63)));
+    assert_eq!(response(&[5], at(-0.0, -0.0)).map(bits), Ok((5f64.to_bits(), 1 << 63)));
+    assert_eq!(response(&[-1, 1], at(1.0, -0.0)).map(bits), Ok((0, 0)));
+}
+
+#[test]
+fn far_out_it_becomes_infinite_and_then_no_number() {
+    let told = |many| response(&vec![MOST; many], at(1.0, 1.0)).unwrap();
+    assert!(told(1941).real.is_finite() && told(1941).imag.is_finite());
+    assert!(told(1942).real.is_infinite() && told(1942).imag.is_finite());
+    assert!(told(1943).real.is_infinite() && told(1943).imag.is_infinite());
+    assert!(told(1944).real.is_nan() && told(1944).imag.is_infinite());
+    assert!(told(1945).real.is_nan() && told(1945).imag.is_nan());
+}
+
+#[test]
+fn at_one_it_is_the_gain_and_a_notch_is_zero() {
+    let mut room = vec![0; 65536];
+    for n in [1, 2, 3, 4, 9, 105, 1155, 32768, 65521, 65535] {
+        for kind in [Kind::F, Kind::I] {
+            let p = polynomial(kind, n, NO_LIMIT, NO_LIMIT, &mut room).unwrap();
+            assert_eq!(response(p.coeffs, at(1.0, 0.0)), Ok(at(p.gain as f64, 0.0)));
+        }
+    }
+    for (coeffs, real, imag) in [(&[-1, 1][..], 1.0, 0.0), (&[1, 1], -1.0, 0.0), (&[1, 0, 1], 0.0, 1.0)] {
+        assert_eq!(response(coeffs, at(real, imag)), Ok(at(0.0, 0.0)));
+        assert_eq!(response(coeffs, at(real, -imag)), Ok(at(0.0, 0.0)));
+    }
 }

@@ -89,6 +89,21 @@ pub struct Rescued {
     pub stretches: u64,
 }
 
+#[repr(C)]
+#[derive(Debug, PartialEq, Clone, Copy, Default)]
+pub struct Point {
+    pub real: f64,
+    pub imag: f64,
+}
+
+#[repr(C)]
+#[derive(Debug, Clone, Copy, Default)]
+pub struct Value {
+    pub code: u64,
+    pub real: f64,
+    pub imag: f64,
+}
+
 extern "C" {
     fn bv_polynomial(kind: u64, n: u64, h: i64, w: i64, buf: *mut i64, len: usize) -> Answer;
     fn bv_partial(kind: u64, n: u64, j: u64, w: i64, buf: *mut i64, len: usize) -> Stop;
@@ -122,6 +137,7 @@ extern "C" {
         coeffs: *mut i64,
         entries: usize,
     ) -> Rescued;
+    fn bv_response(coeffs: *const i64, count: usize, at: Point) -> Value;
 }
 
 fn lent<T>(a: &mut [T]) -> *mut T {
@@ -187,4 +203,8 @@ pub fn to_whole(bytes: &[u8], out: &mut [u8]) -> Converted {
 pub fn rescue(shelf: &[u8], out: &mut [u8], list: &mut [u64], coeffs: &mut [i64]) -> Rescued {
     let (room, slots, entries) = (out.len(), list.len(), coeffs.len());
     unsafe { bv_rescue(shown(shelf), shelf.len(), lent(out), room, lent(list), slots, lent(coeffs), entries) }
+}
+
+pub fn response(coeffs: &[i64], at: Point) -> Value {
+    unsafe { bv_response(shown(coeffs), coeffs.len(), at) }
 }

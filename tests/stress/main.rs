@@ -11,6 +11,7 @@ mod records;
 mod reference;
 mod requests;
 mod rescues;
+mod responses;
 mod seconds;
 mod shelves;
 mod steps;
@@ -38,19 +39,21 @@ fn main() {
     all += tell("polynomials, any request", (0..2_000 * share).map(|_| requests::any(&mut random, &mut of)).sum());
     let last = LARGEST * share.min(100) / 100;
     // together, since all need the reference for n
-    let (mut stops, mut polynomials, mut seconds, mut halves, mut rescues) = (0, 0, 0, 0, 0);
+    let (mut stops, mut polynomials, mut seconds, mut halves, mut rescues, mut responses) = (0, 0, 0, 0, 0, 0);
     for n in 1..=last {
         polynomials += requests::index(&mut random, &mut of, n);
         stops += requests::stops(&mut random, &mut of, n);
         seconds += seconds::index(&mut random, &mut of, n);
         halves += half_records::index(&mut random, &mut of, n);
         rescues += rescues::index(&mut random, &mut of, n);
+        responses += responses::index(&mut random, &mut of, n);
     }
     all += tell("polynomials, every index", polynomials);
     all += tell("partial requests, every r", stops);
     all += tell("second engine, every index", seconds);
     all += tell("half records, every index", halves);
     all += tell("rescues, every index", rescues);
+    all += tell("responses, every index", responses);
     all += tell("second engine, any request", (0..5_000 * share).map(|_| seconds::any(&mut random, &mut of)).sum());
     all += tell("cascades", (0..100 * share).map(|_| cascades::any(&mut random, &mut of)).sum());
     all += tell("cascades of any indices", (0..share / 10).map(|_| cascades::large(&mut random, &mut of)).sum());
@@ -63,5 +66,6 @@ fn main() {
     all += tell("rescues", (0..2_000 * share).map(|_| rescues::any(&mut random, &mut of)).sum());
     all += tell("rescues, every byte", (0..share / 5).map(|_| rescues::every_byte(&mut random, &mut of)).sum());
     all += tell("rescues, more than 2^32 bytes", (0..share / 100).map(|_| rescues::far()).sum());
+    all += tell("responses", (0..15_000 * share).map(|_| responses::any(&mut random)).sum());
     println!("{all} inputs tried, no difference");
 }
