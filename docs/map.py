@@ -101,10 +101,11 @@ def draw():
         f'<svg xmlns="http://www.w3.org/2000/svg" viewBox="0 0 {WIDE} {tall}" font-family="monospace" font-size="12">',
         f'<rect width="{WIDE}" height="{tall}" fill="white"/>',
     ]
-    for i, group in enumerate(order):
-        x = 24 + i * (WIDE - 40) / len(order)
+    x = 24
+    for group in order:
         out.append(f'<rect x="{x:.0f}" y="14" width="14" height="14" rx="3" fill="{colour[group]}" stroke="#888"/>')
         out.append(f'<text x="{x + 20:.0f}" y="26" font-family="sans-serif">{group}</text>')
+        x += 64 + 7 * len(group)
     for k in range(len(rows)):
         y = TOP + ROW * (len(rows) - 1 - k)
         out.append(f'<text x="16" y="{y + 20}" fill="#999" font-size="14">{k + 1}</text>')
