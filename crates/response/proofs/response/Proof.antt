@@ -7,10 +7,11 @@ use borrow.Author.Needs.{needs}
 use borrow.Author.Tests.{not-true, not-false}
 use lib.ListN.{length, getD, drop}
 use lib.Ieee.{ofBits}
+use mir.Syntax.{w64}
+use mir.Facts.{toZ-ofZ}
 use denote.Ref.{now}
 use Prim.Native.Nat.{_-_, _≤_}
 use Rattle.definitions.specs.Integers.{0ℤ}
-use Rattle.heights.proofs.Signs.{passed}
 use Rattle.response.specs.Response.{nextAt, valueAt, isCoarse, someCoarse}
 use Rattle.response.specs.Laws.{value-none, value-more, coarse-none, coarse-more, coarse-some}
 use Rattle.response.specs.Laws.{outside-answer, coarse-answer, delivered}
@@ -68,7 +69,7 @@ returns-2 c =
     let start = entered .before .before in
     let cs = now (start .args .coeffs) in
     let left = loop .loop .left in
-    let this = passed (getD cs (left - 1) 0ℤ) (met .before .c .given) in
+    let this = toZ-ofZ {w = w64} {z = getD cs (left - 1) 0ℤ} (record { sfits = met .before .c .given }) in
     let first = sym (met .coarse .ensures ∙ ap isCoarse this) ∙ c .before .if2 .taken in
     let inside = sym (entered .before .inside .ensures) ∙ not-false _ (entered .if1 .left) in
     c .refused2 .ensures
@@ -92,7 +93,7 @@ loop-again c =
     let start = loop .before .before .before in
     let cs = now (start .args .coeffs) in
     let left = loop .loop .left in
-    let this = passed (getD cs (left - 1) 0ℤ) (met .before .c .given) in
+    let this = toZ-ofZ {w = w64} {z = getD cs (left - 1) 0ℤ} (record { sfits = met .before .c .given }) in
     let first = sym (met .coarse .ensures ∙ ap isCoarse this) ∙ c .before .if2 .left in (
       c .next .ensures ∙ ap₂ (λ v z. nextAt v (start .args .at) z) (loop .loop .inv .0) this
           ∙ value-more cs left (omega arith) (omega arith) (start .args .at),
