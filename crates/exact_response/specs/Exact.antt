@@ -1,16 +1,16 @@
 -- Where the magnitudes of the coefficients add up to at most 2^53, the response at 1, i, -1 and -i is delivered and
 -- compares equal to the whole-number value (`response-exact`), which is no larger than that (`value-small`), so that
--- none is lost when it is made an f64. One invariant for the four points (`value-holds`): both parts
--- hold whole numbers whose magnitudes add up to no more than those of the coefficients so far. For with z = p + q i and |p| + |q| at most 1, all that is met on the way is no
--- larger.
-use mathlib.Core.Path.{_≡_, refl, sym, ap, _∙_}
+-- none is lost when it is made an f64. One invariant for the four points (`value-holds`): both parts hold whole numbers
+-- whose magnitudes add up to no more than those of the coefficients so far. For with z = p + q i and |p| + |q| at most 1
+-- all that is met on the way is no larger.
+use mathlib.Core.Path.{_≡_, refl, ap}
 use mathlib.Core.Bool.{Bool, true, false}
 use mathlib.Core.List.{List, [], _∷_}
 use Prim.Native.Nat.{ℕ, zero, suc, _+_, _*_, _≤_}
 use native.Mathlib.Omega.{arith}
 use lib.Dec.{T}
 use lib.IntN.{ℤ, pos, natAbs}
-use lib.Ieee.{Float, fin, binary64, add, sub, mul, ofInt, inFloat, le, lt, eq}
+use lib.Ieee.{Float, fin, binary64, sub, mul, ofInt, inFloat, le, lt, eq}
 use Rattle.definitions.specs.Codes.{DONE}
 use Rattle.definitions.specs.Integers.{_⊕_, _⊗_, ⊖, _⊝_, 0ℤ}
 use Rattle.step_laws.specs.Signed.{abs-⊕, abs-⊝}
@@ -19,7 +19,8 @@ use Rattle.whole_floats.specs.Holds.{most, signed, Holds, holds-ofInt, holds-ad
 use Rattle.response.specs.declared.Point.{Point}
 use Rattle.response.specs.Response.{nextAt, valueAt, isWithin, isInside, someCoarse, answer}
 use Rattle.response.specs.Laws.{fine-small, fine-exact, delivered}
-use Rattle.exact_response.specs.Points.{Quarter, one, i, minusOne, minusI, pointAt, Gauss, wholeAt, timesAnd, wholeValue}
+use Rattle.exact_response.specs.Points.{Quarter, one, i, minusOne, minusI, pointAt}
+use Rattle.exact_response.specs.Points.{Gauss, wholeAt, timesAnd, wholeValue}
 
 pub record HoldsBoth (v : Point) (w : Gauss) : Type 0 where
   pub real : Holds (v .real) (w .re)

@@ -1,7 +1,7 @@
 -- At 1 the response of a polynomial is its gain (`gain-at-one`), where the magnitudes of its coefficients add up to at
 -- most 2^53. They do where the degree plus one, times the height, is no more (`by-height`), which an answer tells; and
 -- for every index of at most three odd primes, both kinds (`few-primes`).
-use mathlib.Core.Path.{_≡_, refl, sym, ap, _∙_}
+use mathlib.Core.Path.{_≡_, refl, ap, _∙_}
 use mathlib.Core.Bool.{Bool, true, false}
 use mathlib.Core.List.{List, [], _∷_}
 use Prim.Native.Nat.{ℕ, zero, suc, _+_, _*_, _≤_, _<_}
@@ -11,7 +11,7 @@ use lib.Dec.{T, eqb}
 use lib.ListN.{length}
 use lib.IntN.{ℤ, natAbs}
 use lib.Ieee.{binary64, eq, ofInt}
-use Rattle.definitions.specs.Integers.{_⊕_, _⊗_, ⊖, _⊝_, 0ℤ}
+use Rattle.definitions.specs.Integers.{_⊕_, 0ℤ}
 use Rattle.definitions.specs.Numbers.{rOf, kOf}
 use Rattle.definitions.specs.Polynomials.{polynomial, degree}
 use Rattle.definitions.specs.Requests.{goodIndex}
@@ -26,8 +26,8 @@ use Rattle.never_over.specs.Promised.{promisedOf, promisedAt}
 use Rattle.never_over.specs.Heights.{height-promised}
 use Rattle.whole_floats.specs.Holds.{most}
 use Rattle.response.specs.Response.{answer}
-use Rattle.exact_response.specs.Points.{one, pointAt, Gauss, wholeAt, timesAnd, wholeValue}
-use Rattle.exact_response.specs.Exact.{ExactAt, response-exact}
+use Rattle.exact_response.specs.Points.{one, pointAt, wholeAt, timesAnd, wholeValue}
+use Rattle.exact_response.specs.Exact.{response-exact}
 
 -- ---- the whole-number value at 1
 one-more : (g c : ℤ)

@@ -1,8 +1,8 @@
 -- A notch is a point where a polynomial is 0. Where its whole-number value at 1, i, -1 or -i is 0, so is the response
 -- there (`notch-exact`). Those of F(n) among them are 1 for n = 1, -1 for n = 2, and i and -i for n = 4 (`notches`).
-use mathlib.Core.Path.{_≡_, refl, sym, ap, _∙_}
+use mathlib.Core.Path.{_≡_, refl, ap}
 use mathlib.Core.Bool.{Bool}
-use mathlib.Core.List.{List, [], _∷_, map}
+use mathlib.Core.List.{List, [], _∷_}
 use Prim.Native.Nat.{ℕ, zero, suc, _≤_}
 use native.Mathlib.Omega.{arith}
 use lib.Dec.{T}
@@ -15,8 +15,9 @@ use Rattle.cyclotomic.specs.Worked.{Worked, worked, made, worked-right}
 use Rattle.light_sums.specs.Weight.{weight}
 use Rattle.whole_floats.specs.Holds.{most}
 use Rattle.response.specs.Response.{0ᶠ, answer}
-use Rattle.exact_response.specs.Points.{Quarter, one, i, minusOne, minusI, pointAt, Gauss, wholeAt, timesAnd, wholeValue}
-use Rattle.exact_response.specs.Exact.{ExactAt, response-exact}
+use Rattle.exact_response.specs.Points.{Quarter, one, i, minusOne, minusI, pointAt}
+use Rattle.exact_response.specs.Points.{Gauss, wholeAt, timesAnd, wholeValue}
+use Rattle.exact_response.specs.Exact.{response-exact}
 
 abbrev pub nought : Gauss
 nought = record { re = 0ℤ; im = 0ℤ }

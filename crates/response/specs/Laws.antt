@@ -2,9 +2,9 @@
 -- (`value-more`) and of the test (`coarse-more`); that a coarse coefficient met is one of all (`coarse-some`); and that
 -- one that is not coarse is a float exactly (`fine-exact`).
 use mathlib.Core.Path.{_≡_, refl, sym, ap, _∙_}
-use mathlib.Core.Bool.{Bool, true, false, cond, _||_, or-true, true≢false}
+use mathlib.Core.Bool.{true, false, _||_, or-true, true≢false}
 use mathlib.Core.List.{List, [], _∷_}
-use Prim.Native.Nat.{ℕ, zero, suc, _-_, _≤_, _<_}
+use Prim.Native.Nat.{ℕ, zero, suc, _-_, _^_, _≤_, _<_}
 use native.Mathlib.Omega.{arith}
 use borrow.Author.Tests.{lt-ltb, le-ltb, ltb-true, ltb-false}
 use lib.Dec.{T, le→leb, lt→ltb}
@@ -16,7 +16,8 @@ use lib.Ieee.{binary64, inFloat}
 use Rattle.definitions.specs.Integers.{0ℤ}
 use Rattle.definitions.specs.Codes.{DONE, POINT, COARSE}
 use Rattle.response.specs.declared.Point.{Point}
-use Rattle.response.specs.Response.{0ᶠ, nextAt, origin, valueAt, isInside, isCoarse, someCoarse, code, answered, answer}
+use Rattle.response.specs.Response.{0ᶠ, nextAt, origin, valueAt, isInside, isCoarse, someCoarse}
+use Rattle.response.specs.Response.{code, answered, answer}
 
 -- the coefficients from `left` on, and the one before them
 module _ (cs : List ℤ) (left : ℕ) (some : 0 < left) (most : left ≤ length cs) where
@@ -48,25 +49,25 @@ coarse-some cs zero h = h
 coarse-some [] (suc i) h = h
 coarse-some (c ∷ cs) (suc i) h = rw (coarse-some cs i h) (or-true (isCoarse c))
 
-pub fine-small : (c : ℤ) → natAbs c ≤ 9007199254740992 → isCoarse c ≡ false
+pub fine-small : (c : ℤ) → natAbs c ≤ 2 ^ 53 → isCoarse c ≡ false
 unfolding isCoarse
-fine-small c l = le-ltb 9007199254740992 (natAbs c) l
+fine-small c l = le-ltb (2 ^ 53) (natAbs c) l
 
 pub fine-exact : (c : ℤ) → isCoarse c ≡ false → T (inFloat binary64 c)
 unfolding isCoarse inFloat
-fine-exact (pos n) h = le→leb n 9007199254740992 (ltb-false 9007199254740992 n h)
-fine-exact (negsuc n) h = lt→ltb n 9007199254740992 (ltb-false 9007199254740992 (suc n) h)
+fine-exact (pos n) h = le→leb n (2 ^ 53) (ltb-false (2 ^ 53) n h)
+fine-exact (negsuc n) h = lt→ltb n (2 ^ 53) (ltb-false (2 ^ 53) (suc n) h)
 
 -- the two tests for a coarse coefficient, one after the other
 pub coarse-low : (c : ℤ) → ltZ c (negsuc 9007199254740991) ≡ true → ltZ c (negsuc 9007199254740991) ≡ isCoarse c
 unfolding isCoarse
 coarse-low (pos n) h = absurd (true≢false (sym h))
-coarse-low (negsuc n) h = h ∙ sym (lt-ltb 9007199254740992 (suc n) (omega (arith, ltb-true 9007199254740991 n h)))
+coarse-low (negsuc n) h = h ∙ sym (lt-ltb (2 ^ 53) (suc n) (omega (arith, ltb-true 9007199254740991 n h)))
 
 pub coarse-high : (c : ℤ) → ltZ c (negsuc 9007199254740991) ≡ false → ltZ (pos 9007199254740992) c ≡ isCoarse c
 unfolding isCoarse
 coarse-high (pos n) h = refl
-coarse-high (negsuc n) h = sym (le-ltb 9007199254740992 (suc n) (omega (arith, ltb-false 9007199254740991 n h)))
+coarse-high (negsuc n) h = sym (le-ltb (2 ^ 53) (suc n) (omega (arith, ltb-false 9007199254740991 n h)))
 
 -- the answer for each outcome of a pass
 module _ (cs : List ℤ) (at : Point) where

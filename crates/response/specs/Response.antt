@@ -1,6 +1,6 @@
 -- The response at a point (docs/RULES.md, 'The response at a point'), in the library's account of IEEE 754: each
 -- operation is rounded once, and there is one not-a-number, whose bits are no part of it.
-use Prim.Native.Nat.{ℕ}
+use Prim.Native.Nat.{ℕ, _^_}
 use mathlib.Core.Bool.{Bool, true, false, cond, not, _&&_, _||_}
 use mathlib.Core.List.{List, [], _∷_}
 use lib.Dec.{eqb, ltb}
@@ -47,7 +47,7 @@ isInside at = isWithin (at .real) && isWithin (at .imag)
 
 -- a coefficient whose magnitude is above 2^53, and some such among all
 unfoldable pub isCoarse : ℤ → Bool
-isCoarse c = ltb 9007199254740992 (natAbs c)
+isCoarse c = ltb (2 ^ 53) (natAbs c)
 
 unfoldable pub someCoarse : List ℤ → Bool
 someCoarse [] = false

@@ -2,8 +2,8 @@
 use Prim.Native.Nat.{ℕ}
 use mathlib.Core.Path.{_≡_, refl}
 use mathlib.Core.Bool.{true, false}
-use mathlib.Core.List.{List, [], _∷_}
-use lib.IntN.{ℤ, pos, negsuc}
+use mathlib.Core.List.{[], _∷_}
+use lib.IntN.{pos, negsuc}
 use lib.Ieee.{Float, nan, fin, add, sub, mul, neg, lt, le, eq, ofInt}
 use Rattle.definitions.specs.Codes.{DONE, POINT, COARSE}
 use Rattle.response.specs.declared.Point.{Point}
@@ -40,7 +40,8 @@ values :
     × (answer (pos 1 ∷ pos 0 ∷ pos 1 ∷ []) (at 0ᶠ -1ᶠ) ≡ value 0ᶠ -0ᶠ)
     × (answer (pos 1 ∷ pos 9007199254740992 ∷ []) (at 1ᶠ 0ᶠ) ≡ value (fin false 1 (pos 53)) 0ᶠ)
     × (answer [] (at -0ᶠ 1ᶠ) ≡ value 0ᶠ 0ᶠ)
-unfolding at value answer answered code isInside isWithin someCoarse isCoarse valueAt nextAt add sub mul neg lt le eq ofInt
+unfolding at value answer answered code isInside isWithin someCoarse isCoarse valueAt nextAt add sub mul neg lt le eq
+    ofInt
 values = (refl, refl, refl, refl)
 
 -- above 1, not a number, both, and a coefficient of 2^53 + 1 and of -2^63

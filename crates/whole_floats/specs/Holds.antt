@@ -5,8 +5,9 @@
 use mathlib.Core.Path.{_≡_, refl, sym, ap, ap₂, _∙_, subst}
 use mathlib.Core.Bool.{Bool, true, false, not, cond, _&&_, _||_, Bool·beq, and-true, and-false}
 use mathlib.Core.List.{[], _∷_}
-use Prim.Native.Nat.{ℕ, zero, suc, _+_, _-_, _*_, _≤_, _<_}
-use native.Mathlib.Nat.{mul-assoc, mul-comm, mul-left-comm, mul-one, mul-pos, mul-sub, add-mul, zero-mul, le-of-lt, mul-lt-mul-of-pos-right, mul-le-mul-right}
+use Prim.Native.Nat.{ℕ, suc, _+_, _-_, _*_, _^_, _≤_, _<_}
+use native.Mathlib.Nat.{mul-assoc, mul-comm, mul-left-comm, mul-one, mul-pos, mul-sub, add-mul, zero-mul}
+use native.Mathlib.Nat.{le-of-lt, mul-lt-mul-of-pos-right, mul-le-mul-right}
 use native.Mathlib.Omega.{arith}
 use borrow.Author.Tests.{lt-ltb, le-ltb}
 use lib.Dec.{T, ltb, eqb, eqb-refl}
@@ -22,9 +23,9 @@ use Rattle.integers.specs.Whole.{ringℤ, ⊕-neg}
 use Rattle.step_laws.specs.Signed.{abs-⊖}
 use Rattle.step_laws.specs.Tests.{by-order}
 
--- 2^53: a whole number no larger in magnitude is an f64
+-- a whole number no larger in magnitude is an f64
 abbrev pub most : ℕ
-most = 9007199254740992
+most = 2 ^ 53
 
 -- ---- a number with a sign
 unfoldable pub signed : Bool → ℕ → ℤ
@@ -159,7 +160,8 @@ module _ (s : Bool) (k l c : ℕ) (p : 0 < c) where
     equal : k ≡ l → Differ false false
     equal e =
         rounds (s && false) (k * c - l * c) c 0 (signed s k ⊕ signed (not s) l) p (omega (arith, ap (λ j. j * c) e))
-        (ap (λ b. signed b 0) (and-false s) ∙ signed-zero ∙ sym (signed-none s k) ∙ ap (λ j. signed s k ⊕ signed (not s) j) e)
+        (ap (λ b. signed b 0) (and-false s) ∙ signed-zero ∙ sym (signed-none s k)
+        ∙ ap (λ j. signed s k ⊕ signed (not s) j) e)
         h
 
     differ : Differ (ltb (k * c) (l * c)) (ltb (l * c) (k * c))
@@ -171,8 +173,12 @@ module _ (s : Bool) (k l c : ℕ) (p : 0 < c) where
         (λ f. rw (lt-ltb (l * c) (k * c) (mul-lt-mul-of-pos-right f p)) (above f))
         (λ f. rw (le-ltb (l * c) (k * c) (mul-le-mul-right c f)) (equal (omega arith)))))
 
+-- both over one denominator
 over : (m k e d : ℕ) → m ≡ k * e → m * d ≡ k * (e * d)
 over m k e d h = ap (λ j. j * d) h ∙ mul-assoc k e d
+
+over-other : (n l e d : ℕ) → n ≡ l * d → n * e ≡ l * (e * d)
+over-other n l e d h = over n l d e h ∙ ap (λ j. l * j) (mul-comm d e)
 
 holds-sum : (s t : Bool) (k l c : ℕ) → 0 < c → natAbs (signed s k ⊕ signed t l) ≤ most
     → Holds (sum binary64 s (k * c) t (l * c) c) (signed s k ⊕ signed t l)
@@ -190,9 +196,10 @@ holds-add (inf s) w a b h g l = absurd h
 holds-add (fin s m e) nan a b h g l = absurd g
 holds-add (fin s m e) (inf t) a b h g l = absurd g
 holds-add (fin s m e) (fin t n d) a b h g l =
-    rw (over (m * up e) (h .0) (down e) (down d) (h .1), over (n * up d) (g .0) (down d) (down e) (g .1), mul-comm (down d) (down e))
-    (subst (Holds (sum binary64 s (h .0 * (down e * down d)) t (g .0 * (down e * down d)) (down e * down d))) (ap₂ _⊕_ (h .2) (g .2))
-    (holds-sum s t (h .0) (g .0) (down e * down d) (mul-pos (down-pos e) (down-pos d)) (rw (h .2, g .2) l)))
+    let c = down e * down d in
+    rw (over (m * up e) (h .0) (down e) (down d) (h .1), over-other (n * up d) (g .0) (down e) (down d) (g .1))
+    (subst (Holds (sum binary64 s (h .0 * c) t (g .0 * c) c)) (ap₂ _⊕_ (h .2) (g .2))
+    (holds-sum s t (h .0) (g .0) c (mul-pos (down-pos e) (down-pos d)) (rw (h .2, g .2) l)))
 
 pub holds-sub : (v w : Float) (a b : ℤ) → Holds v a → Holds w b → natAbs (a ⊝ b) ≤ most
     → Holds (sub binary64 v w) (a ⊝ b)
@@ -224,5 +231,5 @@ holds-eq (inf s) w a h g = absurd h
 holds-eq (fin s m e) nan a h g = absurd g
 holds-eq (fin s m e) (inf t) a h g = absurd g
 holds-eq (fin s m e) (fin t n d) a h g =
-    rw (over (m * up e) (h .0) (down e) (down d) (h .1), over (n * up d) (g .0) (down d) (down e) (g .1), mul-comm (down d) (down e))
+    rw (over (m * up e) (h .0) (down e) (down d) (h .1), over-other (n * up d) (g .0) (down e) (down d) (g .1))
     (levels s t (h .0) (g .0) (down e * down d) (h .2 ∙ sym (g .2)))

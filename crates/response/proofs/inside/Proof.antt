@@ -1,5 +1,5 @@
 -- `response::inside` meets its contract: each arm is one of the definition.
-use mathlib.Core.Path.{refl, sym, _∙_}
+use mathlib.Core.Path.{sym, _∙_}
 use borrow.Author.Needs.{needs}
 use Rattle.response.specs.Response.{isInside}
 use Rattle.response.proofs.inside.Statement.{statement}

@@ -1,5 +1,5 @@
--- `response::next` meets its contract: the sequence is the definition's, and a coefficient that is not coarse is a float
--- exactly.
+-- `response::next` meets its contract: the sequence is the definition's, and a coefficient that is not coarse is a
+-- float exactly.
 use mathlib.Core.Path.{refl}
 use mir.Facts.{toZ-ofZ}
 use Rattle.response.specs.Response.{nextAt}

@@ -7,12 +7,14 @@ use borrow.Author.Needs.{needs}
 use borrow.Author.Tests.{not-true, not-false}
 use lib.ListN.{length, getD, drop}
 use lib.Ieee.{ofBits}
+use mir.Syntax.{w64}
+use mir.Facts.{toZ-ofZ}
 use denote.Ref.{now}
 use Prim.Native.Nat.{_-_, _≤_}
 use Rattle.definitions.specs.Integers.{0ℤ}
-use Rattle.heights.proofs.Signs.{passed}
 use Rattle.response.specs.Response.{nextAt, valueAt, isCoarse, someCoarse}
-use Rattle.response.specs.Laws.{value-none, value-more, coarse-none, coarse-more, coarse-some, outside-answer, coarse-answer, delivered}
+use Rattle.response.specs.Laws.{value-none, value-more, coarse-none, coarse-more, coarse-some}
+use Rattle.response.specs.Laws.{outside-answer, coarse-answer, delivered}
 use Rattle.response.proofs.response.Statement.{statement}
 use Rattle.response.proofs.response.Tie as tie
 
@@ -66,11 +68,13 @@ returns-2 c =
     let entered = loop .before in
     let start = entered .before .before in
     let cs = now (start .args .coeffs) in
-    let this = passed (getD cs (loop .loop .left - 1) 0ℤ) (met .before .c .given) in
+    let left = loop .loop .left in
+    let this = toZ-ofZ {w = w64} {z = getD cs (left - 1) 0ℤ} (record { sfits = met .before .c .given }) in
     let first = sym (met .coarse .ensures ∙ ap isCoarse this) ∙ c .before .if2 .taken in
+    let inside = sym (entered .before .inside .ensures) ∙ not-false _ (entered .if1 .left) in
     c .refused2 .ensures
-    ∙ sym (coarse-answer cs (start .args .at) (sym (entered .before .inside .ensures) ∙ not-false _ (entered .if1 .left))
-    (coarse-some cs (loop .loop .left - 1) (coarse-more cs (loop .loop .left) (omega arith) (omega arith) ∙ rw first refl)))
+    ∙ sym (coarse-answer cs (start .args .at) inside
+    (coarse-some cs (left - 1) (coarse-more cs left (omega arith) (omega arith) ∙ rw first refl)))
 
 next-requires : tie.Need-next-requires Inv-loop μ-loop
 next-requires c κs = sym (c .before .coarse .ensures) ∙ c .if2 .left
@@ -89,7 +93,7 @@ loop-again c =
     let start = loop .before .before .before in
     let cs = now (start .args .coeffs) in
     let left = loop .loop .left in
-    let this = passed (getD cs (left - 1) 0ℤ) (met .before .c .given) in
+    let this = toZ-ofZ {w = w64} {z = getD cs (left - 1) 0ℤ} (record { sfits = met .before .c .given }) in
     let first = sym (met .coarse .ensures ∙ ap isCoarse this) ∙ c .before .if2 .left in (
       c .next .ensures ∙ ap₂ (λ v z. nextAt v (start .args .at) z) (loop .loop .inv .0) this
           ∙ value-more cs left (omega arith) (omega arith) (start .args .at),
@@ -104,9 +108,9 @@ returns-3 c =
     let start = entered .before .before in
     let cs = now (start .args .coeffs) in
     let none : loop .loop .left ≡ 0 = omega arith in
+    let inside = sym (entered .before .inside .ensures) ∙ not-false _ (entered .if1 .left) in
     rw (loop .loop .inv .0, none)
-    (sym (delivered cs (start .args .at) (sym (entered .before .inside .ensures) ∙ not-false _ (entered .if1 .left))
-    (rw none at (loop .loop .inv .1))))
+    (sym (delivered cs (start .args .at) inside (rw none at (loop .loop .inv .1))))
 
 pub response-spec : {M : Type 1} → statement M
 response-spec =

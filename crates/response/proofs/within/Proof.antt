@@ -1,4 +1,5 @@
--- `response::within` meets its contract: the machine's -1.0 and 1.0 are -1 and 1, and each arm is one of the definition.
+-- `response::within` meets its contract: the machine's -1.0 and 1.0 are -1 and 1, and each arm is one of the
+-- definition.
 use mathlib.Core.Path.{refl}
 use lib.Ieee.{ofBits, neg}
 use Rattle.response.specs.Response.{isWithin}
