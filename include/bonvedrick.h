@@ -33,9 +33,9 @@
  *   each on its own slices. Every call ends.
  *
  *   bv_response, which alone works with doubles, takes the floating-point environment to be the one that a C program
- *   starts with: rounding to nearest, subnormal numbers kept, no traps. Nothing tests that, and where it was changed (by
- *   fesetround, or by x86's flush-to-zero and denormals-are-zero) other numbers come out. As C's own arithmetic does, it
- *   may raise the flags of that environment.
+ *   starts with: rounding to nearest, subnormal numbers kept, no traps. Nothing tests that, and where it was changed,
+ *   by fesetround or by x86's flush-to-zero and denormals-are-zero, other numbers come out. As C's own arithmetic does,
+ *   it may raise the flags of that environment.
  *
  * The answers and the contents are proved of the library's code, for every input (the contracts in
  * crates/bonvedrick/src/lib.rt).
