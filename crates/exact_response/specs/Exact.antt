@@ -1,8 +1,8 @@
 -- Where the magnitudes of the coefficients add up to at most 2^53, the response at 1, i, -1 and -i is delivered and
 -- compares equal to the whole-number value (`response-exact`), which is no larger than that (`value-small`), so that
 -- none is lost when it is made an f64. One invariant for the four points (`value-holds`): both parts hold whole numbers
--- whose magnitudes add up to no more than those of the coefficients so far. For with z = p + q i and |p| + |q| at most 1
--- all that is met on the way is no larger.
+-- whose magnitudes add up to no more than those of the coefficients so far. For with z = p + q i and |p| + |q| at most
+-- 1 all that is met on the way is no larger.
 use mathlib.Core.Path.{_≡_, refl, ap}
 use mathlib.Core.Bool.{Bool, true, false}
 use mathlib.Core.List.{List, [], _∷_}
@@ -17,7 +17,7 @@ use Rattle.step_laws.specs.Signed.{abs-⊕, abs-⊝}
 use Rattle.light_sums.specs.Weight.{weight, abs-⊗}
 use Rattle.whole_floats.specs.Holds.{most, signed, Holds, holds-ofInt, holds-add, holds-sub, holds-mul, holds-eq}
 use Rattle.response.specs.declared.Point.{Point}
-use Rattle.response.specs.Response.{nextAt, valueAt, isWithin, isInside, someCoarse, answer}
+use Rattle.response.specs.Response.{0ᶠ, nextAt, valueAt, isWithin, isInside, someCoarse, answer}
 use Rattle.response.specs.Laws.{fine-small, fine-exact, delivered}
 use Rattle.exact_response.specs.Points.{Quarter, one, i, minusOne, minusI, pointAt}
 use Rattle.exact_response.specs.Points.{Gauss, wholeAt, timesAnd, wholeValue}
@@ -87,18 +87,19 @@ module _ (w z : Gauss) (c : ℤ) (u : span z ≤ 1) where
         vy = mul binary64 (v .imag) (at .imag)
 
 -- ---- the invariant, from the last coefficient to the first
-module _ (at : Point) (z : Gauss) (here : HoldsBoth at z) (u : span z ≤ 1) where
+module _ (z : Gauss) (u : span z ≤ 1) where
   pub value-small : (cs : List ℤ) → span (wholeValue cs z) ≤ weight cs
   unfolding wholeValue weight
   value-small [] = omega arith
   value-small (c ∷ cs) = omega (arith, next-small (wholeValue cs z) z c u, value-small cs)
 
-  pub value-holds : (cs : List ℤ) → weight cs ≤ most → HoldsBoth (valueAt cs at) (wholeValue cs z)
+  pub value-holds : (at : Point) → HoldsBoth at z → (cs : List ℤ) → weight cs ≤ most
+      → HoldsBoth (valueAt cs at) (wholeValue cs z)
   unfolding valueAt wholeValue weight signed ⊖
-  value-holds [] l = record { real = (0, refl, refl); imag = (0, refl, refl) }
-  value-holds (c ∷ cs) l =
+  value-holds at here [] l = record { real = (0, refl, refl); imag = (0, refl, refl) }
+  value-holds at here (c ∷ cs) l =
       next-holds (wholeValue cs z) z c u (valueAt cs at) at (omega (arith, value-small cs))
-      (value-holds cs (omega arith)) here
+      (value-holds at here cs (omega arith)) here
 
 -- ---- the four points, with a zero of either sign
 zero-holds : (s : Bool) → Holds (fin s 0 (pos 0)) 0ℤ
@@ -140,6 +141,10 @@ fine (c ∷ cs) l = rw (fine-small c (omega arith)) (fine cs (omega arith))
 exactly : (a : ℤ) → natAbs a ≤ most → T (inFloat binary64 a)
 exactly a l = fine-exact a (fine-small a l)
 
+pub zero-is : ofInt binary64 0ℤ ≡ 0ᶠ
+unfolding ofInt
+zero-is = refl
+
 -- ---- what is delivered there
 pub record ExactAt (cs : List ℤ) (q : Quarter) (s : Bool) : Type 0 where
   pub done : answer cs (pointAt q s) .code ≡ DONE
@@ -154,8 +159,8 @@ response-exact cs q s l =
     let w = wholeValue cs (wholeAt q) in
     let v = valueAt cs (pointAt q s) in
     let made = delivered cs (pointAt q s) (unit-inside q s) (fine cs l) in
-    let held = value-holds (pointAt q s) (wholeAt q) (unit-holds q s) (unit-small q) cs l in
-    let less = value-small (pointAt q s) (wholeAt q) (unit-holds q s) (unit-small q) cs in
+    let held = value-holds (wholeAt q) (unit-small q) (pointAt q s) (unit-holds q s) cs l in
+    let less = value-small (wholeAt q) (unit-small q) cs in
     record {
       done = ap (λ a. a .code) made;
       real = rw made (compares (v .real) (w .re) (held .real) (omega arith));

@@ -7,7 +7,7 @@ use Prim.Native.Nat.{ℕ, zero, suc, _≤_}
 use native.Mathlib.Omega.{arith}
 use lib.Dec.{T}
 use lib.IntN.{ℤ, pos, negsuc}
-use lib.Ieee.{binary64, eq, ofInt}
+use lib.Ieee.{eq}
 use Rattle.definitions.specs.Integers.{_⊕_, _⊗_, ⊖, 0ℤ}
 use Rattle.definitions.specs.Codes.{DONE}
 use Rattle.definitions.specs.Answer.{coefficients}
@@ -17,7 +17,7 @@ use Rattle.whole_floats.specs.Holds.{most}
 use Rattle.response.specs.Response.{0ᶠ, answer}
 use Rattle.exact_response.specs.Points.{Quarter, one, i, minusOne, minusI, pointAt}
 use Rattle.exact_response.specs.Points.{Gauss, wholeAt, timesAnd, wholeValue}
-use Rattle.exact_response.specs.Exact.{response-exact}
+use Rattle.exact_response.specs.Exact.{zero-is, response-exact}
 
 abbrev pub nought : Gauss
 nought = record { re = 0ℤ; im = 0ℤ }
@@ -27,15 +27,11 @@ pub record NotchAt (cs : List ℤ) (q : Quarter) (s : Bool) : Type 0 where
   pub real : T (eq (answer cs (pointAt q s) .real) 0ᶠ)
   pub imag : T (eq (answer cs (pointAt q s) .imag) 0ᶠ)
 
-none : ofInt binary64 0ℤ ≡ 0ᶠ
-unfolding ofInt
-none = refl
-
 pub notch-exact : (cs : List ℤ) (q : Quarter) (s : Bool) → weight cs ≤ most → wholeValue cs (wholeAt q) ≡ nought
     → NotchAt cs q s
 notch-exact cs q s l e =
     let exact = response-exact cs q s l in
-    record { done = exact .done; real = rw (e, none) at (exact .real); imag = rw (e, none) at (exact .imag) }
+    record { done = exact .done; real = rw (e, zero-is) at (exact .real); imag = rw (e, zero-is) at (exact .imag) }
 
 -- the index whose F has the notch: the order of the root
 abbrev pub order : Quarter → ℕ

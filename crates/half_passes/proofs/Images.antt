@@ -33,8 +33,8 @@ negated-is w v r small none some = go (leb v (top w)) refl
     go true e = low v refl
     go false e = omega (arith, some (omega (arith, leb-false v (top w) e)))
 
-pub numbers-differ : (w m b : ℕ) (x y : ℤ) → 0 < w → natAbs x ≤ top w → m ≡ twos w x → b < 2 ^ (8 * w) → signedOf w b ≡ y
-    → not (eqb m b) ≡ differ y x
+pub numbers-differ : (w m b : ℕ) (x y : ℤ) → 0 < w → natAbs x ≤ top w → m ≡ twos w x → b < 2 ^ (8 * w)
+    → signedOf w b ≡ y → not (eqb m b) ≡ differ y x
 numbers-differ w m b x y h t em small ey =
     by-test (eqb m b)
     (λ e. ap not e

@@ -38,8 +38,8 @@ rescued :
     × (rescueCode damaged 25 6 3 ≡ DONE) × (rescueCode damaged 24 6 3 ≡ SHORT) × (rescueCode damaged 25 5 3 ≡ SHORT)
     × (rescueCode damaged 25 6 2 ≡ SHORT)
 unfolding F6 other I3 damaged kept listed rescueCode crampedBy listedBy stretch keptBy searches searchesTo leftBy
-    foundBy skippedBy crampedTo toNext cramped keepable another differTo differ entries coefficients firsts polynomial F I
-    familyTo productTo atDivisors z^-1 z^ constant _+ˢ_ -ˢ _·_ _÷_ _⊕_ ⊖ _⊗_ lookCode readCode headerCode marked
-    fieldCode knownKind oneOf degreeIn degree phi countTo shareFactor someTo divides coefficientsIn storedIn sizeIn coefficientsAt
-    signedOf number top width leastOf heightOf
+    foundBy skippedBy crampedTo toNext cramped keepable another differTo differ entries coefficients firsts polynomial F
+    I familyTo productTo atDivisors z^-1 z^ constant _+ˢ_ -ˢ _·_ _÷_ _⊕_ ⊖ _⊗_ lookCode readCode headerCode marked
+    fieldCode knownKind oneOf degreeIn degree phi countTo shareFactor someTo divides coefficientsIn storedIn sizeIn
+    coefficientsAt signedOf number top width leastOf heightOf
 rescued = (refl, refl, refl, refl, refl, refl)

@@ -6,7 +6,7 @@ use mathlib.Core.Path.{_≡_, refl, sym, ap, ap₂, _∙_, subst}
 use mathlib.Core.Bool.{Bool, true, false, not, cond, _&&_, _||_, Bool·beq, and-true, and-false}
 use mathlib.Core.List.{[], _∷_}
 use Prim.Native.Nat.{ℕ, suc, _+_, _-_, _*_, _^_, _≤_, _<_}
-use native.Mathlib.Nat.{mul-assoc, mul-comm, mul-left-comm, mul-one, mul-pos, mul-sub, add-mul, zero-mul}
+use native.Mathlib.Nat.{mul-assoc, mul-comm, mul-mul-mul-comm, mul-one, mul-pos, mul-sub, add-mul, zero-mul}
 use native.Mathlib.Nat.{le-of-lt, mul-lt-mul-of-pos-right, mul-le-mul-right}
 use native.Mathlib.Omega.{arith}
 use borrow.Author.Tests.{lt-ltb, le-ltb}
@@ -108,9 +108,6 @@ holds-neg nan a h = h
 holds-neg (inf s) a h = h
 holds-neg (fin s m e) a h = (h .0, h .1, signed-⊖ s (h .0) ∙ ap ⊖ (h .2))
 
-crossed : (k l d e : ℕ) → k * d * (l * e) ≡ k * l * (d * e)
-crossed k l d e = simp (mul-assoc, mul-left-comm)
-
 pub holds-mul : (v w : Float) (a b : ℤ) → Holds v a → Holds w b → natAbs (a ⊗ b) ≤ most
     → Holds (mul binary64 v w) (a ⊗ b)
 unfolding mul
@@ -121,7 +118,7 @@ holds-mul (fin s m e) (inf t) a b h g l = absurd g
 holds-mul (fin s m e) (fin t n d) a b h g l =
     rounds (unlike s t) (m * up e * (n * up d)) (down e * down d) (h .0 * g .0) (a ⊗ b)
     (mul-pos (down-pos e) (down-pos d))
-    (ap₂ _*_ (h .1) (g .1) ∙ crossed (h .0) (g .0) (down e) (down d))
+    (ap₂ _*_ (h .1) (g .1) ∙ mul-mul-mul-comm (h .0) (down e) (g .0) (down d))
     (signed-⊗ s t (h .0) (g .0) ∙ ap₂ _⊗_ (h .2) (g .2))
     l
 
