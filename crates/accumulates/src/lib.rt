@@ -1,6 +1,8 @@
 // Inner: each `requires` is shown by the caller `bounded_steps`. The accumulate along its chains, as many neighbouring
 // ones at a time as have their sums in registers: up to the first value that would pass the working limit w, and back.
 
+#![tactic(auto)]
+
 mod back;
 mod second;
 

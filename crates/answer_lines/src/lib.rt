@@ -1,6 +1,8 @@
 // Inner: each `requires` is shown by `listing`, which sees to the room. The text of an answer, and of a
 // line that is not good.
 
+#![tactic(auto)]
+
 ghost use Rattle.std.specs.Prelude.{◌≡◌, [], ◌∷◌, ◌+◌, ◌*◌, ◌≤◌, ◌<◌, length, take, pos};
 ghost use Rattle.text.specs.Text.{spaced};
 ghost use Rattle.text.specs.Puts.{Puts};

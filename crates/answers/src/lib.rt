@@ -1,6 +1,8 @@
 // What the requests answer, one struct each, with the codes (docs/RULES.md, 'The codes'). Every number is 64 bits; the
 // order of the fields is that of the C library.
 
+#![tactic(auto)]
+
 ghost use Rattle.std.specs.Prelude.{◌≡◌, pos};
 ghost use Rattle.definitions.specs.Requests.{known_kind, good_index};
 ghost use Rattle.definitions.specs.Halves.{negates};
@@ -51,7 +53,7 @@ pub const ROWS: u64 = 22;
 
 // A polynomial request's answer.
 #[repr(C)]
-#[derive(Drop)]
+#[derive(Clone, Copy)]
 pub struct Answer {
     pub code: u64,
     pub degree: u64,

@@ -1,5 +1,8 @@
 // The requests of the library for C, Rust and Python (include/bonvedrick.h). Each function is its request under a plain
 // name: nothing is asked of the caller, and the contract is that of the request. Its answer is laid out as C's struct.
+
+#![tactic(auto)]
+
 ghost use Rattle.std.specs.Prelude.{◌≡◌, length};
 ghost use Rattle.definitions.specs.Steps.{comb, accumulate, step_code, step_count, step_leaves};
 ghost use Rattle.answers.specs.Polynomial as Polynomial;

@@ -1,6 +1,9 @@
 // Inner: nothing here is offered to callers; the `requires` is shown by `outlined_steps` and `steps`. One step under a
 // working limit w, on entries whose magnitudes are bounded: where none can pass w it needs no test, and where all can
 // be added and taken away it needs that of w alone.
+
+#![tactic(auto)]
+
 ghost use Rattle.std.specs.Prelude.{ℕ, ◌+◌, ◌*◌, ◌≤◌, ◌<◌, ◌≡◌, true, length};
 ghost use Rattle.definitions.specs.Steps.{entries};
 ghost use Rattle.step_laws.specs.Bound.{Bounded, growth};

@@ -1,6 +1,9 @@
 // What stands at a place of a shelf, which is records one after another, for the browsing window: nothing is copied and
 // no coefficient is stored. Nothing is asked of the caller. `turn_at`, `stretch_of`, `part` and `between` are inner:
 // the reader and the crate `shelves` use them.
+
+#![tactic(auto)]
+
 pub mod reader;
 
 ghost use Rattle.std.specs.Prelude.{◌≡◌, ◌+◌, ◌-◌, ◌<◌, ◌^◌, length};
@@ -13,7 +16,7 @@ use record::{count_in, index_in, kind_in};
 use shelf::size_in;
 
 // What is shown of a shelf.
-#[derive(Drop)]
+#[derive(Clone, Copy)]
 pub enum Shown {
     // A record that reads well: the shelf from `start` up to `end`, and what its header says.
     Record {

@@ -1,4 +1,7 @@
 // The request for a cascade (`cascade`): the product of the F of some indices. Nothing is asked of the caller.
+
+#![tactic(auto)]
+
 mod asked;
 mod making;
 

@@ -4,6 +4,8 @@
 // what a read gave or a write wrote. What is said is what is handed over: `write_reply` alone writes to standard
 // output, and takes nothing but all that is printed for the input beside it.
 
+#![tactic(auto)]
+
 ghost use Rattle.std.specs.Prelude.{◌≡◌};
 ghost use Rattle.io.specs.Counts.{IsPrefixLen};
 ghost use Rattle.census_lines.specs.Printed.{printed};

@@ -1,6 +1,8 @@
 // The text that the program `census` prints (docs/RULES.md, 'The census of heights') for the bytes that it read:
 // `asked` takes the first line apart, `reply` puts what answers it.
 
+#![tactic(auto)]
+
 mod asked;
 mod reply;
 

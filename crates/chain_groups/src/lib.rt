@@ -1,6 +1,8 @@
 // Inner: each `requires` is shown by the caller `accumulates`. The next group of an accumulate's chains: how many it
 // has, by how it is tested, and the loop for so many. The way to test is a constant where a group is called.
 
+#![tactic(auto)]
+
 ghost use Rattle.std.specs.Prelude.{◌+◌, ◌≤◌};
 ghost use Rattle.chains.specs.Tested.{GroupAsked, GroupTaken};
 ghost use Rattle.chain_groups.specs.Widths.{WidthOf};

@@ -2,6 +2,8 @@
 // by side: the entries whose places leave one remainder of division by d are taken together, with a running sum, so
 // that each is read once and written once, and what was stored is never read back.
 
+#![tactic(auto)]
+
 mod groups;
 mod rows;
 

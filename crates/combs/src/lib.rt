@@ -2,6 +2,8 @@
 // entry d before is still the old one: as on numbers modulo 2^64, where it is known that no value leaves the range; or
 // tested, a pass that stops where a value would pass the working limit w, and one that undoes it.
 
+#![tactic(auto)]
+
 ghost use Rattle.std.specs.Prelude.{◌≡◌, false, List, ◌-◌, ◌≤◌, ◌<◌, length, ℤ};
 ghost use Rattle.definitions.specs.Steps.{comb, stepped, entries, in_range};
 ghost use Rattle.step_laws.specs.WorkingLimit.{Workable};

@@ -1,5 +1,8 @@
 // A record of one form, converted to the other. Nothing is asked of the caller. What both forms have is copied. To the
 // whole form the other half is made and put behind it; to the half form it is compared and left out.
+
+#![tactic(auto)]
+
 mod converter;
 
 ghost use Rattle.std.specs.Prelude.{◌≡◌, length};

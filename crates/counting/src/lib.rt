@@ -2,6 +2,9 @@
 // hold the kept half of each index in turn and, behind it, the heights that are known: from the largest index down the
 // height of F(n) has entry n, which no smaller index reaches. So nothing is written to the rows before it is known that
 // they fit.
+
+#![tactic(auto)]
+
 mod filling;
 mod passes;
 

@@ -6,7 +6,7 @@ ghost use Rattle.counting.specs.Census.{indices, rows_of};
 ghost use Rattle.counting.specs.Passes.{Heights, LaidIs, row_list, joined_to, next_row};
 
 // A row: a height, the smallest index that has it, and how many have it. Where none is due all three are 0.
-#[derive(Drop)]
+#[derive(Clone, Copy)]
 struct Row {
     height: u64,
     smallest: u64,

@@ -1,6 +1,9 @@
 // Inner: the callers show each `requires`. One coefficient of a product of any two polynomials, the first of at most
 // 65,536 entries, by digits to base 2^22: a sum of products of two digits fits, and so do five such sums. Slow; it is
 // there for first factors that are not light.
+
+#![tactic(auto)]
+
 ghost use Rattle.std.specs.Prelude.{◌-◌, ◌≤◌, ◌≡◌, length, pos, nat_abs};
 ghost use Rattle.std.specs.Int.Signed.{shr_z};
 ghost use Rattle.definitions.specs.Integers.{◌⊕◌, ◌⊗◌};

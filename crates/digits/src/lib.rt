@@ -1,5 +1,7 @@
 // Inner: `number_at` asks that the digits are few, which `request_lines` shows. Reading digits in a line of bytes.
 
+#![tactic(auto)]
+
 ghost use Rattle.std.specs.Prelude.{◌≡◌, ◌≤◌, ◌<◌, get_or};
 ghost use Rattle.digits.specs.Digits.{is_digit, digits_at, number_at};
 ghost use Rattle.digits.specs.Digits.{between as isBetween};

@@ -1,5 +1,8 @@
 // Inner: each `requires` is shown by `kept_half`. The walk over the divisors of r below r, one after the other in
 // ascending order. A divisor is named by the set of its primes, one bit for each.
+
+#![tactic(auto)]
+
 ghost use Rattle.std.specs.Prelude.{◌*◌, ◌-◌, ◌^◌, ◌<◌, ◌≤◌, ◌≡◌, cond, eqb};
 ghost use Rattle.definitions.specs.Numbers.{row_to};
 ghost use Rattle.divisors.specs.Masks.{bit, mask_to};

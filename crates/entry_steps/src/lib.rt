@@ -2,6 +2,8 @@
 // What their passes are made of: a step at one entry, its test, a pass that has got to some place, and the entries that
 // chains begin with.
 
+#![tactic(auto)]
+
 mod entry;
 mod range;
 
@@ -13,7 +15,7 @@ pub use entry::{
 // 2^62 - 1: two numbers that are no larger can be added and taken away.
 pub const ADDABLE: u64 = 4611686018427387903;
 
-#[derive(Drop)]
+#[derive(Clone, Copy)]
 pub enum Sort {
     Comb,
     Accumulate,

@@ -1,5 +1,8 @@
 // Inner: the callers show each `requires`. A polynomial times another, in place and exact: whether every coefficient of
 // the product is within the range from -(2^63 - 1) to 2^63 - 1, and if so the product.
+
+#![tactic(auto)]
+
 ghost use Rattle.std.specs.Prelude.{◌+◌, ◌-◌, ◌≤◌, ◌<◌, min, ◌≡◌, true, not, length};
 ghost use Rattle.definitions.specs.Series.{◌·◌, firsts};
 ghost use Rattle.definitions.specs.Steps.{entries, largest, some_outside};

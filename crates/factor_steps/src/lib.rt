@@ -1,6 +1,8 @@
 // Inner: each `requires` is shown by the callers. A polynomial times F(n), n above 1, in place, modulo 2^64 and as far
 // as the slice goes: by combs and accumulates, one for each set of n's primes.
 
+#![tactic(auto)]
+
 ghost use Rattle.std.specs.Prelude.{◌≡◌, ◌≢◌, true};
 ghost use Rattle.definitions.specs.Polynomials.{F};
 ghost use Rattle.definitions.specs.Requests.{good_index};

@@ -1,6 +1,9 @@
 // Inner: the crates `keeping` and `counting` show the `requires`. The first half of F(n) where n has an odd prime: the
 // kept half for r, for whoever measures it; with the signs of an even index and z^t for z, for whoever compares it. The
 // other half tells nothing new, and is not made.
+
+#![tactic(auto)]
+
 ghost use Rattle.std.specs.Prelude.{◌≡◌, true, cond, ◌≢◌, ◌+◌, length};
 ghost use Rattle.definitions.specs.Series.{firsts, alternate};
 ghost use Rattle.definitions.specs.Steps.{entries};

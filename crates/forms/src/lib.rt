@@ -1,11 +1,13 @@
 // Inner: each `requires` is shown by crates above. The stored record in both its forms, and what its writer and its
 // reader answer. One code (`writing`, `reading`) and one proof for both: the form is a parameter.
 
+#![tactic(auto)]
+
 ghost use Rattle.std.specs.Prelude.{◌≡◌, ◌≤◌};
 ghost use Rattle.forms.specs.Format.{mark, stored};
 
 // Every coefficient, or the first half of them.
-#[derive(Drop)]
+#[derive(Clone, Copy)]
 pub enum Form {
     Whole,
     Half,

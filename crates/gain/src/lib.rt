@@ -2,6 +2,9 @@
 // from n taken apart, without adding them up: for F it is p where n is a power of the prime p (crate `cyclotomic`,
 // Gain), which is where m, the product of n's primes, is that prime; and m is prime where phi(m), which is phi(r), is
 // m - 1.
+
+#![tactic(auto)]
+
 ghost use Rattle.std.specs.Prelude.{◌≤◌, ◌≡◌, true, nat_abs};
 ghost use Rattle.definitions.specs.Requests.{good_index};
 ghost use Rattle.definitions.specs.Answer.{gain};

@@ -1,6 +1,9 @@
 // Inner: each `requires` is shown by `forms` and `conversions`. The passes over the halves of some coefficients: do
 // they match, in a slice and in the bytes of a record; and, from one form of a record to the other, the bytes that both
 // have, and the other half.
+
+#![tactic(auto)]
+
 ghost use Rattle.std.specs.Prelude.{◌≡◌, ◌+◌, ◌-◌, ◌*◌, ◌^◌, ◌<◌, ◌≤◌, true, length, take, drop};
 ghost use Rattle.std.proofs.lemmas.List.Edits.{sets};
 ghost use Rattle.definitions.specs.Answer.{height_of};

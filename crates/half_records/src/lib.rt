@@ -1,5 +1,8 @@
 // The shelf record that has the first half of the coefficients: a writer that takes the whole polynomial and a reader
 // that rebuilds it. Nothing is asked of the caller.
+
+#![tactic(auto)]
+
 ghost use Rattle.std.specs.Prelude.{◌≡◌, length};
 ghost use Rattle.forms.specs.Format.{write_answer, write_leaves, read_answer, read_leaves};
 

@@ -48,8 +48,9 @@ module _ (c : ℤ) (cs : List ℤ) where
   peak_later : nat_abs c < height_of cs → peak_of (c ∷ cs) ≡ suc (peak_of cs)
   unfolding peak_of place_of height_of
   peak_later l =
-      let e : max (nat_abs c) (height_of cs) ≡ height_of cs = omega arith in
-      rw (e, ne_eqb (nat_abs c) (height_of cs) (λ q. omega arith)) refl
+      let e : height_of (c ∷ cs) ≡ height_of cs = omega arith in
+      subst (λ (h : ℕ). place_of h (c ∷ cs) ≡ suc (peak_of cs)) (sym e)
+      (rw (ne_eqb (nat_abs c) (height_of cs) (λ q. omega arith)) refl)
 
 -- what is left is taller, and then the peak is there, or it is not
 abbrev Comes : ℕ → ℕ → ℕ → List ℤ → Top

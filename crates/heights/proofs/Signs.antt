@@ -56,7 +56,7 @@ plain x fit e = go x fit (tested false x fit e)
 
 -- a signed number that a call gave, or that was handed to one
 pub passed : (x : ℤ) → mag x < 2 ^ 63 → to_z w64 (of_z w64 x) ≡ x
-passed x small = to_z-of_z (record { sfits = small })
+passed x small = to_z-of_z {w = w64} (record { sfits = small })
 
 -- bits put together are no less than those that were put
 pub or_above : (a b : ℕ) → (a ≤ bit_or a b) × (b ≤ bit_or a b)

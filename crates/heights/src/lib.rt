@@ -1,6 +1,9 @@
 // The magnitude of a number, and of a slice the height, which is the largest magnitude among its entries, with the
 // lowest place where it stands; both are 0 for an empty one. Nothing is asked beforehand: -2^63, whose magnitude is no
 // i64, is measured too. `above` is inner: the crate `peaks` uses it, and shows the `requires`.
+
+#![tactic(auto)]
+
 ghost use Rattle.std.specs.Prelude.{◌≡◌, ◌≤◌, max, min, length, nat_abs};
 ghost use Rattle.definitions.specs.Answer.{height_of, peak_of};
 ghost use Rattle.heights.specs.Above.{NextAbove};

@@ -1,5 +1,8 @@
 // n taken apart (its distinct odd primes, r, m, t and phi) and the degree of a kind, for every number that the types
 // have. Nothing is asked of the caller: above 65,535 the answer is that for 0, which has no odd prime and degree 0.
+
+#![tactic(auto)]
+
 ghost use Rattle.std.specs.Prelude.{◌*◌, ◌-◌, ◌/◌, ◌<◌, ◌≤◌, ◌≡◌, cond, eqb, ltb};
 ghost use Rattle.definitions.specs.Numbers.{divides};
 ghost use Rattle.definitions.specs.Polynomials.{degree};
@@ -9,7 +12,7 @@ use sieve::odd_primes;
 
 // n taken apart: the distinct odd primes, ascending, with zeros after them; how many; r, m and t; `free` is phi(r), and
 // `phi` is phi(n).
-#[derive(Drop)]
+#[derive(Clone, Copy)]
 pub struct Parts {
     pub primes: [u64; 5],
     pub count: usize,

@@ -1,5 +1,8 @@
 // Inner: each `requires` is shown by `rescuing`. Which record of a shelf is kept, and the search for the next one. A
 // polynomial is made only where the bytes read as a record, in scratch that holds whatever was made last.
+
+#![tactic(auto)]
+
 mod marks;
 mod same;
 

@@ -1,5 +1,8 @@
 // Inner: each `requires` is shown by the callers `partial` and `polynomial`. The kept half for an index: the walk over
 // r's divisors, and a step for each.
+
+#![tactic(auto)]
+
 mod run;
 
 ghost use Rattle.std.specs.Prelude.{◌+◌, ◌≡◌, length};

@@ -1,5 +1,8 @@
 // Inner: the callers `polynomial` and `second` show the `requires`. What both engines end with, once the lower half for
 // r stands there: its height and its peak, and the polynomial of n laid out, or zeros where it is too tall.
+
+#![tactic(auto)]
+
 ghost use Rattle.std.specs.Prelude.{◌+◌, take};
 ghost use Rattle.definitions.specs.Numbers.{r_of};
 ghost use Rattle.definitions.specs.KeptHalf.{half_degree};

@@ -1,5 +1,8 @@
 // Inner: the callers show each `requires`. One coefficient of a product of two polynomials, exact, where the first is
 // light: its magnitudes add up to less than 2^30. It is told by one machine number: the coefficient, or OUTSIDE.
+
+#![tactic(auto)]
+
 mod halves;
 mod light;
 mod sums;

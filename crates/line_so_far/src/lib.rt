@@ -1,6 +1,8 @@
 // The line of the listing that is being read, and the listing's first line (docs/RULES.md, 'The listing'). `push` and
 // `next` are inner: only `listing` uses them, and nothing is asked; it hands out the rest.
 
+#![tactic(auto)]
+
 ghost use Rattle.std.specs.Prelude.{◌≡◌, ◌≤◌, [], length, if◌then◌else◌, nat_lt};
 ghost use Rattle.text.specs.Puts.{Puts};
 ghost use Rattle.line_so_far.specs.Heading.{heading as theHeading};
@@ -10,7 +12,7 @@ use text::put_text;
 
 // The line that is being read: its first 40 bytes, its length (41 for all longer ones) and its number among the input
 // lines.
-#[derive(Drop)]
+#[derive(Clone, Copy)]
 pub struct Line {
     pub bytes: [u8; 40],
     pub length: usize,

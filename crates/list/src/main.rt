@@ -5,6 +5,8 @@
 // to standard output, and takes nothing but all that the bytes beside it print; and the line that is open goes on over
 // every byte that a read gave.
 
+#![tactic(auto)]
+
 ghost use Rattle.std.specs.Prelude.{◌≡◌, ◌<◌, ◌≤◌, true, length};
 ghost use Rattle.io.specs.Counts.{IsPrefixLen};
 ghost use Rattle.listing.specs.Reply.{MOST};

@@ -2,6 +2,8 @@
 // answer one line, `line_so_far` holds the one that is being read, and `stream` goes through an input that comes in
 // pieces.
 
+#![tactic(auto)]
+
 mod reply;
 mod stream;
 

@@ -1,5 +1,8 @@
 // Inner: each `requires` is shown by the caller `cascade`. A product of some F, and one factor more: the product is
 // multiplied by it in place, and its F(n) is made in the scratch only where that is needed.
+
+#![tactic(auto)]
+
 mod times;
 mod weighing;
 

@@ -1,6 +1,9 @@
 // Inner: each `requires` is shown by the caller `kept_half`. Steps on entries that are told by the first few of them,
 // after which come zeros or the same again. The first steps of a run make such entries, so that most of them need not
 // be written one step after the other.
+
+#![tactic(auto)]
+
 ghost use Rattle.std.specs.Prelude.{◌%◌, ◌≤◌, ◌<◌, ◌≡◌, true, false, length};
 ghost use Rattle.definitions.specs.Steps.{comb, accumulate};
 ghost use Rattle.entry_steps.specs.Sorts.{sort_means};

@@ -1,4 +1,7 @@
 // The partial request (`partial`): the kept half after some of the divisors. Nothing is asked of the caller.
+
+#![tactic(auto)]
+
 mod stop;
 
 ghost use Rattle.std.specs.Prelude.{◌≡◌, length};

@@ -1,6 +1,9 @@
 // Inner: the `requires` is shown by the caller `polynomial`. The height of a slice and the lowest place where it
 // stands, as `heights::peak` finds them, but quicker, since a bound of the magnitudes is known: nothing is looked for
 // above it, and else the next larger magnitude is looked for in blocks.
+
+#![tactic(auto)]
+
 ghost use Rattle.std.specs.Prelude.{◌+◌, ◌≤◌, ◌≡◌, true, length};
 ghost use Rattle.definitions.specs.Answer.{height_of, peak_of};
 ghost use Rattle.definitions.specs.Steps.{entries};

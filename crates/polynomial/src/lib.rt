@@ -1,4 +1,7 @@
 // The request for a polynomial (`polynomial`). Nothing is asked of the caller.
+
+#![tactic(auto)]
+
 mod making;
 
 ghost use Rattle.std.specs.Prelude.{◌≡◌, length};

@@ -1,6 +1,9 @@
 // Inner: what is offered of it is in `shelf` and `half_records`; each `requires` is shown by crates above. Both forms
 // of a record read: the reader looks at everything, then stores. And the look by itself, for whoever walks over
 // records.
+
+#![tactic(auto)]
+
 ghost use Rattle.std.specs.Prelude.{◌≡◌, ℕ, ◌≤◌, ◌++◌, eqb, length, drop};
 ghost use Rattle.definitions.specs.Codes.{DONE};
 ghost use Rattle.definitions.specs.Halves.{negates};

@@ -1,6 +1,8 @@
 // Inner: nothing here is offered to callers; each `requires` is shown by the writer and the reader of `shelf`. What the
 // forms of a record share: its numbers and coefficients in bytes, and its header.
 
+#![tactic(auto)]
+
 mod bytes;
 mod header;
 mod look;

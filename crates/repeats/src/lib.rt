@@ -1,5 +1,8 @@
 // Inner: each `requires` is shown by the caller `outlined_steps`. The first entries again and again, through all of a
 // slice; and an accumulate of that, in one pass.
+
+#![tactic(auto)]
+
 mod rows;
 
 ghost use Rattle.std.specs.Prelude.{ℕ, ◌≤◌, ◌<◌, ◌≡◌, false, length};

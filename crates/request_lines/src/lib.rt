@@ -1,5 +1,7 @@
 // A line of the listing taken apart (docs/RULES.md, 'The listing').
 
+#![tactic(auto)]
+
 ghost use Rattle.std.specs.Prelude.{◌≡◌, ◌<◌, get_or};
 ghost use Rattle.request_lines.specs.Request.{kind_of, is_good_with, read_line};
 

@@ -5,6 +5,8 @@
 // a write wrote. What is said is what is handed over: `write_kept` alone writes to standard output, and takes nothing
 // but all that is kept of the shelf beside it; `write_line` takes nothing but the line of the stretch beside it.
 
+#![tactic(auto)]
+
 ghost use Rattle.std.specs.Prelude.{◌≡◌, ◌*◌, ◌≤◌, length, take};
 ghost use Rattle.io.specs.Counts.{IsPrefixLen};
 ghost use Rattle.text.specs.Puts.{Puts};

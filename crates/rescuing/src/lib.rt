@@ -1,5 +1,8 @@
 // The rescue of a damaged shelf. Nothing is asked of the caller. Where the rooms are so large that SHORT can't be met,
 // one pass finds and writes; else a pass counts first, and nothing is written where it says SHORT.
+
+#![tactic(auto)]
+
 mod passes;
 
 ghost use Rattle.std.specs.Prelude.{◌≡◌, length};

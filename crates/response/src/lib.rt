@@ -1,12 +1,15 @@
 // The response at a point (docs/RULES.md, 'The response at a point'): some coefficients at a point of the plane, from
 // the highest down, each operation rounded once. A product is never joined to a sum: nothing here asks for that, and
 // the contract is the sequence itself.
+
+#![tactic(auto)]
+
 ghost use Rattle.std.specs.Prelude.{◌≡◌, false};
 ghost use Rattle.response.specs.Response.{0ᶠ, is_within, is_inside, is_coarse, next_at, answer};
 
 // A point, and a running value, by its real and its imaginary part.
 #[repr(C)]
-#[derive(Drop)]
+#[derive(Clone, Copy)]
 pub struct Point {
     pub real: f64,
     pub imag: f64,

@@ -1,4 +1,7 @@
 // The request of the second engine (`second`): the polynomial from another road. Nothing is asked of the caller.
+
+#![tactic(auto)]
+
 mod making;
 
 ghost use Rattle.std.specs.Prelude.{◌≡◌, length};

@@ -1,5 +1,8 @@
 // Inner: the caller `second` shows each `requires`. The second engine: the lower half of F(r) or I(r), each kind asking
 // for the other, and for itself, at one prime fewer. No comb and no accumulate is taken.
+
+#![tactic(auto)]
+
 mod joining;
 
 ghost use Rattle.std.specs.Prelude.{◌-◌, ◌≤◌, ◌≡◌, true, get_or};

@@ -2,6 +2,8 @@
 // polynomial its shape, in place: clearing, the upper half, the signs and the second copy of an even index, and z^t for
 // z. Each works on a slice that is just as long as what it makes.
 
+#![tactic(auto)]
+
 mod fours;
 
 ghost use Rattle.std.specs.Prelude.{◌+◌, ◌*◌, ◌-◌, ◌/◌, ◌<◌, ◌≤◌, ◌≡◌, length, set, nat_abs};

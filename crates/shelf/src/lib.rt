@@ -1,5 +1,8 @@
 // The shelf record that has every coefficient: a writer and a reader that agree to the byte. Nothing is asked of the
 // caller. `size_in` is inner: the crate `browsing` uses it, and shows the `requires`.
+
+#![tactic(auto)]
+
 ghost use Rattle.std.specs.Prelude.{◌≡◌, length};
 ghost use Rattle.definitions.specs.Codes.{DONE};
 ghost use Rattle.record.specs.Header.{header_code};

@@ -1,5 +1,8 @@
 // The house shelf and one's own: the walk over a shelf, and the lookup in two, the own one first. Nothing is copied and
 // no coefficient is stored. Nothing is asked of the caller.
+
+#![tactic(auto)]
+
 ghost use Rattle.std.specs.Prelude.{◌≡◌, ◌&&◌, eqb};
 ghost use Rattle.definitions.specs.Codes.{ABSENT};
 ghost use Rattle.shelves.specs.Walk.{walked};

@@ -1,6 +1,8 @@
 // Inner: nothing here is offered to callers; the `requires` is shown by `index`. The distinct odd primes of n, by trial
 // division.
 
+#![tactic(auto)]
+
 ghost use Rattle.std.specs.Prelude.{◌*◌, ◌-◌, ◌<◌, ◌≤◌, ◌≡◌};
 ghost use Rattle.numbers.specs.Primes.{Prime};
 ghost use Rattle.sieve.specs.Sieving.{with_prime, odd_to, Without, Sifted};

@@ -1,4 +1,7 @@
 // Inner: each `requires` is shown by `whole_from_half`. From the lower half for r to the polynomial of m, in place.
+
+#![tactic(auto)]
+
 ghost use Rattle.std.specs.Prelude.{◌+◌, ◌*◌, ◌-◌, ◌≤◌, ◌≡◌, cond, true, length};
 ghost use Rattle.definitions.specs.Series.{firsts, alternate};
 ghost use Rattle.definitions.specs.Polynomials.{polynomial, degree, I};

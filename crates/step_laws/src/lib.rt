@@ -1,1 +1,3 @@
 // Laws of the steps' definitions; no code.
+
+#![tactic(auto)]

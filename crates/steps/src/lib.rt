@@ -1,5 +1,7 @@
 // One step on a lent slice, under a working limit: a comb or an accumulate, in place, whole or not at all.
 
+#![tactic(auto)]
+
 ghost use Rattle.std.specs.Prelude.{◌≡◌};
 ghost use Rattle.definitions.specs.Steps.{step_code, step_count, step_leaves};
 ghost use Rattle.entry_steps.specs.Sorts.{sort_means};

@@ -2,6 +2,8 @@
 // that takes a part goes on with the rest, and what failed can be said in one line. No contract can say what is read or
 // written; each function is safe and ends.
 
+#![tactic(auto)]
+
 ghost use Rattle.std.specs.Prelude.{◌≡◌, [], ◌∷◌, ◌++◌, ◌+◌, ◌≤◌, length, take, pos};
 ghost use Rattle.io.specs.Counts.{IsPrefixLen};
 ghost use Rattle.text.specs.Text.{spaced};

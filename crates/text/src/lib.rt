@@ -1,6 +1,8 @@
 // Inner: numbers as text in byte buffers, for our own programs alone. Each function puts something at a place and
 // answers the next place; the caller sees to the room.
 
+#![tactic(auto)]
+
 ghost use Rattle.std.specs.Prelude.{◌≡◌, [], ◌∷◌, ◌+◌, ◌*◌, ◌≤◌, ◌<◌, length, take, set, pos};
 ghost use Rattle.text.specs.Text.{MINUS, decimal, spaced, sign};
 ghost use Rattle.text.specs.Puts.{Puts};

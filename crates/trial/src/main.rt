@@ -3,6 +3,9 @@
 // road, so nothing is promised here but that each function is safe and ends. A line that is not a good request is
 // answered by a question mark. All of the input is read before the first answer, 4 MB at most: of more, the rest has
 // no answers, and the run fails.
+
+#![tactic(auto)]
+
 ghost use Rattle.std.specs.Prelude.{◌≡◌, length};
 
 use libc::{STDIN_FILENO, STDOUT_FILENO};

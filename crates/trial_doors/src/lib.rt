@@ -1,6 +1,9 @@
 // An inner crate: each door of the library that is lent one buffer, asked for the program `trial`, and its answer told
 // (second/README.md has the form). Nothing is promised but that each function is safe and ends: what is told is held to
 // a stored output. A request that comes is one function more here, or in trial_pair_doors.
+
+#![tactic(auto)]
+
 use libc::STDOUT_FILENO;
 use trial_lines::Row;
 

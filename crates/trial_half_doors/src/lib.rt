@@ -1,6 +1,9 @@
 // An inner crate: each door of the library that is about half records, asked for the program `trial`, and its answer
 // told (second/README.md has the form). Nothing is promised but that each function is safe and ends: what is told is
 // held to a stored output. The buffers that a request does not take are empty.
+
+#![tactic(auto)]
+
 use trial_lines::Row;
 
 // The names of the requests, as `trial_lines::name` reads them.

@@ -5,6 +5,9 @@
 //
 // A reader is told the place of the byte before its word, and tells the place after it. From NOWHERE, which is told
 // where a word is not there, nothing can be read: so whoever reads to the end of a line has read all its words well.
+
+#![tactic(auto)]
+
 ghost use Rattle.std.specs.Prelude.{◌≡◌, ◌≤◌, length};
 ghost use Rattle.trial_lines.specs.Lends.{Lends};
 
@@ -14,14 +17,14 @@ use std::num::{wrapping_add_u64, wrapping_add_usize, wrapping_sub_u64};
 pub const NOWHERE: usize = 18446744073709551615;
 
 // A number: a negative one as what it is modulo 2^64, and any other as it is.
-#[derive(Drop)]
+#[derive(Clone, Copy)]
 pub struct Found {
     pub bits: u64,
     pub next: usize,
 }
 
 // Up to four numbers, so too, and as what they are from -2^63 on.
-#[derive(Drop)]
+#[derive(Clone, Copy)]
 pub struct Row {
     pub bits: [u64; 4],
     pub signed: [i64; 4],

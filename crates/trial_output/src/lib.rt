@@ -1,6 +1,9 @@
 // An inner crate: what the program `trial` prints on standard output: numbers, and what stands in a buffer of entries
 // or of bytes (second/README.md has the form). Nothing is promised but that each function is safe and ends: what is
 // printed is held to a stored output.
+
+#![tactic(auto)]
+
 ghost use Rattle.std.specs.Prelude.{◌≤◌};
 
 use heights::magnitude;

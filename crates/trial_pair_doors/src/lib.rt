@@ -1,6 +1,9 @@
 // An inner crate: each door of the library that is lent more than one buffer, asked for the program `trial`, and its
 // answer told (second/README.md has the form). Nothing is promised but that each function is safe and ends: what is
 // told is held to a stored output. The buffers that a request does not take are empty.
+
+#![tactic(auto)]
+
 ghost use Rattle.std.specs.Prelude.{◌≤◌};
 
 use answers::Answer;

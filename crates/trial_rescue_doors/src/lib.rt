@@ -1,6 +1,9 @@
 // An inner crate: the door of the library that rescues a damaged shelf, asked for the program `trial`, and its answer
 // told (second/README.md has the form). Nothing is promised but that each function is safe and ends: what is told is
 // held to a stored output.
+
+#![tactic(auto)]
+
 ghost use Rattle.std.specs.Prelude.{◌≡◌, length};
 
 use trial_lines::{Row, as_entries, room};

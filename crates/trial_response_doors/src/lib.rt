@@ -1,6 +1,9 @@
 // An inner crate: the door of the library that gives the response at a point, asked for the program `trial`, and its
 // answer told (second/README.md has the form). Nothing is promised but that each function is safe and ends: what is
 // told is held to a stored output.
+
+#![tactic(auto)]
+
 use response::Point;
 use trial_lines::Row;
 

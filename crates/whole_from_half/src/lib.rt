@@ -1,5 +1,8 @@
 // Inner: each `requires` is shown by `polynomial`. From the lower half for r to the polynomial of n, in place:
 // `squarefree_from_half` makes that of m, and here z^t is put for z.
+
+#![tactic(auto)]
+
 ghost use Rattle.std.specs.Prelude.{◌+◌, ◌*◌, ◌≤◌, ◌≡◌, length};
 ghost use Rattle.definitions.specs.Series.{firsts, spread};
 ghost use Rattle.definitions.specs.Steps.{entries};

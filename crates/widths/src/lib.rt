@@ -1,5 +1,8 @@
 // Inner: nothing here is offered to callers; each `requires` is shown by `record`. How a record holds a number: the
 // leaves of the writer and the reader.
+
+#![tactic(auto)]
+
 ghost use Rattle.std.specs.Prelude.{◌≡◌, ◌*◌, ◌<◌, ◌≤◌, ◌^◌, cond, true, pos, negsuc, nat_abs};
 ghost use Rattle.widths.specs.Numbers.{top, twos, signed_of, widths, one_of, least_of};
 ghost use Rattle.widths.specs.Classes.{lesser, class};

@@ -2,6 +2,8 @@
 // comb: a difference that a signed number does not hold wraps, and nothing is tested. Where no value leaves the range
 // the numbers are the true ones.
 
+#![tactic(auto)]
+
 mod down;
 mod value;
 

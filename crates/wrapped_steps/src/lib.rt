@@ -1,6 +1,8 @@
 // Inner: the `requires` is shown by the caller `factor_steps`. A step on numbers modulo 2^64: the comb, and the
 // accumulate, whose sums wrap too.
 
+#![tactic(auto)]
+
 mod rows;
 mod up;
 

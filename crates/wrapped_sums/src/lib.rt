@@ -1,6 +1,8 @@
 // Inner: nothing is asked, but what comes out is told modulo 2^64, so it is for our own crates. The sum and the
 // difference of two numbers modulo 2^64: what a signed number does not hold wraps, and nothing is tested.
 
+#![tactic(auto)]
+
 ghost use Rattle.std.specs.Prelude.{◌≡◌};
 ghost use Rattle.std.specs.Int.{w64};
 ghost use Rattle.std.proofs.Common.{to_z, of_z};

@@ -1,5 +1,8 @@
 // Inner: what is offered of it is in `shelf` and `half_records`. Both forms of a record written: the writer looks at
 // everything, then stores.
+
+#![tactic(auto)]
+
 ghost use Rattle.std.specs.Prelude.{◌≡◌, ◌<◌, ◌≤◌, true, ◌++◌, length, drop};
 ghost use Rattle.definitions.specs.Answer.{height_of};
 ghost use Rattle.definitions.specs.Steps.{largest};

@@ -1,0 +1,39 @@
+-- `answer_lines::put_tail` meets its contract: on code 0 the degree is below the number of entries.
+use native.Mathlib.Omega.{arith}
+use borrow.Author.Tests.{eq-eqb, ne_eqb}
+use Rattle.text.specs.Text.{spaced}
+use Rattle.answer_lines.specs.Printed.{tail_of}
+use Rattle.text.proofs.Putting.{then}
+use borrow.Author.Rules.{rules}
+use Rattle.answer_lines.proofs.put_tail.Goals as goal
+
+pub overflow_add-count : goal.overflow_add-count
+overflow_add-count c = omega (arith, c.requires.degree_in_bounds c.if-code-eq-DONE.true)
+
+pub put_coefficients-p-requires : goal.put_coefficients-p-requires
+put_coefficients-p-requires c =
+    let h = c.requires.degree_in_bounds c.if-code-eq-DONE.true in
+    (omega arith, omega arith)
+
+pub put-requires : goal.put-requires
+put-requires c =
+    let h = c.requires.degree_in_bounds
+    c.if-code-eq-DONE.true in
+    omega (arith, c.put_coefficients-p.ensures.upper_bound)
+
+pub returns-then-code-eq-DONE : goal.returns-then-code-eq-DONE
+unfolding tail_of
+returns-then-code-eq-DONE c = let told =
+    let h = c.requires.degree_in_bounds
+    c.if-code-eq-DONE.true in
+    let last = c.put.ensures in
+    rw (eq-eqb _ _ c.if-code-eq-DONE.true) (
+      then c.put_coefficients-p.ensures.puts last,
+      omega (arith, c.put_coefficients-p.ensures.upper_bound, last.place),
+    ) in record { puts = told.0; upper_bound = told.1 }
+
+pub returns : goal.returns
+unfolding tail_of spaced
+returns c = let told =
+    let last = c.put-2.ensures in
+    rw (ne_eqb _ _ c.if-code-eq-DONE.false) (last, omega (arith, last.place)) in record { puts = told.0; upper_bound = told.1 }

@@ -1,0 +1,19 @@
+-- `bv_polynomial` meets its contract, the request's. The limits are passed as their bits,
+-- which stand for them since they fit.
+use mathlib.Core.Path.{◌∙◌, ap₂}
+use lib.IntN.{ℤ}
+use lib.ListN.{length}
+use mir.Facts.{to_z-of_z}
+use Rattle.answers.specs.Polynomial.{answer, leaves}
+use borrow.Author.Rules.{rules}
+use Rattle.bonvedrick.proofs.bv_polynomial.Goals as goal
+
+pub returns : goal.returns
+returns c = let p = c.before.before.before in
+    let a = p.args in
+    let told = c.polynomial.ensures in
+    let h = to_z-of_z p.ranges.h in
+    let w = to_z-of_z p.ranges.w in record {
+      answer = told.value ∙ ap₂ (λ (x y : ℤ). answer a.kind a.n x y (length a.buf-1.now)) h w;
+      leaves = told.buf_after ∙ ap₂ (λ (x y : ℤ). leaves a.kind a.n x y a.buf-1.now) h w;
+    }

@@ -1,0 +1,8 @@
+-- `browse`: the numbers of what stands there.
+use mathlib.Core.Path.{◌∙◌, ap}
+use Rattle.browsing.specs.Browse.{told}
+use borrow.Author.Rules.{rules}
+use Rattle.browsing.proofs.browse.Goals as goal
+
+pub returns : goal.returns
+returns c = c.Numbers-of.ensures ∙ ap told c.shown_at.ensures

@@ -1,0 +1,16 @@
+-- `stretch_of`: each arm is a case of `start_of` and `length_of`.
+use Rattle.browsing.specs.Browse.{start_of, length_of}
+use borrow.Author.Rules.{rules}
+use Rattle.browsing.proofs.stretch_of.Goals as goal
+
+pub returns-in-Record : goal.returns-in-Record
+unfolding start_of length_of
+returns-in-Record c = rw (c.shown-1.given.1, ← c.between.ensures) c.part.ensures
+
+pub returns-in-Refused : goal.returns-in-Refused
+unfolding start_of length_of
+returns-in-Refused c = rw c.enum_told-1.given.1 c.part-in-Refused.ensures
+
+pub returns-in-End : goal.returns-in-End
+unfolding start_of length_of
+returns-in-End c = rw c.enum_told-in-End-1.given.1 c.part-in-End.ensures

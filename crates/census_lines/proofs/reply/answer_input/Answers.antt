@@ -1,0 +1,45 @@
+-- `census_lines::reply::answer_input` meets its contract: nothing, or what is printed for the bounds in the first line
+-- (`Told`).
+use mathlib.Core.Path.{◌≡◌, sym, ◌∙◌, ap}
+use native.Mathlib.Omega.{arith}
+use borrow.Author.Rules.{rules}
+use borrow.Author.Tests.{lt-ltb, le-ltb, not-true, not-false}
+use lib.Seq.{length-take-le}
+use Rattle.text.proofs.Putting.{nothing_put}
+use Rattle.census_lines.specs.Asked.{first_line, bounds_in}
+use Rattle.census_lines.specs.Printed.{wrong}
+use Rattle.census_lines.proofs.Told.{replied, replied_wrong}
+use Rattle.census_lines.proofs.reply.answer_input.Goals as goal
+use Rattle.census_lines.proofs.reply.answer_input.Goals.{After-read_bounds-asked}
+
+pub returns-then-out-lt-MOST : goal.returns-then-out-lt-MOST
+returns-then-out-lt-MOST c = let told = rw (lt-ltb _ _ c.if-out-lt-MOST.true) (nothing_put 0 c.args.out.now, omega arith) in record { puts = told.0; upper_bound = told.1 }
+
+pub slice_bounds-read_bounds-end : goal.slice_bounds-read_bounds-end
+slice_bounds-read_bounds-end c = sym (length-take-le _ _ c.first_line_end-end.ensures.upper_bound)
+
+-- what was read are the bounds in the first line
+asked_is : (c : After-read_bounds-asked) → c.read_bounds-asked.result
+    ≡ bounds_in (first_line c.args.input.now)
+asked_is c = c.read_bounds-asked.ensures ∙ ap bounds_in c.first_line_end-end.ensures.input_value
+
+pub returns-then-not-asked : goal.returns-then-not-asked
+unfolding wrong
+returns-then-not-asked c = let told =
+    let put = c.put_text.ensures in
+    let asked = c.before.before.before.before.before.before.before in
+    rw (
+      le-ltb _ _ asked.if-out-lt-MOST.false,
+      ← replied_wrong _ asked.read_bounds-asked.result (asked_is asked)
+          (not-true _ c.if-not-asked.true),
+    ) (put, omega (arith, put.place)) in record { puts = told.0; upper_bound = told.1 }
+
+pub returns : goal.returns
+returns c = let told =
+    let put = c.put_reply.ensures in
+    let asked = c.before.before.before.before.before.before.before.before.before.before in
+    rw (
+      le-ltb _ _ asked.if-out-lt-MOST.false,
+      ← replied _ asked.read_bounds-asked.result (asked_is asked)
+          (not-false _ c.if-not-asked.false),
+    ) (put.puts, omega (arith, put.upper_bound)) in record { puts = told.0; upper_bound = told.1 }

@@ -1,0 +1,27 @@
+-- `census_lines::reply::put_refusal` meets its contract: a code has at most 20 digits.
+use Prim.Native.Nat.{◌≤◌}
+use native.Mathlib.Omega.{arith}
+use borrow.Author.Rules.{rules}
+use Rattle.text.proofs.Decimal.{length_machine}
+use Rattle.text.proofs.Putting.{then}
+use Rattle.census_lines.specs.Printed.{refusal}
+use Rattle.census_lines.proofs.reply.put_refusal.Goals as goal
+use Rattle.census_lines.proofs.reply.put_refusal.Goals.{After-put_number-p}
+
+short : (c : After-put_number-p) → c.put_number-p.result ≤ 20
+short c =
+    let s = c.before.before.before in
+    omega (arith, c.put_number-p.ensures.place, length_machine s.args.code s.ranges.code.fits)
+
+pub put-requires : goal.put-requires
+put-requires c =
+    let first = c.before.before.before in
+    omega (arith, short first, first.put_number-p.auto.0)
+
+pub returns : goal.returns
+unfolding refusal
+returns c = let last = c.before.before in
+    let first = last.before.before.before.before in record {
+      puts = then first.put_number-p.ensures last.put.ensures;
+      upper_bound = omega (arith, short first, last.put.ensures.place);
+    }

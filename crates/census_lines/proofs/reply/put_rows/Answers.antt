@@ -1,0 +1,41 @@
+-- `census_lines::reply::put_rows` meets its contract. The loop's invariant: the first i rows are written, in at most 63
+-- bytes each.
+use Prim.Native.Nat.{◌+◌, ◌*◌, ◌-◌, ◌≤◌}
+use mathlib.Core.Path.{◌≡◌, refl, ◌∙◌}
+use native.Mathlib.Omega.{arith}
+use lib.ListN.{length, take}
+use Rattle.text.specs.Puts.{Puts}
+use Rattle.text.proofs.Putting.{nothing_put, then}
+use Rattle.census_lines.specs.Printed.{row_lines}
+use Rattle.census_lines.proofs.Rows.{line_more}
+use Rattle.census_lines.proofs.reply.put_rows.Goals as goal
+
+pub loop-i-init : goal.loop-i-init
+unfolding row_lines
+loop-i-init c = (
+  omega arith,
+  nothing_put c.args.at c.args.out.now,
+  omega arith,
+  refl,
+)
+
+pub loop-i-preserved : goal.loop-i-preserved
+loop-i-preserved c =
+    let at-loop = c.before.before.before.before.before.before.before.before in
+    let t = at-loop.loop-i in
+    let l = at-loop.args.rows.now in
+    let put = c.put_row-p in (
+      omega arith,
+      rw (line_more l t.i (omega arith)) (then t.invariant.1 put.ensures.0),
+      omega (arith, put.ensures.1),
+      put.auto.0 ∙ t.invariant.3,
+    )
+
+pub shape_of-out : goal.shape_of-out
+shape_of-out c = c.loop-i.invariant.3
+
+pub returns : goal.returns
+returns c = let told =
+    let t = c.loop-i in
+    let e : t.i ≡ c.args.count = omega arith in
+    rw (← e) (t.invariant.1, t.invariant.2) in record { puts = told.0; upper_bound = told.1 }

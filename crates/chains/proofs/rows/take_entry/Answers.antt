@@ -1,0 +1,76 @@
+-- `chains::rows::take_entry` meets its contract: both numbers fit, so they are as they were read, and so does a sum
+-- that is within w.
+use mathlib.Core.Path.{◌≡◌, refl, sym, ◌∙◌, ap, ap₂}
+use mathlib.Core.Bool.{true}
+use Prim.Native.Nat.{◌+◌}
+use borrow.Author.Rules.{rules}
+use borrow.Author.Tests.{not-true, not-false}
+use lib.ListN.{get_or, set}
+use lib.IntN.{ℤ}
+use mir.Syntax.{w64}
+use mir.Val.{SFits}
+use Rattle.definitions.specs.Integers.{◌⊕◌, 0ℤ}
+use Rattle.definitions.specs.Steps.{entries, in_range}
+use Rattle.step_laws.specs.Machine.{seen, handed, range_fits}
+use Rattle.step_laws.specs.WorkingLimit.{range_more}
+use Rattle.chains.specs.Chains.{sum_at}
+use Rattle.chains.proofs.rows.take_entry.Goals as goal
+use Rattle.chains.proofs.rows.take_entry.Goals.{After-passes_test, After-read_entry-y, Else-not-passes_test, Start}
+
+-- what was read, and its sum
+module _ (c : After-read_entry-y) where
+  abbrev p : Start
+  p = c.before.before.before.before
+
+  x_is : seen c.read_entry-x.result ≡ get_or p.args.a.now (p.args.k + p.args.q) 0ℤ
+  unfolding entries
+  x_is = let r = c.read_entry-x.ensures in handed r.1 r.0
+
+  y_is : seen c.read_entry-y.result ≡ get_or p.args.s.now p.args.q 0ℤ
+  unfolding entries
+  y_is = let r = c.read_entry-y.ensures in handed r.1 r.0
+
+  x_fits : SFits w64 (get_or p.args.a.now (p.args.k + p.args.q) 0ℤ)
+  unfolding entries
+  x_fits = c.read_entry-x.ensures.1
+
+  abbrev value : ℤ
+  value = sum_at p.args.s.now p.args.a.now p.args.k p.args.q
+
+  sum : seen c.read_entry-x.result ⊕ seen c.read_entry-y.result ≡ value
+  sum = ap₂ ◌⊕◌ x_is y_is
+
+pub passes_test-requires : goal.passes_test-requires
+passes_test-requires c = ((p c).requires.2, rw (x_is c, y_is c) (p c).requires.3)
+
+-- what was answered is whether the sum is within w
+within : (c : After-passes_test) → c.passes_test.result ≡ in_range (p c.before).args.w (value c.before)
+within c = c.passes_test.ensures ∙ ap (in_range (p c.before).args.w) (sum c.before)
+
+pub returns-then-not-passes_test : goal.returns-then-not-passes_test
+returns-then-not-passes_test c = let e = c.before in record {
+  value = (sym (not-true _ c.if-not-passes_test.true) ∙ within e, x_fits e.before);
+  s_after = (refl, refl);
+}
+
+-- it is
+inside : (c : Else-not-passes_test) → in_range (p c.before.before).args.w (value c.before.before) ≡ true
+inside c = sym (within c.before) ∙ not-false _ c.if-not-passes_test.false
+
+value_fits : (c : Else-not-passes_test) → SFits w64 (value c.before.before)
+value_fits c = range_fits _ (range_more (p c.before.before).pre.2.1 _ (inside c))
+
+pub new_value-v-requires : goal.new_value-v-requires
+new_value-v-requires c = rw (sum c.before.before) (value_fits c)
+
+pub returns : goal.returns
+returns c = let n = c.before.before.before.before.before.before in
+    let e = n.before in
+    let q = (p e.before.before).args in
+    let is = handed (value_fits e) (n.new_value-v.ensures ∙ sum e.before.before) in record {
+      value = (sym (inside e), x_fits e.before.before);
+      s_after = (
+        c.put.ensures ∙ ap (set q.s-1.now q.q) is,
+        c.put-2.ensures ∙ ap (set q.a-1.now (q.k + q.q)) is,
+      );
+    }

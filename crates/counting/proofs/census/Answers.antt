@@ -1,0 +1,56 @@
+-- `census`: refused at once, or the census in the first 4,096 entries (Codes).
+use mathlib.Core.Path.{◌≡◌, sym, ◌∙◌, ap}
+use mathlib.Core.Bool.{true}
+use mathlib.Core.List.{◌++◌}
+use Prim.Native.Nat.{◌≤◌}
+use native.Mathlib.Omega.{arith}
+use borrow.Author.Tests.{not-true, not-false}
+use lib.ListN.{length, drop}
+use lib.Seq.{length-take-le}
+use Rattle.counting.specs.Census.{good_range}
+use Rattle.counting.proofs.Codes.{out_of_range, too_short, same_answer, same_leaves, all_clear}
+use borrow.Author.Rules.{rules}
+use Rattle.counting.proofs.census.Goals as goal
+use Rattle.counting.proofs.census.Goals.{Else-not-good_range}
+
+pub returns-then-not-good_range : goal.returns-then-not-good_range
+returns-then-not-good_range c = let told =
+    let q = c.before.before in
+    let r = out_of_range _ _ _ q.args.work.now
+    (sym q.good_range.ensures ∙ not-true _ c.if-not-good_range.true) in
+    (c.refused.ensures ∙ sym r.0, (sym r.1, sym r.2)) in record { answer = told.0; leaves = told.1; clears = told.2 }
+
+-- the bounds are good
+good : (e : Else-not-good_range) → good_range e.args.a e.args.b ≡ true
+good e = sym e.good_range.ensures ∙ not-false _ e.if-not-good_range.false
+
+pub returns-then-work-lt-USED : goal.returns-then-work-lt-USED
+returns-then-work-lt-USED c = let told =
+    let e = c.before.before in
+    let a = e.args in
+    let r = too_short a.a a.b a.rows-1.now a.work-1.now (good e) (omega arith) in
+    (c.refused-then-work-lt-USED.ensures ∙ sym r.0, (sym r.1, sym r.2)) in record { answer = told.0; leaves = told.1; clears = told.2 }
+
+pub slice_bounds-census_in-end-2 : goal.slice_bounds-census_in-end-2
+slice_bounds-census_in-end-2 c =
+    sym (length-take-le 4096 c.args.work.now (omega arith))
+
+pub census_in-requires : goal.census_in-requires
+census_in-requires c =
+    let e = c.before.before.before in
+    (good e, length-take-le 4096 e.args.work.now (omega arith))
+
+pub returns : goal.returns
+returns c = let told =
+    let m = c.before.before.before in
+    let e = m.before.before.before.before in
+    let a = e.args in
+    let g = good e in
+    let enough : 4096 ≤ length a.work-1.now = omega arith in (
+      m.census_in.ensures.value ∙ sym (same_answer a.a a.b a.rows-1.now a.work-1.now g enough),
+      (
+        m.census_in.ensures.rows_after.0 ∙ sym (same_leaves a.a a.b a.rows-1.now a.work-1.now g enough),
+        ap (λ l. l ++ drop 4096 a.work-1.now) m.census_in.ensures.rows_after.1
+            ∙ sym (all_clear a.a a.b a.rows-1.now a.work-1.now g enough),
+      ),
+    ) in record { answer = told.0; leaves = told.1; clears = told.2 }

@@ -1,0 +1,71 @@
+-- `place_sum`: the sums of products of the digits a and k - a, one after the other.
+use Prim.Native.Nat.{◌+◌, ◌*◌, ◌-◌, ◌≤◌}
+use mathlib.Core.Path.{◌≡◌, sym, ◌∙◌, ap}
+use native.Mathlib.Omega.{arith}
+use native.Mathlib.Numerals.{add-one}
+use lib.IntN.{ℤ, nat_abs}
+use mir.Syntax.{w64}
+use mir.Val.{to_z, SFits}
+use Rattle.definitions.specs.Integers.{◌⊕◌}
+use Rattle.definitions.specs.Series.{◌·◌}
+use Rattle.definitions.specs.Steps.{entries}
+use Rattle.step_laws.specs.Signed.{abs_⊕}
+use Rattle.step_laws.specs.Machine.{seen, handed}
+use Rattle.digit_sums.specs.Digits.{digits, place_to, place_more, place_none}
+use Rattle.light_sums.proofs.Joins.{small_fits}
+use Rattle.digit_sums.proofs.place_sum.Goals as goal
+use Rattle.digit_sums.proofs.place_sum.Goals.{After-digit_sum, At-loop-a}
+
+pub loop-a-init : goal.loop-a-init
+loop-a-init c =
+    let a = c.args in
+    (omega arith, sym (place_none (entries a.f.now) (entries a.b.now) a.i a.k), omega arith)
+
+pub digit_sum-requires : goal.digit_sum-requires
+digit_sum-requires c = (c.requires.0, c.requires.1)
+
+-- one sum more
+module _ (c : After-digit_sum) where
+  abbrev at : At-loop-a
+  at = c.before.before
+
+  abbrev one : ℤ
+  one =
+      let a = at.args in
+      (digits at.loop-a.a (entries a.f.now) · digits (a.k - at.loop-a.a) (entries a.b.now)) a.i
+
+  one_small : nat_abs one ≤ 1152921504606846976
+  one_small = rw c.digit_sum.ensures.0 at c.digit_sum.ensures.1
+
+  one_seen : seen c.digit_sum.result ≡ one
+  one_seen = handed (small_fits one (omega (arith, one_small))) c.digit_sum.ensures.0
+
+  both_small : nat_abs (to_z w64 at.loop-a.s ⊕ one) ≤ (at.loop-a.a + 1) * 1152921504606846976
+  both_small = omega (arith, abs_⊕ (to_z w64 at.loop-a.s) one, at.loop-a.inv.2, one_small)
+
+  next : SFits w64 (to_z w64 at.loop-a.s ⊕ one)
+  next = small_fits _ (omega (arith, both_small, at.before.pre.2, c.loop-a-test.true))
+
+pub plus-s-requires : goal.plus-s-requires
+plus-s-requires c = rw (one_seen c) (next c)
+
+pub loop-a-preserved : goal.loop-a-preserved
+loop-a-preserved c =
+    let q = c.before in
+    let a = (at q).args in
+    let is : seen c.plus-s.result ≡ to_z w64 (at q).loop-a.s ⊕ one q =
+    handed (next q) (c.plus-s.ensures ∙ ap (λ n. to_z w64 (at q).loop-a.s ⊕ n) (one_seen q)) in (
+      omega arith,
+      is ∙ ap (λ n. n ⊕ one q) (at q).loop-a.invariant.1
+          ∙ sym (place_more (entries a.f.now) (entries a.b.now) a.i a.k (at q).loop-a.a),
+      rw is (both_small q),
+    )
+
+pub returns : goal.returns
+returns c =
+    let l = c.loop-a in
+    let a = c.args in
+    let same : l.a ≡ a.k + 1 = omega arith in (
+      l.invariant.1 ∙ ap (place_to (entries a.f.now) (entries a.b.now) a.i a.k) (same ∙ add-one a.k),
+      omega (arith, l.invariant.2, c.requires.2),
+    )

@@ -1,0 +1,18 @@
+-- `entry_steps::entry::first_row` meets its contract: the loop's invariant is that the sums before q are begun.
+use mathlib.Core.Path.{◌≡◌, refl, sym, ◌∙◌, ap}
+use Prim.Native.Nat.{ℕ, ◌+◌, ◌-◌, ◌<◌, ◌≤◌}
+use native.Mathlib.Nat.{not-suc-le-zero}
+use native.Mathlib.Omega.{arith}
+use lib.ListN.{length, get_or, length-set}
+use Rattle.definitions.specs.Integers.{0ℤ}
+use Rattle.definitions.specs.Steps.{entries}
+use Rattle.step_laws.specs.Machine.{handed}
+use Rattle.entry_steps.proofs.Split.{get_or-set_by}
+use Rattle.entry_steps.proofs.entry.first_row.Given as goal
+
+abbrev pub invariant-loop-q : goal.invariant-loop-q
+invariant-loop-q l =
+    (length l.s ≡ length l.initial.s) × (l.q ≤ l.d) × ((j : ℕ) → j < l.q → get_or l.s j 0ℤ ≡ get_or l.a (l.c + j) 0ℤ)
+
+abbrev pub decreases-loop-q : goal.decreases-loop-q
+decreases-loop-q l = l.d - l.q

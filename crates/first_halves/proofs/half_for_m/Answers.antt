@@ -1,0 +1,19 @@
+-- `half_for_m`: the lower half for r, with the signs of an even index (FirstHalves).
+use mathlib.Core.Path.{ap}
+use Rattle.first_halves.proofs.FirstHalves.{lower_within, signed_is}
+use borrow.Author.Rules.{rules}
+use Rattle.first_halves.proofs.half_for_m.Goals as goal
+
+pub signed-requires : goal.signed-requires
+signed-requires c =
+    let m = c.before.before in
+    let s = m.before.before in
+    lower_within s.args.n _ s.requires.0 s.requires.1 s.requires.2 _ m.lower_half-measured.ensures.a_after
+
+pub returns : goal.returns
+returns c = let g = c.before in
+    let m = g.before.before.before in
+    let s = m.before.before in record {
+      value = ap (λ r. r.height) m.lower_half-measured.ensures.value;
+      a_after = signed_is s.args.n _ s.requires.0 s.requires.1 s.requires.2 _ _ m.lower_half-measured.ensures.a_after g.signed.ensures;
+    }

@@ -1,0 +1,8 @@
+-- `stored_of`: by the form.
+use mathlib.Core.Path.{refl}
+use native.Mathlib.Omega.{arith}
+use borrow.Author.Rules.{rules}
+use Rattle.forms.proofs.stored_of.Goals as goal
+
+pub returns-in-Half : goal.returns-in-Half
+returns-in-Half c = (rw c.enum_told-in-Half-1.given.1 refl, omega arith)

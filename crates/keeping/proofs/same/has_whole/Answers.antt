@@ -1,0 +1,95 @@
+-- `has_whole`: what is made is the polynomial of the record's kind and index (Comparing).
+use mathlib.Core.Path.{◌≡◌, ◌∙◌, sym, ap}
+use mathlib.Core.Bool.{not}
+use mathlib.Core.List.{List}
+use Prim.Native.Nat.{ℕ}
+use lib.Seq.{length-take-le}
+use Rattle.definitions.specs.Answer.{coefficients, height}
+use Rattle.widths.specs.Numbers.{widths, least_of}
+use lib.ListN.{take}
+use Rattle.record.specs.Header.{kind_in, index_in, count_in}
+use native.Mathlib.Omega.{arith}
+use borrow.Author.Rules.{rules}
+use Rattle.widths.proofs.Digits.{Bytes, bytes_each}
+use Rattle.keeping.proofs.Comparing.{header, fits, another_wide, made-height, made_is, comparable, compared}
+use Rattle.keeping.proofs.same.has_whole.Goals as goal
+use Rattle.keeping.proofs.same.has_whole.Goals.{After-least_width, After-polynomial-made, Start}
+
+-- the record, from the place where its polynomial has been made
+abbrev start : After-polynomial-made → Start
+start p = p.before.before.before.before.before
+
+abbrev bs : After-polynomial-made → List ℕ
+bs p = (start p).args.bytes.now
+
+each : (p : After-polynomial-made) → Bytes (bs p)
+each p = bytes_each (bs p) (λ i. (p.type_inv.bytes i).fits)
+
+-- what is asked for is its kind and index
+kind_is : (p : After-polynomial-made) → p.kind_in.result ≡ kind_in (bs p)
+kind_is p = p.kind_in.ensures
+
+index_is : (p : After-polynomial-made) → p.index_in.result ≡ index_in (bs p)
+index_is p = p.index_in.ensures.0
+
+-- so its height is told
+told : (p : After-polynomial-made) → p.polynomial-made.result.height ≡ height (kind_in (bs p)) (index_in (bs p))
+told p =
+    made-height (bs p) (each p) (start p).requires.0 (start p).args.coeffs.now (start p).requires.1 _ _ (kind_is p)
+    (index_is p) p.polynomial-made.ensures.value
+
+-- and its width
+least : (c : After-least_width) → c.least_width.result
+    ≡ least_of widths (height (kind_in (bs c.before.before.before)) (index_in (bs c.before.before.before)))
+least c = c.least_width.ensures ∙ ap (least_of widths) (told c.before.before.before)
+
+pub kind_in-requires : goal.kind_in-requires
+kind_in-requires c = (header c.args.bytes.now c.requires.0).long
+
+pub index_in-requires : goal.index_in-requires
+index_in-requires c = (header c.args.bytes.now c.requires.0).long
+
+pub width_in-w-requires : goal.width_in-w-requires
+width_in-w-requires c = (header (bs c.before) (start c.before).requires.0).long
+
+pub returns-then-least_width-w : goal.returns-then-least_width-w
+returns-then-least_width-w c = let p = c.before.before.before.before in record {
+  value = another_wide (bs p) (each p) (start p).requires.0
+      (λ e. c.if-least_width-w.true (least c.before ∙ e ∙ sym c.width_in-w.ensures));
+  coeffs_len_unchanged = p.polynomial-made.auto.1.1.1.1.0;
+}
+
+pub count_in-count-requires : goal.count_in-count-requires
+count_in-count-requires c =
+    let p = c.before.before.before.before in (header (bs p) (start p).requires.0).long
+
+pub slice_bounds-differ_in-end : goal.slice_bounds-differ_in-end
+slice_bounds-differ_in-end c =
+    let p = c.before.before.before.before.before in
+    omega (arith, c.count_in-count.ensures, (start p).requires.1, p.polynomial-made.auto.1.1.1.1.0)
+
+pub slice_bounds-differ_in-end-2 : goal.slice_bounds-differ_in-end-2
+slice_bounds-differ_in-end-2 c = sym (length-take-le _ _ (slice-reshare-prefix-differ-in c.before))
+
+-- what is compared is its polynomial
+made : (p : After-polynomial-made) (k : ℕ) → k ≡ count_in (bs p)
+    → take k p.polynomial-made.new.1.1.1.1.0 ≡ coefficients (kind_in (bs p)) (index_in (bs p))
+made p =
+    made_is (bs p) (each p) (start p).requires.0 (start p).args.coeffs.now (start p).requires.1 _ _ (kind_is p)
+    (index_is p) p.polynomial-made.ensures.buf_after
+
+pub differ_in-requires : goal.differ_in-requires
+differ_in-requires c =
+    let p = c.before.before.before.before.before.before in
+    comparable (bs p) (each p) (start p).requires.0 _ c.width_in-w.ensures _
+    (made p _ c.count_in-count.ensures)
+    (sym (least c.before.before.before) ∙ c.if-least_width-w.false)
+
+pub returns : goal.returns
+returns c = let p = c.before.before.before.before.before.before.before in record {
+  value = ap not (c.differ_in.ensures
+      ∙ compared (bs p) (each p) (start p).requires.0 _ c.width_in-w.ensures
+      _
+      (made p _ c.count_in-count.ensures));
+  coeffs_len_unchanged = p.polynomial-made.auto.1.1.1.1.0;
+}

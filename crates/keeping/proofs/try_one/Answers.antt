@@ -1,0 +1,49 @@
+-- `try_one`: each test in turn (Trying).
+use mathlib.Core.Path.{◌≡◌, refl, sym, ◌∙◌}
+use mathlib.Core.Bool.{true, false}
+use native.Mathlib.Omega.{arith}
+use borrow.Author.Rules.{rules}
+use Rattle.definitions.specs.Codes.{DONE}
+use Rattle.shelf.specs.Format.{look_code}
+use Rattle.keeping.proofs.Comparing.{header}
+use Rattle.keeping.proofs.Trying.{tried_unread, tried_cramped, tried_whole}
+use Rattle.keeping.proofs.try_one.Goals as goal
+use Rattle.keeping.proofs.try_one.Goals.{Else-look-ne-DONE}
+
+-- the code that the look gave is that of the bytes
+read : (c : Else-look-ne-DONE) → look_code c.args.bytes.now ≡ DONE
+read c = sym c.look.ensures ∙ c.if-look-ne-DONE.false
+
+pub returns-then-look-ne-DONE : goal.returns-then-look-ne-DONE
+returns-then-look-ne-DONE c = record {
+  value = tried_unread _ _ (λ e. c.if-look-ne-DONE.true (c.look.ensures ∙ e));
+  coeffs_len_unchanged = refl;
+}
+
+pub count_in-requires : goal.count_in-requires
+count_in-requires c = (header _ (read c)).long
+
+pub returns-then-coeffs-count_in : goal.returns-then-coeffs-count_in
+returns-then-coeffs-count_in c = record {
+  value = tried_cramped _ _ (read c.before.before) (omega (arith, c.if-coeffs-count_in.true, c.count_in.ensures));
+  coeffs_len_unchanged = refl;
+}
+
+pub is_same-requires : goal.is_same-requires
+is_same-requires c =
+    let else = c.before in
+    (read else.before.before, omega (arith, else.if-coeffs-count_in.false, else.count_in.ensures))
+
+pub returns-then-is_same : goal.returns-then-is_same
+returns-then-is_same c = let same = c.before.before in
+    let asks = is-same-requires same.before same.is_same.lifetimes in record {
+      value = tried_whole _ _ asks.0 true asks.1 (sym c.if-is_same.true ∙ same.is_same.ensures.value);
+      coeffs_len_unchanged = same.is_same.ensures.coeffs_len_unchanged;
+    }
+
+pub returns : goal.returns
+returns c = let same = c.before.before in
+    let asks = is-same-requires same.before same.is_same.lifetimes in record {
+      value = tried_whole _ _ asks.0 false asks.1 (sym c.if-is_same.false ∙ same.is_same.ensures.value);
+      coeffs_len_unchanged = same.is_same.ensures.coeffs_len_unchanged;
+    }

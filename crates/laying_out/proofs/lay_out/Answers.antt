@@ -1,0 +1,83 @@
+-- `lay_out` meets its contract: the height and the peak are those of the lower half, and by them the outcome.
+use Prim.Native.Nat.{◌+◌, ◌*◌, ◌≤◌}
+use mathlib.Core.Path.{◌≡◌, sym, ◌∙◌, ap}
+use native.Mathlib.Omega.{arith}
+use borrow.Author.Tests.{lt-ltb, le-ltb}
+use lib.Dec.{ltb}
+use lib.ListN.{length, take}
+use Rattle.definitions.specs.Numbers.{r_of}
+use Rattle.definitions.specs.KeptHalf.{half_degree}
+use Rattle.definitions.specs.Answer.{height, peak}
+use Rattle.index.proofs.Laws.{parts_half}
+use Rattle.laying_out.proofs.Ending.{peak-room, half_room, part_length, top_is, laid_tall, laid_done}
+use borrow.Author.Rules.{rules}
+use Rattle.laying_out.proofs.lay_out.Goals as goal
+use Rattle.laying_out.proofs.lay_out.Goals.{After-half_degree-half, After-peak_within-top, Start}
+
+module _ (q : After-half_degree-half) where
+  abbrev start : Start
+  start = q.before
+
+  d_is : q.half_degree-half.result ≡ half_degree start.args.kind (r_of start.args.n)
+  d_is = parts_half start.args.n start.args.parts start.pre.0.parts start.args.kind _
+      q.half_degree-half.ensures
+
+  room : q.half_degree-half.result + 1 ≤ length start.args.b.now
+  room = half_room _ _ _ _ start.pre.0 _ d_is
+
+  part : length (take (q.half_degree-half.result + 1) start.args.b.now) ≡ q.half_degree-half.result + 1
+  part = part_length _ _ _ _ start.pre.0 _ d_is
+
+-- after the height
+module _ (t : After-peak_within-top) where
+  abbrev at_half : After-half_degree-half
+  at_half = t.before.before
+
+  abbrev begin : Start
+  begin = at_half.before
+
+  high : (t.peak_within-top.result.height ≡ height begin.args.kind begin.args.n)
+      × (t.peak_within-top.result.place * begin.args.parts.t ≡ peak begin.args.kind begin.args.n)
+  high = top_is _ _ _ _ begin.pre.0 _ (d_is at_half) begin.pre.1 _ t.peak_within-top.ensures
+
+  told : ltb begin.args.h t.peak_within-top.result.height
+      ≡ ltb begin.args.h (height begin.args.kind begin.args.n)
+  told = ap (ltb begin.args.h) high.0
+
+pub overflow_add-half : goal.overflow_add-half
+overflow_add-half c = omega (arith, room c)
+
+pub slice_bounds-peak_within-end : goal.slice_bounds-peak_within-end
+slice_bounds-peak_within-end c = room c
+
+pub slice_bounds-peak_within-end-2 : goal.slice_bounds-peak_within-end-2
+slice_bounds-peak_within-end-2 c = sym (part c.before)
+
+pub peak_within-top-requires : goal.peak_within-top-requires
+peak_within-top-requires c =
+    let q = c.before in
+    rw (d_is q) q.requires.2
+
+pub returns-then-h-height : goal.returns-then-h-height
+returns-then-h-height c =
+    let t = c.before.before.before.before in
+    let s = begin t in
+    laid_tall s.args.kind s.args.n s.args.parts s.args.b.now s.pre.0 _ _
+    (sym (told t) ∙ lt-ltb _ _ c.if-h-height.true) c.clear.ensures
+
+pub from_lower_half-requires : goal.from_lower_half-requires
+from_lower_half-requires c = let s = begin c.before.before in (s.pre.0, s.pre.1)
+
+pub overflow_mul-peak : goal.overflow_mul-peak
+overflow_mul-peak c =
+    let t = c.before.before.before.before.before in
+    omega (arith, (high t).1, peak-room _ _ _ _ (begin t).requires.0)
+
+pub returns : goal.returns
+returns c =
+    let t = c.before.before.before.before.before in
+    let s = begin t in
+    laid_done s.args.kind s.args.n s.args.parts s.args.b.now s.pre.0 _ _ _ _
+    (sym (told t) ∙ le-ltb _ _ c.if-h-height.false)
+    c.from_lower_half.ensures
+    (high t).0 (high t).1

@@ -1,0 +1,77 @@
+-- `list::list_piece` meets its contract. The loop's invariant: the line that is open is the one after the bytes taken;
+-- what is left of the piece goes on from there (`after-part`). It ends, for each run takes something.
+use Rattle.std.proofs.Common.{◌≡◌, ◌+◌, ◌-◌, ◌≤◌, length, take, drop, refl, ◌∙◌, arith, length-drop, length-take}
+use Rattle.listing.specs.Stream.{after}
+use Rattle.listing.proofs.Streaming.{after-part}
+use Rattle.list.proofs.list_piece.Goals as goal
+use Rattle.list.proofs.list_piece.Goals.{After-list_some-g, In-loop-from}
+
+pub loop-from-init : goal.loop-from-init
+unfolding after
+loop-from-init c = (omega arith, (refl, refl))
+
+-- how long the rest of the piece is
+long : (c : In-loop-from) →
+    let l = c.args.piece.now in
+    let from = c.loop-from.from in
+    length (take (length l - from) (drop from l)) ≡ length l - from
+long c =
+    let l = c.args.piece.now in
+    let from = c.loop-from.from in
+    omega (arith, length-take (length l - from) (drop from l), length-drop from l)
+
+pub list_some-g-requires : goal.list_some-g-requires
+list_some-g-requires c = let turn = c.before.before in record {
+  in_bounds = omega (arith, turn.loop-from.invariant.1.1, turn.requires);
+  piece_nonzero = omega (arith, long turn, turn.loop-from-test.true);
+}
+
+-- a turn keeps the buffer's length, and takes something of what is left
+module _ (c : After-list_some-g) where
+  kept : length c.list_some-g.new.1.1.0
+      ≡ length c.args.out.now
+  kept = c.list_some-g.auto.1.1.0 ∙ c.loop-from.invariant.1.1
+
+  within : c.list_some-g.result.taken
+      ≤ length c.args.piece.now
+      - c.loop-from.from
+  within = omega (arith, c.list_some-g.ensures.took.within, long c.before.before.before)
+
+  further : c.list_some-g.result.line
+      ≡ after c.args.line
+      (take (c.loop-from.from + c.list_some-g.result.taken)
+      c.args.piece.now)
+  further =
+      c.list_some-g.ensures.took.left
+      ∙ after-part _ _ _ _ _ _ c.loop-from.invariant.1.0 within
+
+pub overflow_add-from : goal.overflow_add-from
+overflow_add-from c = omega (arith, within c.before.before.before.before)
+
+pub shape_of-out-then-not-g : goal.shape_of-out-then-not-g
+shape_of-out-then-not-g c = kept c.before.before.before.before.before.before
+
+pub returns-then-not-g : goal.returns-then-not-g
+returns-then-not-g c = let g = c.before.before.before.before.before.before in record {
+  took = record { within = omega (arith, within g); left = further g };
+  taken_value = λ e. cc;
+}
+
+pub loop-from-smaller : goal.loop-from-smaller
+loop-from-smaller c =
+    let g = c.before.before.before.before.before.before in
+    omega (arith, within g, g.list_some-g.ensures.taken_nonzero)
+
+pub loop-from-preserved : goal.loop-from-preserved
+loop-from-preserved c =
+    let g = c.before.before.before.before.before.before in
+    (omega (arith, within g), (further g, kept g))
+
+pub shape_of-out : goal.shape_of-out
+shape_of-out c = c.loop-from.invariant.1.1
+
+pub returns : goal.returns
+returns c = let inv = c.loop-from.invariant in record {
+  took = record { within = inv.0; left = inv.1.0 };
+  taken_value = λ e. omega arith;
+}

@@ -1,0 +1,21 @@
+-- `make_factor` meets its contract: no request for F(n) is refused (Delivered).
+use borrow.Author.Rules.{rules}
+use native.Mathlib.Omega.{arith}
+use Rattle.next_factor.proofs.Delivered.{told_small, made_is}
+use Rattle.next_factor.proofs.times.make_factor.Goals as goal
+
+pub overflow_add-result : goal.overflow_add-result
+overflow_add-result c =
+    let p = c.before.before.before in
+    record {
+      fits = omega (
+        arith,
+        told_small p.args.n p.requires.0 p.args.scratch.now p.requires.1 c.polynomial-made.ensures.value,
+      );
+    }
+
+pub returns : goal.returns
+returns c =
+    let p = c.before.before.before in
+    let made = c.polynomial-made in
+    made_is p.args.n p.requires.0 p.args.scratch.now p.requires.1 made.ensures.0 made.ensures.1

@@ -1,0 +1,61 @@
+-- `accumulate_of_repeated` meets its contract: where the growth stays within w no value passes it (bounded's Untested),
+-- and one pass makes what the step makes of all entries.
+use Prim.Native.Nat.{ℕ, ◌+◌, ◌*◌, ◌≤◌}
+use mathlib.Core.Path.{◌≡◌, refl, ◌∙◌, ap}
+use mathlib.Core.Bool.{false}
+use mathlib.Core.List.{List}
+use native.Mathlib.Omega.{arith}
+use borrow.Author.Rules.{rules}
+use lib.IntN.{ℤ}
+use Rattle.definitions.specs.Steps.{accumulate, entries, largest, step_over, step_list}
+use Rattle.step_laws.specs.Bound.{Bounded, growth}
+use Rattle.bounded_steps.proofs.Untested.{grown, under}
+use Rattle.outlined_steps.specs.Outlines.{outlined}
+use Rattle.outlined_steps.proofs.Outlining.{repeats_all, outlined-length, whole-step}
+use Rattle.outlined_steps.proofs.accumulate_of_repeated.Goals as goal
+use Rattle.outlined_steps.proofs.accumulate_of_repeated.Goals.{Start, Then-stays_within}
+
+-- the growth stays within w where the test held
+module _ (c : Then-stays_within) where
+  abbrev p : Start
+  p = c.before.before.before
+
+  abbrev all : List ℤ
+  all = outlined p.args.o p.args.a.now
+
+  abbrev most : ℕ
+  most = p.args.bound * c.times_added-times.result + p.args.bound
+
+  inside : most ≤ p.args.w
+  inside = c.stays_within.ensures c.if-stays_within.true
+
+  none : (w : ℕ) → most ≤ w → (step_over w accumulate p.args.d all ≡ false)
+      × Bounded most (entries (step_list accumulate p.args.d all))
+  none =
+      grown accumulate p.args.d p.args.bound p.pre.0.size all p.pre.0.bounded
+      (ap (λ n. growth accumulate p.args.d n p.args.bound) (outlined-length p.args.o p.args.a.now)
+      ∙ c.times_added-times.ensures.1 p.args.bound)
+
+pub overflow_mul-grown : goal.overflow_mul-grown
+overflow_mul-grown c = omega (arith, inside c, (p c).requires.0.good.1)
+
+pub overflow_add-grown : goal.overflow_add-grown
+overflow_add-grown c = omega (arith, inside c, (p c).requires.0.good.1)
+
+pub accumulate_repeated-requires : goal.accumulate_repeated-requires
+accumulate_repeated-requires c = let q = c.before in
+    let p = p q in record {
+      le_t = (p.pre.0.told.some, p.pre.3, omega arith);
+      a_value = rw (repeats_all p.args.o p.args.a.now p.pre.1)
+          (none q largest (omega (arith, inside q, p.pre.0.good.1))).0;
+    }
+
+pub returns-then-stays_within : goal.returns-then-stays_within
+returns-then-stays_within c =
+    let q = c.before.before.before in
+    let p = p q in
+    whole-step p.pre.0
+    (under p.args.w accumulate p.args.d p.args.bound (all q) (none q p.args.w (inside q))
+    (c.accumulate_repeated.ensures
+    ∙ ap (step_list accumulate p.args.d) (repeats_all p.args.o p.args.a.now p.pre.1)) (λ _. inside q))
+    refl

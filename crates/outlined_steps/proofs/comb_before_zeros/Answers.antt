@@ -1,0 +1,40 @@
+-- `comb_before_zeros` meets its contract: zeros are written as far as the comb reaches, and the step is taken on what
+-- is written (Outlining).
+use mathlib.Core.Path.{sym}
+use native.Mathlib.Omega.{arith}
+use Rattle.outlined_steps.proofs.Outlining.{part_length, part_bounded, reached}
+use borrow.Author.Rules.{rules}
+use Rattle.outlined_steps.proofs.comb_before_zeros.Goals as goal
+
+pub write_zeros-requires : goal.write_zeros-requires
+write_zeros-requires c =
+    let p = c.before.before in
+    (omega (arith, p.pre.0.told.room, c.smaller-to.ensures), omega (arith, c.smaller-to.ensures))
+
+pub slice_bounds-take_step-end : goal.slice_bounds-take_step-end
+slice_bounds-take_step-end c =
+    let q = c.before in
+    omega (arith, q.write_zeros.ensures.len, q.smaller-to.ensures)
+
+pub slice_bounds-take_step-end-2 : goal.slice_bounds-take_step-end-2
+slice_bounds-take_step-end-2 c =
+    let q = c.before.before in
+    let p = q.before.before.before in
+    sym (part_length p.pre.0 p.pre.1 p.pre.2 q.smaller-to.ensures
+    q.write_zeros.ensures)
+
+pub take_step-outcome-requires : goal.take_step-outcome-requires
+take_step-outcome-requires c =
+    let q = c.before.before in
+    let p = q.before.before.before in (
+      p.pre.0.size,
+      part_bounded p.pre.0 p.pre.1 p.pre.2 q.smaller-to.ensures q.write_zeros.ensures,
+      p.pre.0.good,
+    )
+
+pub returns : goal.returns
+returns c =
+    let q = c.before.before.before.before in
+    let p = q.before.before.before in
+    reached p.pre.0 p.pre.1 p.pre.2 q.smaller-to.ensures q.write_zeros.ensures
+    c.take_step-outcome.ensures

@@ -1,0 +1,14 @@
+-- `write_zeros` meets its contract: what is cleared was told to be zeros (Outlining).
+use mathlib.Core.Path.{◌∙◌, ap}
+use native.Mathlib.Omega.{arith}
+use borrow.Rule.Slice.PartMut.{mid_len}
+use Rattle.definitions.specs.Requests.{zeros}
+use Rattle.outlined_steps.proofs.Outlining.{zeros-told}
+use borrow.Author.Rules.{rules}
+use Rattle.outlined_steps.proofs.write_zeros.Goals as goal
+
+pub returns : goal.returns
+returns c =
+    let p = c.before.before.before in
+    zeros-told p.args.told p.args.to p.args.a.now c.clear.new.0 p.requires.0 p.requires.1
+    (c.clear.ensures ∙ ap zeros (mid_len p.args.told p.args.to p.args.a.now (omega arith)))

@@ -1,0 +1,57 @@
+-- `none_in_block`: where no sign has come together so far, no magnitude so far is above h.
+use Prim.Native.Nat.{◌+◌, ◌-◌, ◌≤◌}
+use mathlib.Core.Path.{subst}
+use native.Mathlib.Omega.{arith}
+use lib.ListN.{get_or}
+use lib.IntN.{ℤ, nat_abs}
+use Rattle.definitions.specs.Integers.{0ℤ}
+use Rattle.definitions.specs.Steps.{entries}
+use Rattle.step_laws.specs.Machine.{limit_fits}
+use Rattle.heights.specs.Above.{NoneAbove}
+use Rattle.heights.proofs.Looks.{none_more}
+use Rattle.entry_steps.specs.Passes.{addable}
+use Rattle.peaks.proofs.Gathers.{Unsigned, unsigned_test, unsigned_both, both_unsigned}
+use Rattle.peaks.proofs.Gathers.{difference_fits, sum_fits}
+use Rattle.peaks.proofs.none_in_block.Goals as goal
+use Rattle.peaks.proofs.none_in_block.Goals.{After-x-1, Start}
+
+pub overflow_cast-most : goal.overflow_cast-most
+overflow_cast-most c = limit_fits c.args.h (omega arith)
+
+pub loop-q-init : goal.loop-q-init
+loop-q-init c = (omega arith, λ _. record { low = λ k a b. omega arith })
+
+-- the entry that was read
+module _ (c : After-x-1) where
+  abbrev p : Start
+  p = c.before.before.before
+
+  abbrev x : ℤ
+  x = get_or p.args.coeffs.now (p.args.i + c.loop-q.q) 0ℤ
+
+  small : nat_abs x ≤ addable
+  unfolding entries
+  small = p.pre.2 (p.args.i + c.loop-q.q)
+
+pub overflow_sub-gathered : goal.overflow_sub-gathered
+overflow_sub-gathered c = difference_fits (p c).args.h (x c) (p c).requires.1 (small c)
+
+pub overflow_add-gathered : goal.overflow_add-gathered
+overflow_add-gathered c = sum_fits (p c).args.h (x c) (p c).requires.1 (small c)
+
+pub loop-q-preserved : goal.loop-q-preserved
+loop-q-preserved c = (
+  omega arith,
+  λ u.
+      let (others, above) = unsigned_both _ _ u in
+      let (before, below) = unsigned_both _ _ others in
+      subst (NoneAbove (p c).args.h (p c).args.coeffs.now (p c).args.i) (omega arith)
+      (none_more (c.loop-q.invariant.1 before)
+      (both_unsigned (p c).args.h (x c) (p c).requires.1 (small c) below above)),
+)
+
+pub returns : goal.returns
+returns c = λ e.
+    let q = c.loop-q in
+    let a = c.args in
+    subst (NoneAbove a.h a.coeffs.now a.i) (omega arith) (q.invariant.1 (unsigned_test q.gathered e))

@@ -1,0 +1,18 @@
+-- `coefficient`: what the number in the bytes stands for.
+use mathlib.Core.Path.{◌∙◌, ap}
+use borrow.Author.Rules.{rules}
+use Rattle.heights.proofs.Signs.{passed}
+use Rattle.widths.specs.Numbers.{signed_of}
+use Rattle.widths.proofs.Least.{width_bounds}
+use Rattle.record.proofs.bytes.coefficient.Goals as goal
+
+pub signed_of-requires : goal.signed_of-requires
+signed_of-requires c =
+    let start = c.before.before in
+    let b = width_bounds start.args.w start.requires.0 in
+    (b.0, b.1, c.get.ensures.1)
+
+pub returns : goal.returns
+returns c =
+    passed c.Signed-of.result c.Signed-of.type-inv ∙ c.Signed-of.ensures
+    ∙ ap (signed_of c.args.w) c.get.ensures.0

@@ -1,0 +1,22 @@
+-- `put_body`: what is left to store, stored from `at` on, gives the whole body stored from 10 on (Passes).
+use Prim.Native.Nat.{◌+◌, ◌-◌, ◌≤◌, zero-le}
+use mathlib.Core.Path.{◌≡◌, refl, sym, ◌∙◌, ap}
+use native.Mathlib.Omega.{arith}
+use lib.ListN.{length, get_or, drop}
+use lib.Seq.{sets}
+use lib.IntN.{pos, nat_abs}
+use Rattle.definitions.specs.Answer.{height_of}
+use Rattle.heights.proofs.Signs.{passed}
+use Rattle.heights.proofs.Looks.{height-left}
+use Rattle.widths.specs.Numbers.{body, top}
+use Rattle.record.proofs.Passes.{body-turn, body-none, body-left}
+use Rattle.record.proofs.bytes.put_body.Given as goal
+
+abbrev pub invariant-loop-i : goal.invariant-loop-i
+invariant-loop-i l = (sets l.bytes l.at (body l.w (drop l.i l.coeffs)) ≡ sets l.initial.bytes 10 (body l.w l.coeffs))
+    × (l.at + length (body l.w (drop l.i l.coeffs)) ≤ length l.bytes) × (height_of (drop l.i l.coeffs) ≤ top l.w)
+    × (length l.bytes ≡ length l.initial.bytes)
+    × (l.i ≤ length l.coeffs)
+
+abbrev pub decreases-loop-i : goal.decreases-loop-i
+decreases-loop-i l = length l.coeffs - l.i

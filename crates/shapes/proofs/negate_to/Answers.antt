@@ -1,0 +1,6 @@
+-- `negate_to` meets its contract, as `put_signed` does.
+use borrow.Author.Rules.{rules}
+use Rattle.shapes.proofs.negate_to.Goals as goal
+
+pub returns : goal.returns
+returns c = c.put_signed.ensures

@@ -1,0 +1,47 @@
+-- `division::divide_fours` meets its contract. The invariant: of whatever list the division got to `from`, it got to i.
+use Prim.Native.Nat.{◌-◌}
+use mathlib.Core.Path.{sym, ◌∙◌}
+use mathlib.Core.List.{List}
+use native.Mathlib.Omega.{arith}
+use lib.ListN.{length}
+use lib.IntN.{ℤ}
+use Rattle.spread_products.specs.Quotients.{DividedTo}
+use Rattle.spread_products.proofs.Dividing.{next_four}
+use Rattle.spread_products.proofs.division.divide_fours.Goals as goal
+use Rattle.spread_products.proofs.division.divide_fours.Goals.{At-loop-i}
+
+pub returns-then-m-lt4 : goal.returns-then-m-lt4
+returns-then-m-lt4 c = λ l p. p
+
+pub loop-i-init : goal.loop-i-init
+loop-i-init c = λ l p. p
+
+-- of the list that the contract knows
+known : (c : At-loop-i)
+    → DividedTo c.args.m c.requires.1.before c.loop-i.a c.loop-i.i
+known c = c.loop-i.invariant c.requires.1.before c.requires.1.done
+
+pub overflow_add-i : goal.overflow_add-i
+overflow_add-i c = omega (arith, (known c).most, (known c).split.len)
+
+pub divide_four-requires : goal.divide_four-requires
+divide_four-requires c =
+    let k = known c.before.before in
+    (k.reach (omega (arith, k.split.len)), omega arith)
+
+pub overflow_add-i-in-loop-i : goal.overflow_add-i-in-loop-i
+overflow_add-i-in-loop-i c = omega (arith, (known c.before.before.before.before).split.len)
+
+pub loop-i-preserved : goal.loop-i-preserved
+loop-i-preserved c =
+    λ l p.
+    let s = c.before.before.before.before in
+    let d = s.loop-i.invariant l p in
+    next_four _ s.requires.0 l d (omega arith) (omega (arith, d.split.len))
+    c.divide_four.ensures
+
+pub shape_of-a : goal.shape_of-a
+shape_of-a c = (known c.before).split.len ∙ sym c.requires.1.done.split.len
+
+pub returns : goal.returns
+returns c = c.loop-i.invariant

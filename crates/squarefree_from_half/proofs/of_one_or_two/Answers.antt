@@ -1,0 +1,19 @@
+-- `of_one_or_two` meets its contract: the first and the last coefficient are all (Even).
+use Prim.Native.Nat.{◌-◌}
+use mathlib.Core.Path.{◌∙◌, ap}
+use native.Mathlib.Omega.{arith}
+use lib.ListN.{length-set}
+use Rattle.squarefree_from_half.proofs.Even.{tiny-whole, first-seen}
+use borrow.Author.Rules.{rules}
+use Rattle.squarefree_from_half.proofs.of_one_or_two.Goals as goal
+
+pub slice_set_of-a : goal.slice_set_of-a
+slice_set_of-a c =
+    omega (arith, length-set c.args.a.now 0 (Rattle.step_laws.specs.Machine.seen c.first_of-first.result))
+
+pub returns : goal.returns
+returns c =
+    let p = c.before in
+    tiny-whole p.args.kind p.args.even p.args.a.now _ p.requires.1
+    (ap Rattle.step_laws.specs.Machine.seen c.first_of-first.ensures
+    ∙ first-seen p.args.kind p.args.even p.requires.0)

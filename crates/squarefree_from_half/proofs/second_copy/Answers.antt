@@ -1,0 +1,35 @@
+-- `second_copy` meets its contract: zeros up to r, and the second copy (Growing).
+use Prim.Native.Nat.{◌-◌}
+use mathlib.Core.Path.{◌∙◌, ap}
+use native.Mathlib.Omega.{arith}
+use borrow.Rule.Slice.PartMut.{mid_len}
+use Rattle.definitions.specs.Requests.{zeros}
+use Rattle.squarefree_from_half.proofs.Growing.{top_below, cleared_length, cleared_inside, second-done}
+use borrow.Author.Rules.{rules}
+use Rattle.squarefree_from_half.proofs.second_copy.Goals as goal
+
+pub slice_bounds-clear-count : goal.slice_bounds-clear-count
+slice_bounds-clear-count c = top_below c.args.r c.args.top c.args.a.now c.requires
+
+pub negated_copy-requires : goal.negated_copy-requires
+negated_copy-requires c =
+    let p = c.before.before.before.before in
+    let b = top_below p.args.r p.args.top p.args.a.now p.requires in
+    let z = c.clear.ensures
+    ∙ ap zeros (mid_len p.args.top p.args.r p.args.a.now (omega (arith, p.requires.len))) in
+    let n = cleared_length p.args.r p.args.top p.args.a.now p.requires
+    c.clear.new.0 z in (
+      cleared_inside p.args.r p.args.top p.args.a.now p.requires c.clear.new.0 z,
+      p.requires.squarefree.pos,
+      omega (arith, n, p.requires.len),
+      omega (arith, n, p.requires.len),
+    )
+
+pub returns : goal.returns
+returns c =
+    let q = c.before.before.before.before in
+    let p = q.before.before in
+    let z = q.clear.ensures
+    ∙ ap zeros (mid_len p.args.top p.args.r p.args.a.now (omega (arith, p.requires.len))) in
+    second-done p.args.r p.args.top p.args.a.now p.requires q.clear.new.0 z _
+    c.negated_copy.ensures

@@ -1,0 +1,45 @@
+-- `without_steps` meets its contract: F(1), F(2), I(1) or I(2) in the first entries, and z^t for z (`LaidOut`).
+use Prim.Native.Nat.{◌%◌}
+use mathlib.Core.Path.{◌≡◌, sym}
+use mathlib.Core.Bool.{cond}
+use native.Mathlib.Omega.{arith}
+use lib.Dec.{eqb}
+use Rattle.definitions.specs.Numbers.{m_of}
+use Rattle.whole_from_half.proofs.Laying.{LaidOut, laid_out, tiny_m}
+use borrow.Author.Rules.{rules}
+use Rattle.whole_from_half.proofs.without_steps.Goals as goal
+use Rattle.whole_from_half.proofs.without_steps.Goals.{After-degree_from-top, Start}
+
+module _ (q : After-degree_from-top) where
+  abbrev start : Start
+  start = q.before
+
+  out : LaidOut start.args.kind start.args.n start.args.parts start.args.b.now q.degree_from-top.result
+  out = laid_out _ _ _ _ start.pre.0 _ q.degree_from-top.ensures
+
+  parity : cond (eqb (start.args.n % 2) 0) 2 1 ≡ m_of start.args.n
+  parity = tiny_m _ _ _ _ start.pre.0 start.pre.1
+
+pub overflow_add-size : goal.overflow_add-size
+overflow_add-size c = omega (arith, (out c).top-room)
+
+pub slice_bounds-of_one_or_two-end : goal.slice_bounds-of_one_or_two-end
+slice_bounds-of_one_or_two-end c = (out c).top-room
+
+pub slice_bounds-of_one_or_two-end-2 : goal.slice_bounds-of_one_or_two-end-2
+slice_bounds-of_one_or_two-end-2 c = sym (out c.before).part_length
+
+pub of_one_or_two-requires : goal.of_one_or_two-requires
+of_one_or_two-requires c =
+    let q = c.before in ((start q).requires.0.known, (out q).part_of-m (parity q))
+
+pub spread_by-requires : goal.spread_by-requires
+spread_by-requires c =
+    let q = c.before.before.before.before in
+    ((out q).t_pos, (out q).spaced-length (parity q) _ c.of_one_or_two.ensures)
+
+pub returns : goal.returns
+returns c =
+    let q = c.before.before.before.before.before.before in
+    (out q).spaced (parity q) _ c.of_one_or_two.ensures _
+    c.spread_by.ensures

@@ -1,0 +1,23 @@
+-- `lesser_top`: each arm's number is computed, and the last is that of the only width left.
+use Rattle.widths.specs.Numbers.{top}
+use Rattle.widths.specs.Classes.{lesser}
+use Rattle.widths.proofs.Least.{width_last}
+use Rattle.widths.proofs.lesser_top.Goals as goal
+
+pub returns-in-1 : goal.returns-in-1
+unfolding lesser top
+returns-in-1 c = rw c.in-1.keys1
+
+pub returns-in-2 : goal.returns-in-2
+unfolding lesser top
+returns-in-2 c = rw c.in-2.keys2
+
+pub returns-in-4 : goal.returns-in-4
+unfolding lesser top
+returns-in-4 c = rw c.in-4.keys3
+
+pub returns-in_default : goal.returns-in_default
+unfolding lesser top
+returns-in_default c =
+    let r = c.in_default.rest in
+    rw (width_last c.args.w c.requires r.0.0.1 r.0.1 r.1)

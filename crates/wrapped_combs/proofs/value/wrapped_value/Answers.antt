@@ -1,0 +1,20 @@
+-- `wrapped_combs::value::wrapped_value` meets its contract, by sort; both numbers fit, so they are as they were read.
+use mathlib.Core.Path.{◌∙◌, ap}
+use Rattle.definitions.specs.Integers.{◌⊕◌, ◌⊝◌}
+use Rattle.step_laws.specs.Machine.{seen_both, handed}
+use Rattle.wrapped_sums.specs.Wrapped.{wrap}
+use Rattle.wrapped_sums.specs.Residues.{wrap_fits}
+use borrow.Author.Rules.{rules}
+use Rattle.wrapped_combs.proofs.value.wrapped_value.Goals as goal
+
+pub returns-in-Comb : goal.returns-in-Comb
+returns-in-Comb c =
+    let q = c.before.before.before in
+    rw c.enum_told-1.given.1
+    (handed (wrap_fits _) (c.minus.ensures ∙ ap wrap (seen_both q.ranges.x q.ranges.y ◌⊝◌)))
+
+pub returns-in-Accumulate : goal.returns-in-Accumulate
+returns-in-Accumulate c =
+    let q = c.before.before.before in
+    rw c.enum_told-in-Accumulate-1.given.1
+    (handed (wrap_fits _) (c.plus.ensures ∙ ap wrap (seen_both q.ranges.x q.ranges.y ◌⊕◌)))

@@ -1,0 +1,8 @@
+-- `wrapped_steps::up::accumulate` meets its contract: most places, and then the rest one by one.
+use borrow.Author.Rules.{rules}
+use Rattle.wrapped_steps.proofs.up.accumulate.Goals as goal
+
+pub returns : goal.returns
+returns c =
+    let t = c.before.before.before.before in
+    c.ones_up.ensures t.args.a.now t.most_up-t.ensures

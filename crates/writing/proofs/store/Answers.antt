@@ -1,0 +1,77 @@
+-- `store`: the header and then the body of what is stored are the record (Writing).
+use Prim.Native.Nat.{ℕ, ◌*◌}
+use mathlib.Core.Path.{◌≡◌, sym, ap, ◌∙◌}
+use native.Mathlib.Omega.{arith}
+use borrow.Author.Rules.{rules}
+use lib.ListN.{length, take}
+use lib.Seq.{sets, length-take-le}
+use Rattle.record.specs.Header.{header_of}
+use Rattle.record.proofs.Passes.{length-body}
+use Rattle.widths.proofs.Least.{width_fits}
+use Rattle.forms.proofs.Writing.{size-made, record_made, height-take}
+use Rattle.writing.proofs.store.Goals as goal
+use Rattle.writing.proofs.store.Goals.{After-put_header, After-stored_of-k, Start}
+
+-- the function's start, from the places past the number of what is stored and past the header
+abbrev from : After-stored_of-k → Start
+from c = c.before.before
+
+abbrev stored_at : After-put_header → After-stored_of-k
+stored_at c = c.before.before.before
+
+pub overflow_cast-w : goal.overflow_cast-w
+overflow_cast-w c =
+    let start = from c.before.before in
+    omega (arith, (width_fits start.args.coeffs.now start.args.w start.pre.1 start.pre.2).high)
+
+pub put_header-requires : goal.put_header-requires
+put_header-requires c =
+    let stored = c.before.before in
+    let start = from stored in
+    omega (
+      arith,
+      size-made start.args.form start.args.coeffs.now _ _ start.pre.1 stored.Stored-of.ensures.0,
+      start.pre.4,
+    )
+
+-- what is stored is a part of all
+cut : (c : After-stored_of-k) → length (take c.Stored-of.result (from c).args.coeffs.now)
+    ≡ c.Stored-of.result
+cut c = length-take-le c.Stored-of.result (from c).args.coeffs.now c.Stored-of.ensures.1
+
+pub slice_bounds-put_body-end : goal.slice_bounds-put_body-end
+slice_bounds-put_body-end c = sym (cut (stored_at c.before.before.before))
+
+pub put_body-requires : goal.put_body-requires
+put_body-requires c =
+    let header = c.before.before.before.before in
+    let stored = stored_at header in
+    let start = from stored in
+    let cs = start.args.coeffs.now in
+    let w = start.args.w in
+    let k = stored.Stored-of.result in
+    let f = width_fits cs w start.pre.1 start.pre.2 in (
+      f.low,
+      f.high,
+      omega (arith, f.takes, height-take k cs),
+      omega (
+        arith,
+        length-body w (take k cs) ∙ ap (λ (n : ℕ). n * w) (cut stored),
+        size-made start.args.form cs w k start.pre.1 stored.Stored-of.ensures.0,
+        header.put_header.auto.0,
+        start.pre.4,
+      ),
+    )
+
+pub returns : goal.returns
+returns c =
+    let header = c.before.before.before.before.before.before.before in
+    let stored = stored_at header in
+    let start = from stored in
+    let a = start.args in
+    record_made a.form a.kind a.n a.w stored.Stored-of.result a.coeffs.now a.bytes-1.now _ _
+    start.pre.1 stored.Stored-of.ensures.0 start.pre.4
+    (header.put_header.ensures
+    ∙ ap (λ (m : ℕ). sets a.bytes-1.now 0 (header_of m a.kind a.w a.n (length a.coeffs.now)))
+    header.mark_of.ensures)
+    c.put_body.ensures

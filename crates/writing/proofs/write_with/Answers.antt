@@ -1,0 +1,152 @@
+-- `write_with`: each return by the tests that led there (Writing).
+use Prim.Native.Nat.{◌+◌, ◌*◌, ◌≤◌}
+use mathlib.Core.Path.{◌≡◌, sym, ◌∙◌, ap}
+use mathlib.Core.Bool.{false}
+use lib.ListN.{length}
+use borrow.Author.Tests.{ltb-false}
+use native.Mathlib.Omega.{arith}
+use borrow.Author.Rules.{rules}
+use Rattle.definitions.specs.Steps.{largest}
+use Rattle.definitions.specs.Polynomials.{degree}
+use Rattle.index.proofs.Laws.{index_good, told-right, told_small}
+use Rattle.widths.specs.Numbers.{width}
+use Rattle.record.specs.Header.{byte_of}
+use Rattle.widths.proofs.Least.{Fitting, width-none, width-made, width_fits}
+use Rattle.widths.proofs.Widths.{few, nonzero}
+use Rattle.record.proofs.Headers.{kind_small}
+use Rattle.forms.specs.Format.{size, uneven_for, write_tells}
+use Rattle.forms.proofs.Told.{told}
+use Rattle.forms.proofs.Writing.{count-wrong, too_low, halves_unlike, no_room, stored-whole, size-made}
+use Rattle.forms.proofs.Writing.{degree-told, all_told}
+use Rattle.writing.proofs.write_with.Goals as goal
+use Rattle.writing.proofs.write_with.Goals.{After-degree_of-degree, After-least_width-w, After-stored_of, Else-count-degree, Else-uneven_for, Else-w-eq0, Start}
+
+-- the function's start, from the places past the degree, the count and OVER
+abbrev from : After-degree_of-degree → Start
+from c = c.before.before
+
+abbrev from1 : Else-count-degree → Start
+from1 c = from c.before
+
+abbrev from2 : Else-w-eq0 → Start
+from2 c = from1 c.before.before.before
+
+-- past UNEVEN, and past the number of what is stored
+abbrev over_of : Else-uneven_for → Else-w-eq0
+over_of c = c.before.before
+
+abbrev from3 : After-stored_of → Start
+from3 c = from2 (over_of c.before)
+
+-- what is known there
+degree_is : (c : After-degree_of-degree) → c.degree_of-degree.result ≡ degree (from c).args.kind (from c).args.n
+degree_is c = told-right _ _ _ c.degree_of-degree.ensures (index_good _ (from c).requires.1).1
+
+low : (c : After-degree_of-degree) → c.degree_of-degree.result ≤ 65535
+low c = told_small (from c).args.kind (from c).args.n _ c.degree_of-degree.ensures
+
+counted : (c : Else-count-degree) → length (from1 c).args.coeffs.now ≡ degree (from1 c).args.kind (from1 c).args.n + 1
+counted c = c.if-count-degree.false ∙ ap (λ d. d + 1) (degree_is c.before)
+
+made : (c : After-least_width-w) → c.least_width-w.result ≡ width (from1 c.before.before).args.coeffs.now
+made c = width-made _ _ _ (ap (λ top. top.height) c.peak-top.ensures) c.least_width-w.ensures
+
+fit : (c : Else-w-eq0) → Fitting (from2 c).args.coeffs.now c.least_width-w.result
+fit c = width_fits _ _ (made c.before) (nonzero _ c.if-w-eq0.false)
+
+short : (c : Else-w-eq0) → length (from2 c).args.coeffs.now ≤ 65536
+short c =
+    let e = c.before.before.before in
+    omega (arith, e.if-count-degree.false, low e.before)
+
+whole : (c : After-stored_of) → 10 + c.Stored-of.result * (over_of c.before).least_width-w.result
+    ≡ size (from3 c).args.form (from3 c).args.coeffs.now
+whole c = size-made _ _ _ _ (made (over_of c.before).before) c.Stored-of.ensures.0
+
+small : (c : After-stored_of) → c.Stored-of.result * (over_of c.before).least_width-w.result ≤ 524288
+small c =
+    let over = over_of c.before in
+    few _ _ (omega (arith, c.Stored-of.ensures.1, short over)) (fit over).high
+
+pub overflow_add-degree : goal.overflow_add-degree
+overflow_add-degree c = omega (arith, low c)
+
+pub returns-then-count-degree : goal.returns-then-count-degree
+unfolding write_tells byte_of
+returns-then-count-degree c = let told =
+    let e = c.before.before in
+    let start = from e in
+    told c.refused.ensures (count-wrong start.args.form _ _ _ _ start.pre.0 start.pre.1
+    (λ m. c.if-count-degree.true (m ∙ ap (λ d. d + 1) (sym (degree_is e))))) in record { answer = told.0; leaves = told.1 }
+
+pub returns-then-w-eq0 : goal.returns-then-w-eq0
+unfolding write_tells byte_of
+returns-then-w-eq0 c = let told =
+    let looked = c.before.before in
+    let e = looked.before.before in
+    let start = from1 e in
+    told (c.refused-then-w-eq0.ensures ∙ degree-told _ _ _ (degree_is e.before))
+    (too_low start.args.form _ _ _ _ start.pre.0 start.pre.1 (counted e)
+    (width-none _ (sym (made looked) ∙ c.if-w-eq0.true))) in record { answer = told.0; leaves = told.1 }
+
+pub uneven_for-requires : goal.uneven_for-requires
+uneven_for-requires c = ltb-false largest _ (fit c).within
+
+pub returns-then-uneven_for : goal.returns-then-uneven_for
+unfolding write_tells byte_of
+returns-then-uneven_for c = let told =
+    let looked = c.before.before in
+    let over = looked.before in
+    let e = over.before.before.before in
+    let start = from1 e in
+    told c.refused-then-uneven_for.ensures
+    (halves_unlike start.args.form _ _ _ _ start.pre.0 start.pre.1 (counted e) (fit over).within
+    (sym looked.uneven_for.ensures ∙ c.if-uneven_for.true)) in record { answer = told.0; leaves = told.1 }
+
+pub stored_of-requires : goal.stored_of-requires
+stored_of-requires c = short (over_of c)
+
+pub overflow_mul-size : goal.overflow_mul-size
+overflow_mul-size c = omega (arith, small c)
+
+pub overflow_add-size : goal.overflow_add-size
+overflow_add-size c = omega (arith, small c)
+
+-- the halves match
+even : (c : After-stored_of) → uneven_for (from3 c).args.form (from3 c).args.kind (from3 c).args.n
+    (from3 c).args.coeffs.now ≡ false
+even c = sym c.uneven_for.ensures ∙ c.if-uneven_for.false
+
+pub returns-then-bytes-size : goal.returns-then-bytes-size
+unfolding write_tells byte_of
+returns-then-bytes-size c = let told =
+    let stored = c.before.before in
+    let over = over_of stored.before in
+    let e = over.before.before.before in
+    let start = from1 e in
+    told (c.refused-then-bytes-size.ensures ∙ degree-told _ _ _ (degree_is e.before))
+    (no_room start.args.form _ _ _ _ start.pre.0 start.pre.1 (counted e) (fit over).within (even stored)
+    (omega (arith, whole stored))) in record { answer = told.0; leaves = told.1 }
+
+pub store-requires : goal.store-requires
+store-requires c =
+    let stored = c.before.before in
+    let over = over_of stored.before in (
+      omega (arith, kind_small _ (from2 over).pre.0),
+      made over.before,
+      (fit over).low,
+      short over,
+      omega (arith, whole stored),
+    )
+
+pub returns : goal.returns
+returns c = let told =
+    let stored = c.before.before.before.before.before in
+    let over = over_of stored.before in
+    let e = over.before.before.before in
+    let start = from1 e in
+    let a = start.args in
+    let p = stored-whole a.form a.kind a.n a.coeffs.now a.bytes-1.now start.pre.0 start.pre.1
+    (counted e) (fit over).within (even stored) (omega (arith, whole stored)) in
+    told (all_told a.form _ _ _ _ _ (degree_is e.before) (whole stored))
+    (p.0, c.store.ensures ∙ p.1) in record { answer = told.0; leaves = told.1 }
