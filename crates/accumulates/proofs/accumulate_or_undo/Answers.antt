@@ -18,7 +18,7 @@ use Rattle.accumulates.proofs.accumulate_or_undo.Goals.{Else-stop-a, Start}
 pub returns-then-stop-a : goal.returns-then-stop-a
 returns-then-stop-a c =
     let t = c.take_second_row-stop in
-    let p = c.before.before.before.before.before in
+    let p = c in
     all_tested p.requires.0 (omega arith)
     (settled refl (omega (arith, t.ensures.tested.taken.len)) t.ensures).tested
 
@@ -31,11 +31,11 @@ module _ (c : Else-stop-a) where
   stop = c.take_second_row-stop.result
 
   abbrev left : List ℤ
-  left = c.take_second_row-stop.new.1.1.0
+  left = c.take_second_row-stop.new.a
 
   found : Stopped p.args.d 0 p.args.d stop p.args.a.now left
   found =
-      stopped p.pre.0 (none-tested p.args.w p.args.d p.args.a.now) (omega arith)
+      stopped p.requires.0 (none-tested p.args.w p.args.d p.args.a.now) (omega arith)
       c.take_second_row-stop.ensures.tested
 
 pub undo-requires : goal.undo-requires

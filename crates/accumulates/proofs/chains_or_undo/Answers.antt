@@ -14,17 +14,14 @@ use Rattle.accumulates.proofs.TestedPass.{none-tested, asked_still, tested-after
 use Rattle.accumulates.proofs.chains_or_undo.Goals as goal
 use Rattle.accumulates.proofs.chains_or_undo.Goals.{Then-stop-a}
 
-pub smaller-to-requires : goal.smaller-to-requires
-smaller-to-requires c = tt
-
 pub loop-c-init : goal.loop-c-init
 loop-c-init c = let p = c.args in (omega arith, none-tested p.w p.d p.a-1.now)
 
 pub take_next-stop-requires : goal.take_next-stop-requires
 take_next-stop-requires c =
     let w = c.next_width-g.ensures in
-    let g = c.before.before.before in
-    let n = g.before in
+    let g = c in
+    let n = c in
     let p = n.requires in
     let t = g.loop-c.invariant.1 in (
       record {
@@ -44,9 +41,9 @@ put_back : (c : Then-stop-a)
     (c.loop-c.c + c.next_width-g.result)
     c.take_next-stop.result
     c.args.a.now
-    c.take_next-stop.new.1.1.0
+    c.take_next-stop.new.a
 put_back c =
-    let g = c.before.before.before.before.before.before in
+    let g = c in
     stopped g.requires.0 g.loop-c.invariant.1 (omega arith) c.take_next-stop.ensures.tested
 
 pub overflow_add-c : goal.overflow_add-c
@@ -57,8 +54,8 @@ pub undo-requires : goal.undo-requires
 undo-requires c =
     let w = c.next_width-g.ensures in
     let at = c.take_next-stop.ensures in
-    let n = c.before.before.before.before.before.before.before.before in
-    let p = n.before in (
+    let n = c in
+    let p = c in (
       p.requires.0,
       omega arith,
       omega (arith, w.1, n.smaller-to.ensures),
@@ -69,7 +66,7 @@ undo-requires c =
 
 pub shape_of-a-then-stop-a : goal.shape_of-a-then-stop-a
 shape_of-a-then-stop-a c =
-    let g = c.before.before.before.before.before.before.before.before.before in
+    let g = c in
     omega (arith, g.loop-c.invariant.1.taken.len)
 
 pub returns-then-stop-a : goal.returns-then-stop-a
@@ -77,8 +74,8 @@ unfolding stepped
 returns-then-stop-a c =
     let i = c.before.before.before in
     let t = i.take_next-stop in
-    let g = i.before.before.before.before.before.before in
-    let p = g.before.before in
+    let g = c in
+    let p = c in
     let q = g.loop-c.invariant.1 in
     let at = t.ensures in
     let short : t.result < length g.loop-c.a = omega arith in
@@ -97,7 +94,7 @@ loop-c-smaller c = let w = c.next_width-g.ensures in omega (arith, w.0, w.1)
 pub loop-c-preserved : goal.loop-c-preserved
 loop-c-preserved c =
     let t = c.take_next-stop in
-    let g = c.before.before.before.before.before.before in (
+    let g = c in (
       omega (arith, c.next_width-g.ensures.1),
       tested-after g.requires.0 g.loop-c.invariant.1 (omega arith)
           (settled refl (omega (arith, t.ensures.most)) t.ensures).tested,
@@ -108,7 +105,7 @@ shape_of-a c = c.loop-c.invariant.1.taken.len
 
 pub returns : goal.returns
 returns c =
-    let n = c.before.before in
-    let p = n.before in
+    let n = c in
+    let p = c in
     let i = c.loop-c.invariant in
     all_tested p.requires.0 (omega (arith, n.smaller-to.ensures)) i.1

@@ -9,7 +9,7 @@ use Rattle.answer_lines.proofs.put_three.Goals as goal
 
 pub returns : goal.returns
 unfolding spaced
-returns c = let s = c.before.before.before.before.before.before.before.before.before.before.before.before.before in
+returns c = let s = c in
     let two = then c.put_item-q.ensures.puts
     c.put_item.ensures.puts in record {
       puts = rw (

@@ -5,5 +5,5 @@ use Rattle.bonvedrick.proofs.bv_cascade.Goals as goal
 
 pub returns : goal.returns
 returns c = let told =
-    let p = c.before.before.before.before.before.before in
+    let p = c in
     rw (to_z-of_z p.ranges.h) at c.cascade.ensures in record { answer = told.0; leaves = told.1; scratches = told.2 }

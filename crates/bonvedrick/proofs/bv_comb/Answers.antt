@@ -8,6 +8,6 @@ use Rattle.bonvedrick.proofs.bv_comb.Goals as goal
 
 pub returns : goal.returns
 returns c = let told =
-    let p = c.before.before.before in
+    let p = c in
     asked_as_seen comb p.args.size p.args.buf.now (to_z-of_z p.ranges.w)
     c.apply.ensures in record { code = told.0; count = told.1; leaves = told.2 }

@@ -9,7 +9,7 @@ use borrow.Author.Rules.{rules}
 use Rattle.bonvedrick.proofs.bv_partial.Goals as goal
 
 pub returns : goal.returns
-returns c = let p = c.before.before.before in
+returns c = let p = c in
     let a = p.args in
     let told = c.partial.ensures in
     let w = to_z-of_z p.ranges.w in record {

@@ -9,7 +9,7 @@ use borrow.Author.Rules.{rules}
 use Rattle.bonvedrick.proofs.bv_polynomial.Goals as goal
 
 pub returns : goal.returns
-returns c = let p = c.before.before.before in
+returns c = let p = c in
     let a = p.args in
     let told = c.polynomial.ensures in
     let h = to_z-of_z p.ranges.h in

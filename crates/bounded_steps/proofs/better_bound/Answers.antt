@@ -15,6 +15,6 @@ returns-then-stays_within c = (c.requires.1, le_refl _)
 
 pub returns : goal.returns
 returns c =
-    let p = c.before.before.before.before.before.before.before in
+    let p = c in
     let e = c.smaller.ensures in
     (λ k. omega (arith, e, p.requires.1 k, c.look.ensures k), omega (arith, e))

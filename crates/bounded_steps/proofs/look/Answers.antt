@@ -17,9 +17,6 @@ use Rattle.bounded_steps.proofs.look.Goals as goal
 pub loop-i-init : goal.loop-i-init
 loop-i-init c = (omega arith, λ k h. absurd (not-suc-le-zero h))
 
-pub magnitude-all-requires : goal.magnitude-all-requires
-magnitude-all-requires c = tt
-
 -- one more is upon the others
 and_this : (l : List ℤ) (i all m : ℕ) → ((k : ℕ) → k < i → nat_abs (get_or l k 0ℤ) ≤ all) → m ≡ nat_abs (get_or l i 0ℤ)
     → (k : ℕ) → k < i + 1 → nat_abs (get_or l k 0ℤ) ≤ bit_or all m
@@ -31,7 +28,7 @@ and_this l i all m others this k h =
 
 pub loop-i-preserved : goal.loop-i-preserved
 loop-i-preserved c =
-    let at = c.before.before.before in
+    let at = c in
     let l = at.args.a.now in (
       omega arith,
       and_this l at.loop-i.i at.loop-i.all c.magnitude-all.result at.loop-i.invariant.1

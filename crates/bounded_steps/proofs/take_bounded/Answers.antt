@@ -15,7 +15,7 @@ use Rattle.bounded_steps.proofs.take_bounded.Goals.{Start, Then-stays_within}
 
 pub returns-then-n-d : goal.returns-then-n-d
 returns-then-n-d c =
-    let p = c.before in
+    let p = c in
     long p.args.w (sort_means p.args.sort) p.args.d p.args.bound p.args.a.now c.if-n-d.true
     p.requires.1
 
@@ -34,8 +34,8 @@ module _ (c : Then-stays_within) where
       × Bounded (start.args.bound * times + start.args.bound)
       (entries (step_list (sort_means start.args.sort) start.args.d start.args.a.now))
   none =
-      grown (sort_means start.args.sort) start.args.d start.args.bound start.pre.0 start.args.a.now
-      start.pre.1 (c.times_added-times.ensures.1 start.args.bound) start.args.w most
+      grown (sort_means start.args.sort) start.args.d start.args.bound start.requires.0 start.args.a.now
+      start.requires.1 (c.times_added-times.ensures.1 start.args.bound) start.args.w most
 
 pub overflow_mul-grown : goal.overflow_mul-grown
 overflow_mul-grown c = omega (arith, most c, (start c).requires.2.1)
@@ -47,7 +47,7 @@ pub step_or_undo-requires : goal.step_or_undo-requires
 step_or_undo-requires c =
     let q = c.before in
     let p = start q in
-    (p.pre.0, omega arith, p.pre.2, (none q).0)
+    (p.requires.0, omega arith, p.requires.2, (none q).0)
 
 pub returns-then-stays_within : goal.returns-then-stays_within
 returns-then-stays_within c =
@@ -57,12 +57,12 @@ returns-then-stays_within c =
     (none q) (known c.step_or_undo.result c.step_or_undo.ensures (none q).0) (λ _. most q)
 
 pub take_narrow-requires : goal.take_narrow-requires
-take_narrow-requires c = let p = c.before.before.before.before.before.before in record {
+take_narrow-requires c = let p = c in record {
   le_d = (p.requires.0, omega arith, p.requires.1, p.requires.2);
   bound_le_addable = c.if-bound-le-ADDABLE.true;
 }
 
 pub take_wide-requires : goal.take_wide-requires
 take_wide-requires c =
-    let p = c.before.before.before.before.before.before in
+    let p = c in
     (p.requires.0, omega arith, p.requires.1, p.requires.2)

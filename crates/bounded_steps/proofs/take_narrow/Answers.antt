@@ -12,7 +12,7 @@ use Rattle.bounded_steps.proofs.take_narrow.Goals.{Else-w-le-ADDABLE, Start}
 
 pub step_or_undo-requires : goal.step_or_undo-requires
 step_or_undo-requires c =
-    let q = c.before in
+    let q = c in
     let p = q.requires in
     let e = q.smaller-most.ensures in (
       p.le_d.0,
@@ -23,22 +23,22 @@ step_or_undo-requires c =
 
 pub returns-then-step_or_undo : goal.returns-then-step_or_undo
 returns-then-step_or_undo c =
-    let q = c.before.before.before in
-    let n = q.before.before in
+    let q = c in
+    let n = c in
     rw c.larger.ensures
     (done q.step_or_undo.ensures c.if-step_or_undo.true (omega (arith, n.smaller-most.ensures))
     n.requires.le_d.2)
 
 pub returns-then-w-le-ADDABLE : goal.returns-then-w-le-ADDABLE
 returns-then-w-le-ADDABLE c =
-    let q = c.before.before.before in
-    let n = q.before.before in
-    let p = n.before in
+    let q = c in
+    let n = c in
+    let p = c in
     let e : n.smaller-most.result ≡ p.args.w = omega (arith, n.smaller-most.ensures, c.if-w-le-ADDABLE.true) in
     undone
     (subst
     (λ x. SteppedOrUndone x (sort_means p.args.sort) p.args.d p.args.a.now
-    q.step_or_undo.new.1.1.1.0
+    q.step_or_undo.new.a
     q.step_or_undo.result) e q.step_or_undo.ensures)
     c.if-step_or_undo.false (λ h. h)
 
@@ -47,12 +47,12 @@ module _ (c : Else-w-le-ADDABLE) where
   abbrev start : Start
   start = c.before.before.before.before.before.before
 
-  again : c.step_or_undo.new.1.1.1.0 ≡ start.args.a.now
+  again : c.step_or_undo.new.a ≡ start.args.a.now
   again = back c.step_or_undo.ensures c.if-step_or_undo.false
 
 pub take_wide-requires : goal.take_wide-requires
 take_wide-requires c =
-    rw (again c.before) (start c.before).pre.0
+    rw (again c.before) (start c.before).requires.le_d
 
 pub returns : goal.returns
 returns c = rw (again c.before.before.before) at c.take_wide.ensures

@@ -10,6 +10,6 @@ step_or_undo-done-requires c =
 
 pub returns : goal.returns
 returns c =
-    let p = c.before.before.before.before in
+    let p = c in
     rw c.larger.ensures
     (either c.step_or_undo-done.result c.step_or_undo-done.ensures p.requires.2)

@@ -5,12 +5,12 @@ use Rattle.browsing.proofs.numbers_of.Goals as goal
 
 pub returns-in-Record : goal.returns-in-Record
 unfolding told
-returns-in-Record c = rw (c.shown-1.given.1, c.between.ensures)
+returns-in-Record c = rw (c.in-Record.is, c.between.ensures)
 
 pub returns-in-Refused : goal.returns-in-Refused
 unfolding told
-returns-in-Refused c = rw c.shown-in-Refused-1.given.1 c.without_record.ensures
+returns-in-Refused c = rw c.in-Refused.is c.without_record.ensures
 
 pub returns-in-End : goal.returns-in-End
 unfolding told
-returns-in-End c = rw c.shown-in-End-1.given.1 c.without_record-in-End.ensures
+returns-in-End c = rw c.in-End.is c.without_record-in-End.ensures

@@ -5,12 +5,12 @@ use Rattle.browsing.proofs.place_after.Goals as goal
 
 pub returns-in-Record : goal.returns-in-Record
 unfolding place_after
-returns-in-Record c = rw c.shown-1.given.1
+returns-in-Record c = rw c.in-Record.is
 
 pub returns-in-Refused : goal.returns-in-Refused
 unfolding place_after
-returns-in-Refused c = rw c.shown-in-Refused-1.given.1
+returns-in-Refused c = rw c.in-Refused.is
 
 pub returns-in-End : goal.returns-in-End
 unfolding place_after
-returns-in-End c = rw c.shown-in-End-1.given.1
+returns-in-End c = rw c.in-End.is

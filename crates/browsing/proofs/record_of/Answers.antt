@@ -22,7 +22,7 @@ size_in-requires c = header_looked _ c.requires.0
 
 pub overflow_add-result : goal.overflow_add-result
 overflow_add-result c =
-    let start = c.before.before in
+    let start = c in
     omega (arith, c.size_in.ensures, size_looked start.args.bytes.now start.requires.0)
 
 pub kind_in-requires : goal.kind_in-requires

@@ -13,12 +13,12 @@ returns-then-shelf-at c = sym (shown_end _ _ c.if-shelf-at.true)
 
 pub returns-then-code-ne-DONE : goal.returns-then-code-ne-DONE
 returns-then-code-ne-DONE c =
-    let start = c.before.before.before.before.before in
+    let start = c in
     sym (shown_refused start.args.shelf.now start.args.at (omega arith) _
     (c.look-code.ensures ∙ ap look_code (tail start.args.shelf.now start.args.at)) c.if-code-ne-DONE.true)
 
 pub returns : goal.returns
 returns c =
-    let start = c.before.before.before.before.before.before in
+    let start = c in
     c.record_of.ensures ∙ ap (shown_of start.args.at) (tail start.args.shelf.now start.args.at)
     ∙ sym (shown_in start.args.shelf.now start.args.at (omega arith))

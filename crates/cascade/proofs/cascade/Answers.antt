@@ -46,7 +46,7 @@ module _ (e : Else-sizes-gt65535) where
 
 pub returns-then-indices-eq0 : goal.returns-then-indices-eq0
 returns-then-indices-eq0 c = let told =
-    let p = c.before.before.before in
+    let p = c in
     at_list _ _ p.args.buf.now p.args.scratch.now c.refused.ensures
     (ask_list _ _ _ _
     (ap (λ x. x || ltb 8 (length p.args.indices.now))
@@ -54,7 +54,7 @@ returns-then-indices-eq0 c = let told =
 
 pub returns-then-indices-gt8 : goal.returns-then-indices-gt8
 returns-then-indices-gt8 c = let told =
-    let p = c.before.before.before.before in
+    let p = c in
     at_list _ _ p.args.buf.now p.args.scratch.now c.refused-then-indices-gt8.ensures
     (ask_list _ _ _ _
     (ap (λ x. eqb (length p.args.indices.now) 0 || x)
@@ -66,7 +66,7 @@ returns-then-not-sizes c = let told =
     let s = c.before.before.before in
     let p = start s in
     at_index _ _ p.args.buf.now p.args.scratch.now c.refused-then-not-sizes.ensures
-    (ask_index _ _ _ _ (few s) (sym s.sizes_of-sizes.ensures.good ∙ not-true _ c.if-not-sizes.true)) in record { value = told.0; buf_after = told.1; scratch_after = told.2 }
+    (ask_index _ _ _ _ (few s) (sym s.sizes_of-sizes.ensures.good ∙ c.if-not-sizes.true)) in record { value = told.0; buf_after = told.1; scratch_after = told.2 }
 
 pub returns-then-sizes-gt65535 : goal.returns-then-sizes-gt65535
 returns-then-sizes-gt65535 c = let told =
@@ -84,12 +84,12 @@ returns-then-h-lt1 c = let told =
     let s = sized e in
     let p = start s in
     at_limit _ _ p.args.buf.now p.args.scratch.now c.refused-then-h-lt1.ensures
-    (ask_limit _ _ _ _ (few s) (all_good_lem e) (short f) (below_one_lem p.args.h p.fits.h c.if-h-lt1.true)) in record { value = told.0; buf_after = told.1; scratch_after = told.2 }
+    (ask_limit _ _ _ _ (few s) (all_good_lem e) (short f) (below_one_lem p.args.h p.ranges.h c.if-h-lt1.true)) in record { value = told.0; buf_after = told.1; scratch_after = told.2 }
 
 pub answer_in-requires : goal.answer_in-requires
 answer_in-requires c =
-    let g = c.before.before.before in
-    let f = g.before in
+    let g = c in
+    let f = c.before.before.before.before in
     let e = good_list f in
     let s = sized e in
     let p = start s in (
@@ -98,15 +98,15 @@ answer_in-requires c =
         few = few s;
         good = all_good_lem e;
         short = short f;
-        limit = (read_limit p.args.h p.fits.h (below_one_lem p.args.h p.fits.h g.if-h-lt1.false)
+        limit = (read_limit p.args.h p.ranges.h (below_one_lem p.args.h p.ranges.h g.if-h-lt1.false)
             c.magnitude.ensures).2.0;
       },
     )
 
 pub returns : goal.returns
 returns c = let told =
-    let g = c.before.before.before.before.before.before in
-    let p = start (sized (good_list g.before)) in
-    let h = read_limit p.args.h p.fits.h (below_one_lem p.args.h p.fits.h g.if-h-lt1.false)
+    let g = c in
+    let p = start (sized (good_list c.before.before.before.before.before.before.before)) in
+    let h = read_limit p.args.h p.ranges.h (below_one_lem p.args.h p.ranges.h g.if-h-lt1.false)
     c.magnitude.ensures in
     rw h.1 at c.answer_in.ensures in record { value = told.0; buf_after = told.1; scratch_after = told.2 }

@@ -16,10 +16,10 @@ read_more-got-requires c = c.loop-at.invariant.0
 
 -- a read keeps the buffer's length, and what it gave lies in there
 module _ (c : After-read_more-got) where
-  kept : length c.read_more-got.new.1.0 ≡ length c.args.input.now
+  kept : length c.read_more-got.new.buffer ≡ length c.args.input.now
   kept = c.read_more-got.auto.1.0 ∙ c.loop-at.invariant.1
 
-  within : c.loop-at.at ≤ length c.read_more-got.new.1.0
+  within : c.loop-at.at ≤ length c.read_more-got.new.buffer
   within = omega (arith, c.read_more-got.ensures.count_in_bounds)
 
 pub shape_of-input-then-n-eq0 : goal.shape_of-input-then-n-eq0
@@ -39,11 +39,8 @@ slice_bounds-has_newline-end c = c.read_more-got.ensures.count_in_bounds
 pub slice_bounds-has_newline-end-in-loop-at : goal.slice_bounds-has_newline-end-in-loop-at
 slice_bounds-has_newline-end-in-loop-at c = sym (length-take-le _ _ c.read_more-got.ensures.count_in_bounds)
 
-pub has_newline-requires : goal.has_newline-requires
-has_newline-requires c = tt
-
 pub shape_of-input-then-has_newline : goal.shape_of-input-then-has_newline
-shape_of-input-then-has_newline c = kept c.before.before.before.before.before.before
+shape_of-input-then-has_newline c = kept c.before.before.before.before.before
 
 pub returns-then-has_newline : goal.returns-then-has_newline
 returns-then-has_newline c =
@@ -52,12 +49,12 @@ returns-then-has_newline c =
 
 pub loop-at-smaller : goal.loop-at-smaller
 loop-at-smaller c =
-    let read = c.before.before.before.before.before.before in
+    let read = c in
     omega (arith, read.read_more-got.ensures.count_in_bounds, read.read_more-got.auto.1.0)
 
 pub loop-at-preserved : goal.loop-at-preserved
 loop-at-preserved c =
-    let read = c.before.before.before.before.before.before in
+    let read = c.before.before.before.before.before in
     (read.read_more-got.ensures.count_in_bounds, kept read)
 
 pub shape_of-input : goal.shape_of-input

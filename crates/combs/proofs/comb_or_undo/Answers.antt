@@ -23,7 +23,7 @@ comb-requires c = c.requires.1
 pub returns-then-test-eq-KNOWN : goal.returns-then-test-eq-KNOWN
 returns-then-test-eq-KNOWN c =
     let t = c.before.before.before in
-    let p = t.before in
+    let p = c in
     record {
       over = none t;
       leaves = c.comb.ensures
@@ -38,9 +38,9 @@ returns-then-t-d c =
 
 pub returns : goal.returns
 returns c =
-    let r = c.before.before.before in
+    let r = c in
     let t = r.take_tested-t in
-    let q = r.before.before.before.before.before in
+    let q = c in
     let p = t.ensures.0 in
     let short : q.args.d < t.result = omega arith in
     undone (t.result - 1) (omega arith) (omega arith) (t.ensures.1 short)

@@ -16,8 +16,8 @@ loop-t-init c = tested-start c.args.w c.args.d c.args.a.now c.requires.0
 
 pub step_entry_within-requires : goal.step_entry_within-requires
 step_entry_within-requires c =
-    let g = c.before.before in
-    let p = g.before in (
+    let g = c in
+    let p = c in (
       omega arith,
       omega arith,
       p.requires.1,
@@ -26,30 +26,30 @@ step_entry_within-requires c =
 
 -- the value is past w: the list is as it was
 refused : (c : Then-not-step_entry_within)
-    → c.step_entry_within.new.1.1.1.0 ≡ c.loop-t.a
+    → c.step_entry_within.new.a ≡ c.loop-t.a
 refused c =
-    let s = c.step_entry_within in rw (not-true s.result c.if-not-step_entry_within.true) at s.ensures.1
+    let s = c.step_entry_within in rw (c.if-not-step_entry_within.true) at s.ensures.1
 
 pub shape_of-a-then-not-step_entry_within : goal.shape_of-a-then-not-step_entry_within
 shape_of-a-then-not-step_entry_within c = ap length (refused c) ∙ c.loop-t.invariant.read.done.split.len
 
 pub returns-then-not-step_entry_within : goal.returns-then-not-step_entry_within
-returns-then-not-step_entry_within c = let g = c.before.before.before.before.before in record {
+returns-then-not-step_entry_within c = let g = c in record {
   tested_to = rw (refused c) g.loop-t.invariant;
   result_value = λ _.
       rw (
         ← new_is g.loop-t.invariant.read.done (g.loop-t.t - 1) (omega arith) (omega arith),
         ← c.step_entry_within.ensures.value.0,
       )
-      (not-true _ c.if-not-step_entry_within.true);
+      (c.if-not-step_entry_within.true);
 }
 
 -- it is within w: the step is taken there
 pub loop-t-preserved : goal.loop-t-preserved
 loop-t-preserved c =
-    let g = c.before.before.before.before.before in
+    let g = c in
     let s = c.step_entry_within in
-    let passed = not-false s.result c.if-not-step_entry_within.false in
+    let passed = c.if-not-step_entry_within.false in
     rw (s.ensures.1, passed)
     (tested-next g.loop-t.invariant _ (omega arith) (omega arith) (sym (rw passed at s.ensures.0.0))
     s.ensures.0.1)

@@ -34,7 +34,7 @@ loop-i-smaller c = omega (arith, (known c.before.before.before.before).done.spli
 
 pub loop-i-preserved : goal.loop-i-preserved
 loop-i-preserved c = λ l p.
-    let g = c.before.before.before.before in
+    let g = c in
     let q = g.loop-i.invariant l p in
     rw c.step_entry.ensures (read_back q g.requires.0 (omega arith))
 

@@ -15,14 +15,14 @@ use Rattle.counting.proofs.census.Goals.{Else-not-good_range}
 
 pub returns-then-not-good_range : goal.returns-then-not-good_range
 returns-then-not-good_range c = let told =
-    let q = c.before.before in
+    let q = c in
     let r = out_of_range _ _ _ q.args.work.now
-    (sym q.good_range.ensures ∙ not-true _ c.if-not-good_range.true) in
+    (sym q.good_range.ensures ∙ c.if-not-good_range.true) in
     (c.refused.ensures ∙ sym r.0, (sym r.1, sym r.2)) in record { answer = told.0; leaves = told.1; clears = told.2 }
 
 -- the bounds are good
 good : (e : Else-not-good_range) → good_range e.args.a e.args.b ≡ true
-good e = sym e.good_range.ensures ∙ not-false _ e.if-not-good_range.false
+good e = sym e.good_range.ensures ∙ e.if-not-good_range.false
 
 pub returns-then-work-lt-USED : goal.returns-then-work-lt-USED
 returns-then-work-lt-USED c = let told =
@@ -42,8 +42,8 @@ census_in-requires c =
 
 pub returns : goal.returns
 returns c = let told =
-    let m = c.before.before.before in
-    let e = m.before.before.before.before in
+    let m = c in
+    let e = c.before.before.before.before.before.before.before in
     let a = e.args in
     let g = good e in
     let enough : 4096 ≤ length a.work-1.now = omega arith in (

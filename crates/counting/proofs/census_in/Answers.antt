@@ -16,64 +16,64 @@ use Rattle.counting.proofs.census_in.Goals.{After-fill-additions, After-lay_rows
 
 pub fill-additions-requires : goal.fill-additions-requires
 fill-additions-requires c =
-    let s = c.before.before in
+    let s = c in
     let g = range_good _ _ s.requires.0 in
     (g.0, g.1, g.2, omega (arith, g.2, s.requires.1))
 
 pub overflow_add-b : goal.overflow_add-b
 overflow_add-b c =
-    let s = c.before.before.before.before in
+    let s = c in
     record { fits = omega (arith, (range_good _ _ s.requires.0).2) }
 
 pub offset_bounds-work-a : goal.offset_bounds-work-a
 offset_bounds-work-a c =
-    let s = c.before.before.before.before in
+    let s = c in
     let g = range_good _ _ s.requires.0 in
     record { fits = omega (arith, g.1, g.2) }
 
 pub slice_bounds-lay_rows-count : goal.slice_bounds-lay_rows-count
 slice_bounds-lay_rows-count c =
-    let s = c.before.before.before.before in
+    let s = c in
     omega (arith, (range_good _ _ s.requires.0).1)
 
 pub lay_rows-laid-requires : goal.lay_rows-laid-requires
 lay_rows-laid-requires c =
-    let f = c.before.before.before.before in
-    let s = f.before.before.before in
+    let f = c in
+    let s = c in
     let g = range_good _ _ s.requires.0 in
     heights_are _ _ _ g.0 g.1 g.2 (f.fill-additions.ensures.work_len_unchanged.0 ∙ s.requires.1) f.fill-additions.ensures.work_len_unchanged.1
 
 -- the rows, as they were laid out
 module _ (y : After-lay_rows-laid) where
   abbrev filled : After-fill-additions
-  filled = y.before.before.before.before.before
+  filled = y.before.before.before.before
 
   abbrev start : Start
-  start = filled.before.before.before
+  start = y.before.before.before.before.before.before.before
 
-  laid : LaidIs (census start.args.a start.args.b) start.args.rows.now y.lay_rows-laid.last.1.1.0
+  laid : LaidIs (census start.args.a start.args.b) start.args.rows.now y.lay_rows-laid.new.rows
       y.lay_rows-laid.result
   laid =
-      let g = range_good _ _ start.pre.0 in
-      let e = rows_are start.args.a start.args.b filled.fill-additions.last.1.1.0 g.0 g.1 g.2
-      (filled.fill-additions.ensures.work_len_unchanged.0 ∙ start.pre.1) in
+      let g = range_good _ _ start.requires.0 in
+      let e = rows_are start.args.a start.args.b filled.fill-additions.new.work g.0 g.1 g.2
+      (filled.fill-additions.ensures.work_len_unchanged.0 ∙ start.requires.1) in
       rw e at y.lay_rows-laid.ensures
 
-  zeroed : zeros (length filled.fill-additions.last.1.1.0) ≡ zeros 4096
-  zeroed = ap zeros (filled.fill-additions.ensures.work_len_unchanged.0 ∙ start.pre.1)
+  zeroed : zeros (length filled.fill-additions.new.work) ≡ zeros 4096
+  zeroed = ap zeros (filled.fill-additions.ensures.work_len_unchanged.0 ∙ start.requires.1)
 
 pub returns-then-not-laid : goal.returns-then-not-laid
 returns-then-not-laid c = let told =
     let y = c.before.before.before.before.before.before.before.before in
     let l = laid y in
-    let r = not_fit _ _ (start y).requires.0 _ _ _ l (not-true _ c.if-not-laid.true) in
+    let r = not_fit _ _ (start y).requires.0 _ _ _ l (c.if-not-laid.true) in
     (c.refused.ensures ∙ sym r.0, (r.1, c.clear.ensures ∙ zeroed y)) in record { value = told.0; rows_after = told.1; work_after = told.2 }
 
 pub returns : goal.returns
 returns c = let told =
     let y = c.before.before.before.before.before.before.before in
     let l = laid y in
-    let r = fits_all _ _ (start y).requires.0 _ _ _ l (not-false _ c.if-not-laid.false) in
+    let r = fits_all _ _ (start y).requires.0 _ _ _ l (c.if-not-laid.false) in
     let told = ap {B = Counted} (λ n. record { code = DONE; rows = y.lay_rows-laid.result.count; additions = n })
     (filled y).fill-additions.ensures.value in
     (told ∙ sym r.0, (r.1, c.clear.ensures ∙ zeroed y)) in record { value = told.0; rows_after = told.1; work_after = told.2 }

@@ -58,7 +58,7 @@ module _ (c : After-digit-y) where
       (c.digit-y.ensures ∙ ap (digit_of at.args.c) (handed y_fits c.read_entry-in-loop-j.ensures.0))
 
   next : SFits w64 p × SFits w64 (to_z w64 at.loop-j.s ⊕ p)
-  next = more_asks at.loop-j.inv.2 x_fits y_fits (omega (arith, at.before.pre.0.few, at.before.pre.1))
+  next = more_asks at.loop-j.inv.2 x_fits y_fits (omega (arith, at.requires.0.few, at.requires.1))
 
 pub add_product-s-requires : goal.add_product-s-requires
 add_product-s-requires c = rw (x-seen c, y-seen c) (next c)

@@ -44,7 +44,7 @@ module _ (c : After-digit_sum) where
   both_small = omega (arith, abs_⊕ (to_z w64 at.loop-a.s) one, at.loop-a.inv.2, one_small)
 
   next : SFits w64 (to_z w64 at.loop-a.s ⊕ one)
-  next = small_fits _ (omega (arith, both_small, at.before.pre.2, c.loop-a-test.true))
+  next = small_fits _ (omega (arith, both_small, at.requires.2, c.loop-a-test.true))
 
 pub plus-s-requires : goal.plus-s-requires
 plus-s-requires c = rw (one_seen c) (next c)

@@ -42,7 +42,7 @@ returns-then-v-gt2199023255551 c =
 
 between : (c : Else-v-gt2199023255551) → mag c.args.v < 2199023255552
 between c =
-    let p = c.before.before in
+    let p = c in
     test_between 2199023255551 p.args.v (rw (to_z-of_z p.ranges.v) at c.if-v-ltminus2199023255552.false)
     (rw (to_z-of_z p.ranges.v) at c.if-v-gt2199023255551.false)
 

@@ -15,25 +15,22 @@ returns-then-line-place c = sym (none_past _ _ c.if-line-place.true)
 pub loop-i-init : goal.loop-i-init
 loop-i-init c = (omega arith, omega arith, omega arith)
 
-pub is_digit-requires : goal.is_digit-requires
-is_digit-requires c = tt
-
 pub returns-then-not-is_digit : goal.returns-then-not-is_digit
 returns-then-not-is_digit c =
-    let t = c.before.before.before.before in
+    let t = c in
     omega (
       arith,
       none_here t.args.line.now t.loop-i.i
           c.loop-i-test.true (sym c.is_digit.ensures
-          ∙ not-true _ c.if-not-is_digit.true),
+          ∙ c.if-not-is_digit.true),
     )
 
 pub loop-i-preserved : goal.loop-i-preserved
 loop-i-preserved c =
-    let t = c.before.before.before.before in
+    let t = c in
     let e = one_here t.args.line.now t.loop-i.i
     c.loop-i-test.true (sym c.is_digit.ensures
-    ∙ not-false _ c.if-not-is_digit.false) in
+    ∙ c.if-not-is_digit.false) in
     (omega arith, omega arith, omega arith)
 
 pub returns : goal.returns

@@ -53,7 +53,7 @@ overflow_add-v-in-loop-i c = omega (arith, (range c.before).1, below c.before)
 
 pub loop-i-preserved : goal.loop-i-preserved
 loop-i-preserved c =
-    let t = c.before.before in
+    let t = c in
     let l = t.args.line.now in
     let k = t.args.place + t.loop-i.i in
     let next : t.args.place + (t.loop-i.i + 1) ≡ k + 1 = omega arith in
@@ -66,7 +66,7 @@ loop-i-preserved c =
 
 pub returns : goal.returns
 returns c =
-    let t = c.before in (
+    let t = c in (
       sym (t.loop-i.invariant.0 ∙ value_none t.args.line.now (t.args.place + t.loop-i.i) t.loop-i.v
           (omega arith)),
       small t.loop-i.v t.loop-i.i 9 t.loop-i.invariant.2 (omega (arith, t.requires.1)),

@@ -22,9 +22,6 @@ loop-mask-init c = (
 pub product-size-requires : goal.product-size-requires
 product-size-requires c = c.requires.0
 
-pub or-best-requires : goal.or-best-requires
-or-best-requires c = tt
-
 -- in a turn the mask is one of the first
 below : (c : In-loop-mask) → (c.loop-mask.mask < 2 ^ c.args.count)
     × (c.loop-mask.mask ≤ 31)

@@ -9,13 +9,13 @@ taken : (c : After-past_terms-to)
     → Terms c.args.f.now c.args.b.now c.args.i
     c.first_term-from.result c.past_terms-to.result
 taken c =
-    let p = c.before.before in
+    let p = c in
     ready_terms p.args.b.now p.args.f.now p.args.have p.args.i c.first_term-from.result
     c.past_terms-to.result p.requires.0 c.first_term-from.ensures c.past_terms-to.ensures
 
 pub light_sum-requires : goal.light_sum-requires
 light_sum-requires c =
-    let p = c.before.before.before in
+    let p = c in
     (taken c.before, p.requires.1 c.if-light.true)
 
 pub heavy_sum-requires : goal.heavy_sum-requires

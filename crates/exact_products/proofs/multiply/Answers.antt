@@ -22,8 +22,8 @@ loop-i-init c = made_none c.args.f.now c.args.b.now
 
 pub coefficient-v-requires : goal.coefficient-v-requires
 coefficient-v-requires c =
-    let at = c.before.before in
-    let p = at.before.before in (
+    let at = c in
+    let p = c in (
       made_ready at.loop-i.invariant c.loop-i-test.true p.args.have p.requires.0 p.requires.1 p.requires.2
           p.requires.3 p.requires.4,
       λ t. omega (arith, at.weight_of-light.ensures, ltb-true at.weight_of-light.result 1073741824 t),
@@ -32,7 +32,7 @@ coefficient-v-requires c =
 -- the coefficient that was told
 module _ (c : After-coefficient-v) where
   abbrev at : At-loop-i
-  at = c.before.before.before
+  at = c.before.before
 
   abbrev f : List ℤ
   f = at.args.f.now

@@ -6,8 +6,8 @@ use Rattle.factor_steps.proofs.turned.Goals as goal
 
 pub returns-in-Comb : goal.returns-in-Comb
 unfolding other
-returns-in-Comb c = rw c.enum_told-1.given.1 refl
+returns-in-Comb c = rw c.in-Comb.is refl
 
 pub returns-in-Accumulate : goal.returns-in-Accumulate
 unfolding other
-returns-in-Accumulate c = rw c.enum_told-in-Accumulate-1.given.1 refl
+returns-in-Accumulate c = rw c.in-Accumulate.is refl

@@ -23,16 +23,16 @@ module _ (q : After-half_degree-d) where
   start = q.before
 
   half : q.half_degree-d.result ≡ half_degree 1 (r_of start.args.n)
-  half = parts_half start.args.n start.args.parts start.pre.0 1 _ q.half_degree-d.ensures
+  half = parts_half start.args.n start.args.parts start.requires.0 1 _ q.half_degree-d.ensures
 
   long : length start.args.b.now ≡ q.half_degree-d.result * start.args.parts.t + 1
   long =
-      start.pre.3 ∙ half-long start.args.n start.args.parts start.pre.0 start.pre.1 start.pre.2
+      start.requires.3 ∙ half-long start.args.n start.args.parts start.requires.0 start.requires.1 start.requires.2
       ∙ ap (λ (d : ℕ). d * start.args.parts.t + 1) (sym half)
 
   room : q.half_degree-d.result + 1 ≤ length start.args.b.now
   room =
-      let t = t_some start.args.n start.args.parts start.pre.0 start.pre.1 start.pre.2 in
+      let t = t_some start.args.n start.args.parts start.requires.0 start.requires.1 start.requires.2 in
       omega (arith, long, NatL.le-mul_of_pos_right q.half_degree-d.result t)
 
 pub slice_bounds-half_for_m-end : goal.slice_bounds-half_for_m-end
@@ -53,7 +53,7 @@ module _ (g : After-half_for_m-height) where
   at = g.before.before
 
   abbrev first : List ℤ
-  first = g.half_for_m-height.last.1.1.0
+  first = g.half_for_m-height.new.a
 
   abbrev rest : List ℤ
   rest = drop (at.half_degree-d.result + 1) (start at).args.b.now
@@ -75,13 +75,13 @@ pub spread_by-requires : goal.spread_by-requires
 spread_by-requires c =
     let g = c.before.before in
     let p = start (at g) in
-    (t_some p.args.n p.args.parts p.pre.0 p.pre.1 p.pre.2, spaced g)
+    (t_some p.args.n p.args.parts p.requires.0 p.requires.1 p.requires.2, spaced g)
 
 pub returns : goal.returns
 returns c = let g = c.before.before.before.before in
     let p = start (at g) in record {
       value = g.half_for_m-height.ensures.value;
-      b_after = half_is p.args.n p.args.parts p.pre.0 p.pre.1 p.pre.2 (first g) (rest g) _
+      b_after = half_is p.args.n p.args.parts p.requires.0 p.requires.1 p.requires.2 (first g) (rest g) _
           g.half_for_m-height.ensures.a_after (spaced g ∙ ap (λ (d : ℕ). d * p.args.parts.t + 1) (half (at g)))
           c.spread_by.ensures;
     }

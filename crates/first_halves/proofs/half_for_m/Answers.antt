@@ -6,14 +6,14 @@ use Rattle.first_halves.proofs.half_for_m.Goals as goal
 
 pub signed-requires : goal.signed-requires
 signed-requires c =
-    let m = c.before.before in
-    let s = m.before.before in
+    let m = c in
+    let s = c in
     lower_within s.args.n _ s.requires.0 s.requires.1 s.requires.2 _ m.lower_half-measured.ensures.a_after
 
 pub returns : goal.returns
-returns c = let g = c.before in
-    let m = g.before.before.before in
-    let s = m.before.before in record {
+returns c = let g = c in
+    let m = c in
+    let s = c in record {
       value = ap (λ r. r.height) m.lower_half-measured.ensures.value;
       a_after = signed_is s.args.n _ s.requires.0 s.requires.1 s.requires.2 _ _ m.lower_half-measured.ensures.a_after g.signed.ensures;
     }

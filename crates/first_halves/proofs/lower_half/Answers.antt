@@ -18,13 +18,13 @@ all_steps-run-requires c = (due c.before, c.requires.3, omega arith)
 
 pub peak_within-top-requires : goal.peak_within-top-requires
 peak_within-top-requires c =
-    let m = c.before.before in
-    let s = m.before.before in
+    let m = c in
+    let s = c in
     steps_bounded s.args.n _ s.requires.0 s.requires.1 s.requires.2 _ _ m.all_steps-run.ensures
 
 pub returns : goal.returns
-returns c = let m = c.before.before.before in
-    let s = m.before.before in
+returns c = let m = c in
+    let s = c in
     let tall = ap (λ t. t.height) c.peak_within-top.ensures
     ∙ height_is s.args.n _ s.requires.0 s.requires.1 s.requires.2 _ _ m.all_steps-run.ensures in
     let sum = added s.args.n _ s.requires.0 s.requires.1 s.requires.2 _ _ m.all_steps-run.ensures in record {

@@ -5,4 +5,4 @@ use borrow.Author.Rules.{rules}
 use Rattle.forms.proofs.stored_of.Goals as goal
 
 pub returns-in-Half : goal.returns-in-Half
-returns-in-Half c = (rw c.enum_told-in-Half-1.given.1 refl, omega arith)
+returns-in-Half c = (rw c.in-Half.is refl, omega arith)

@@ -41,13 +41,13 @@ module _ (s : Start) where
   is_m = parts_m s.args.n s.args.parts s.requires.0
 
   abbrev is_free : s.args.parts.free ≡ phi (r_of s.args.n)
-  is_free = parts_free s.args.n s.args.parts s.pre.0
+  is_free = parts_free s.args.n s.args.parts s.requires.0
 
   abbrev m_small : (0 < s.args.parts.m) × (s.args.parts.m ≤ s.args.n) × (s.args.n ≤ 65535)
-  m_small = m_within s.args.n _ is_m s.pre.1
+  m_small = m_within s.args.n _ is_m s.requires.1
 
   above : s.args.n ≢ 1 → 1 < s.args.n
-  above u = omega (arith, (index_good s.args.n s.pre.1).0)
+  above u = omega (arith, (index_good s.args.n s.requires.1).0)
 
 pub returns-then-n-eq1 : goal.returns-then-n-eq1
 returns-then-n-eq1 c = (rw (c.if-kind-eq1.true, c.if-n-eq1.true) (sym gains.F_at_one), omega arith)

@@ -21,7 +21,7 @@ loop-i-init c = (refl, refl)
 
 pub loop-i-preserved : goal.loop-i-preserved
 loop-i-preserved c =
-    let loop = c.before.before in
+    let loop = c in
     let a = loop.args in (
       copy_turn a.bytes.now loop.loop-i.out a.size loop.loop-i.i loop.requires.0
           c.loop-i-test.true
@@ -34,7 +34,7 @@ shape_of-out c = c.loop-i.invariant.1
 
 pub returns : goal.returns
 returns c =
-    let loop = c.before in
+    let loop = c in
     let a = loop.args in
     sym (copy_none a.bytes.now loop.loop-i.out a.size loop.loop-i.i loop.requires.0
     c.loop-i-test.false)

@@ -19,17 +19,17 @@ module _ (start : Start) (u r : ℕ) (at : start.args.w ≡ u) (negated : start.
 
 pub returns-in-1 : goal.returns-in-1
 returns-in-1 c =
-    negative c.before.before.before 1 _ c.in-1.keys1 c.if-negate.true
+    negative c.before.before.before 1 _ c.in-1.is c.if-negate.true
     (λ small. (λ z. omega arith, λ p. omega arith))
 
 pub returns-in-2 : goal.returns-in-2
 returns-in-2 c =
-    negative c.before.before.before 2 _ c.in-2.keys2 c.if-negate.true
+    negative c.before.before.before 2 _ c.in-2.is c.if-negate.true
     (λ small. (λ z. omega arith, λ p. omega arith))
 
 pub returns-in-4 : goal.returns-in-4
 returns-in-4 c =
-    negative c.before.before.before 4 _ c.in-4.keys3 c.if-negate.true
+    negative c.before.before.before 4 _ c.in-4.is c.if-negate.true
     (λ small. (λ z. omega arith, λ p. omega arith))
 
 pub returns-in_default : goal.returns-in_default

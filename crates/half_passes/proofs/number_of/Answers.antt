@@ -20,7 +20,7 @@ get-requires c = (c.requires.0, omega (arith, inside c.before))
 
 pub returns : goal.returns
 returns c =
-    let start = c.before.before in
+    let start = c in
     let a = start.args in (
       ap (signed_of a.w) c.get.ensures.0 ∙ entry_at a.w a.k a.i a.bytes.now start.requires.2,
       c.get.ensures.1,

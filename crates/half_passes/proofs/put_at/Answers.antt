@@ -18,7 +18,7 @@ inside c =
 
 pub overflow_add-half : goal.overflow_add-half
 overflow_add-half c =
-    let start = c.before.before in
+    let start = c in
     omega (
       arith,
       le-mul_of_pos_right start.args.count (width_bounds start.args.w start.requires.0).0,
@@ -29,7 +29,7 @@ loop-i-init c = (refl, refl, omega arith, omega arith)
 
 pub number_of-v-requires : goal.number_of-v-requires
 number_of-v-requires c =
-    let start = c.before.before.before.before in
+    let start = c in
     (start.requires.0, start.requires.1, omega arith)
 
 pub overflow_mul-i : goal.overflow_mul-i
@@ -46,8 +46,8 @@ put-requires c = omega (arith, inside c.before.before.before)
 
 pub loop-i-preserved : goal.loop-i-preserved
 loop-i-preserved c =
-    let turn = c.before.before.before.before.before.before in
-    let loop = turn.before in
+    let turn = c in
+    let loop = c in
     let a = loop.args in
     let half = coefficients_at a.w (half_of a.count) (drop 10 a.bytes.now) in
     let got = c.number_of-v.ensures.0 in (
@@ -57,7 +57,7 @@ loop-i-preserved c =
           (c.image_of.ensures
           ∙ ap (λ z. twos a.w (image a.negate z)) got)
           ∙ loop.loop-i.invariant.0),
-      c.put.auto.0 ∙ loop.loop-i.invariant.1,
+      c.put.auto.bytes ∙ loop.loop-i.invariant.1,
       omega arith,
       omega arith,
     )
@@ -67,7 +67,7 @@ shape_of-out c = c.loop-i.invariant.1
 
 pub returns : goal.returns
 returns c =
-    let loop = c.before in
+    let loop = c in
     let a = loop.args in
     let half = coefficients_at a.w (half_of a.count) (drop 10 a.bytes.now) in
     sym (other_none a.negate a.w a.count loop.loop-i.i half loop.loop-i.out c.loop-i-test.false)

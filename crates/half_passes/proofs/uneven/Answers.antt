@@ -13,7 +13,7 @@ unlike-found-requires c = (c.requires, omega arith)
 
 pub loop-i-preserved : goal.loop-i-preserved
 loop-i-preserved c =
-    let loop = c.before.before in
+    let loop = c in
     let a = loop.args in (
       uneven-turn a.negate a.coeffs.now _ loop.loop-i.i refl loop.loop-i.invariant.0 c.unlike-found.ensures,
       omega arith,
@@ -21,6 +21,6 @@ loop-i-preserved c =
 
 pub returns : goal.returns
 returns c =
-    let loop = c.before in
+    let loop = c in
     let a = loop.args in
     uneven-all a.negate a.coeffs.now _ loop.loop-i.i refl loop.loop-i.invariant.0 (omega arith)

@@ -12,12 +12,12 @@ loop-i-init c = (refl, omega arith)
 
 pub unlike_in-found-requires : goal.unlike_in-found-requires
 unlike_in-found-requires c =
-    let start = c.before.before.before in
+    let start = c in
     (start.requires.0, start.requires.1, start.requires.2, omega arith)
 
 pub loop-i-preserved : goal.loop-i-preserved
 loop-i-preserved c =
-    let loop = c.before.before in
+    let loop = c in
     let a = loop.args in (
       uneven-turn a.negate _ a.k loop.loop-i.i (length_at a.w a.k (drop 10 a.bytes.now))
           loop.loop-i.invariant.0 c.unlike_in-found.ensures,
@@ -26,7 +26,7 @@ loop-i-preserved c =
 
 pub returns : goal.returns
 returns c =
-    let loop = c.before in
+    let loop = c in
     let a = loop.args in
     uneven-all a.negate _ a.k loop.loop-i.i (length_at a.w a.k (drop 10 a.bytes.now))
     loop.loop-i.invariant.0 (omega arith)

@@ -10,25 +10,25 @@ last c =
     width_last c.args.w c.requires.0 r.0.0.1 r.0.1 r.1
 
 pub uneven_at-requires : goal.uneven_at-requires
-uneven_at-requires c = rw c.in-1.keys1 at c.requires
+uneven_at-requires c = rw c.in-1.is at c.requires
 
 pub uneven_at-requires-in-2 : goal.uneven_at-requires-in-2
-uneven_at-requires-in-2 c = rw c.in-2.keys2 at c.requires
+uneven_at-requires-in-2 c = rw c.in-2.is at c.requires
 
 pub uneven_at-requires-in-4 : goal.uneven_at-requires-in-4
-uneven_at-requires-in-4 c = rw c.in-4.keys3 at c.requires
+uneven_at-requires-in-4 c = rw c.in-4.is at c.requires
 
 pub uneven_at-requires-in_default : goal.uneven_at-requires-in_default
 uneven_at-requires-in_default c = rw (last c) at c.requires
 
 pub returns-in-1 : goal.returns-in-1
-returns-in-1 c = rw c.in-1.keys1 c.uneven_at.ensures
+returns-in-1 c = rw c.in-1.is c.uneven_at.ensures
 
 pub returns-in-2 : goal.returns-in-2
-returns-in-2 c = rw c.in-2.keys2 c.uneven_at-in-2.ensures
+returns-in-2 c = rw c.in-2.is c.uneven_at-in-2.ensures
 
 pub returns-in-4 : goal.returns-in-4
-returns-in-4 c = rw c.in-4.keys3 c.uneven_at-in-4.ensures
+returns-in-4 c = rw c.in-4.is c.uneven_at-in-4.ensures
 
 pub returns-in_default : goal.returns-in_default
 returns-in_default c = rw (last c.before) c.uneven_at-in_default.ensures

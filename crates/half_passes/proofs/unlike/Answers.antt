@@ -21,7 +21,7 @@ module _ (start : Start) (k : ℕ) (l : k < length start.args.coeffs.now)
 
   small : nat_abs (entries start.args.coeffs.now k) ≤ top 8
   unfolding top
-  small = omega (arith, entry_within start.args.coeffs.now k l, start.pre.0)
+  small = omega (arith, entry_within start.args.coeffs.now k l, start.requires.0)
 
   read_small : nat_abs (seen (get_or start.args.coeffs.now k 0ℤ)) ≤ top 8
   read_small = rw read small

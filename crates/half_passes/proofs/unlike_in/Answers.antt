@@ -8,7 +8,7 @@ use Rattle.half_passes.proofs.unlike_in.Goals as goal
 
 pub returns : goal.returns
 returns c =
-    let start = c.before.before.before.before in
+    let start = c in
     let a = start.args in
     let cs = coefficients_at a.w a.k (drop 10 a.bytes.now) in
     unlike_is a.negate cs a.w a.i _ _ _ (width_bounds a.w start.requires.0).0

@@ -6,17 +6,17 @@ use borrow.Author.Rules.{rules}
 use Rattle.index.proofs.degree_of.Goals as goal
 
 pub returns-then-not-good_index : goal.returns-then-not-good_index
-returns-then-not-good_index c = let p = c.before.before in
-    no_degree p.args.kind p.args.n (sym c.good_index.ensures ∙ not-true _ c.if-not-good_index.true)
+returns-then-not-good_index c = let p = c in
+    no_degree p.args.kind p.args.n (sym c.good_index.ensures ∙ c.if-not-good_index.true)
 
 pub parts_of-a-requires : goal.parts_of-a-requires
-parts_of-a-requires c = index_good _ (sym c.good_index.ensures ∙ not-false _ c.if-not-good_index.false)
+parts_of-a-requires c = index_good _ (sym c.good_index.ensures ∙ c.if-not-good_index.false)
 
 pub returns : goal.returns
 returns c =
-    let p = c.before.before.before.before in
-    let t = c.before in
+    let p = c in
+    let t = c in
     its_degree p.args.kind p.args.n _
-    (index_good _ (sym t.good_index.ensures ∙ not-false _ t.if-not-good_index.false)).1
+    (index_good _ (sym t.good_index.ensures ∙ t.if-not-good_index.false)).1
     (parts_degree p.args.n t.parts_of-a.result t.parts_of-a.ensures p.args.kind _
     c.degree_from.ensures)

@@ -8,12 +8,12 @@ use Rattle.index.proofs.take_apart.Goals as goal
 pub returns-then-not-good_index : goal.returns-then-not-good_index
 returns-then-not-good_index c =
     c.parts_of_none.ensures
-    ∙ sym (taken_none _ (sym c.good_index.ensures ∙ not-true _ c.if-not-good_index.true))
+    ∙ sym (taken_none _ (sym c.good_index.ensures ∙ c.if-not-good_index.true))
 
 pub parts_of-requires : goal.parts_of-requires
-parts_of-requires c = index_good _ (sym c.good_index.ensures ∙ not-false _ c.if-not-good_index.false)
+parts_of-requires c = index_good _ (sym c.good_index.ensures ∙ c.if-not-good_index.false)
 
 pub returns : goal.returns
 returns c =
     c.parts_of.ensures
-    ∙ sym (taken_good _ (sym c.good_index.ensures ∙ not-false _ c.if-not-good_index.false))
+    ∙ sym (taken_good _ (sym c.good_index.ensures ∙ c.if-not-good_index.false))

@@ -22,7 +22,7 @@ how a =
     ∙ ap (λ (k : ℕ). tried_of k (drop (before a).loop-at.at (before a).args.shelf.now))
     (before a).loop-at.invariant.2
 
-kept-long : (a : After-try_at-how) → length a.try_at-how.new.1.1.0
+kept-long : (a : After-try_at-how) → length a.try_at-how.new.coeffs
     ≡ length (before a).args.coeffs.now
 kept-long a = a.try_at-how.ensures.coeffs_len_unchanged ∙ (before a).loop-at.invariant.2
 
@@ -42,11 +42,11 @@ loop-at-smaller c =
 
 pub loop-at-preserved : goal.loop-at-preserved
 loop-at-preserved c =
-    let told = c.before in
-    let a = told.before.before.before in
+    let told = c in
+    let a = c.before.before.before.before in
     let n = c.next_mark-at.ensures in (
       passes_to _ _ _ _ _
-          (goes_on _ _ _ _ (before a).loop-at.invariant.0 (left a) (sym told.enum_told-in-Passed-1.given.1 ∙ how a)) n.0 n.1
+          (goes_on _ _ _ _ (before a).loop-at.invariant.0 (left a) (sym told.in-Passed.is ∙ how a)) n.0 n.1
           n.2,
       (before a).loop-at.invariant.1,
       kept-long a,
@@ -66,7 +66,7 @@ shape_of-coeffs-in-Kept c = kept-long c.before.before.before
 pub returns-in-Kept : goal.returns-in-Kept
 returns-in-Kept c = let told =
     let a = c.before.before.before in
-    let e = at_kept _ _ _ _ (before a).loop-at.invariant.0 (left a) (sym c.enum_told-1.given.1 ∙ how a) in
+    let e = at_kept _ _ _ _ (before a).loop-at.invariant.0 (left a) (sym c.in-Kept.is ∙ how a) in
     rw (before a).loop-at.invariant.1 (e.0, (e.1, kept-long a)) in record { cramped_value = told.0; place_value = told.1; coeffs_len_unchanged = told.2 }
 
 pub shape_of-coeffs-in-Cramped : goal.shape_of-coeffs-in-Cramped
@@ -75,5 +75,5 @@ shape_of-coeffs-in-Cramped c = kept-long c.before.before.before
 pub returns-in-Cramped : goal.returns-in-Cramped
 returns-in-Cramped c = let told =
     let a = c.before.before.before in
-    let e = at_cramped _ _ _ _ (before a).loop-at.invariant.0 (left a) (sym c.enum_told-in-Cramped-1.given.1 ∙ how a) in
+    let e = at_cramped _ _ _ _ (before a).loop-at.invariant.0 (left a) (sym c.in-Cramped.is ∙ how a) in
     (e.0, (e.1, kept-long a)) in record { cramped_value = told.0; place_value = told.1; coeffs_len_unchanged = told.2 }

@@ -17,7 +17,7 @@ returns-then-shelf-at c = let a = c.args in record {
 }
 
 pub returns : goal.returns
-returns c = let start = c.before.before.before.before.before.before.before in
+returns c = let start = c in
     let a = start.args in record {
       value = c.try_one.ensures.value ∙ ap (tried_of (length a.coeffs-1.now))
           (tail a.shelf.now a.at);

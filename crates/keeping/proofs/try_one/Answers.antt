@@ -31,18 +31,18 @@ returns-then-coeffs-count_in c = record {
 
 pub is_same-requires : goal.is_same-requires
 is_same-requires c =
-    let else = c.before in
-    (read else.before.before, omega (arith, else.if-coeffs-count_in.false, else.count_in.ensures))
+    let else = c in
+    (read c.before.before.before, omega (arith, else.if-coeffs-count_in.false, else.count_in.ensures))
 
 pub returns-then-is_same : goal.returns-then-is_same
-returns-then-is_same c = let same = c.before.before in
+returns-then-is_same c = let same = c in
     let asks = is-same-requires same.before same.is_same.lifetimes in record {
       value = tried_whole _ _ asks.0 true asks.1 (sym c.if-is_same.true ∙ same.is_same.ensures.value);
       coeffs_len_unchanged = same.is_same.ensures.coeffs_len_unchanged;
     }
 
 pub returns : goal.returns
-returns c = let same = c.before.before in
+returns c = let same = c in
     let asks = is-same-requires same.before same.is_same.lifetimes in record {
       value = tried_whole _ _ asks.0 false asks.1 (sym c.if-is_same.false ∙ same.is_same.ensures.value);
       coeffs_len_unchanged = same.is_same.ensures.coeffs_len_unchanged;

@@ -17,8 +17,8 @@ pub over-walk-requires : goal.over-walk-requires
 over-walk-requires c = parts_few c.args.n c.args.parts c.requires.0.parts c.requires.0.good
 
 pub make_kept_half-run-requires : goal.make_kept_half-run-requires
-make_kept_half-run-requires c = let q = c.before in
-    let p = q.before in record {
+make_kept_half-run-requires c = let q = c in
+    let p = c in record {
       walk_at_start = fresh_half p.args.kind p.args.n p.args.parts p.requires.0 q.over-walk.result q.over-walk.ensures _ _
           p.requires.1
           (le_of_eq (walk_due p.args.kind p.args.n p.args.parts p.requires.0 q.over-walk.result
@@ -32,12 +32,12 @@ module _ (c : After-make_kept_half-run) where
   q = c.before.before
 
   abbrev p : Start
-  p = q.before
+  p = c.before.before.before
 
   ran : KeptHalfIs p.args.w p.args.kind (r_of p.args.n) (divisors_due (r_of p.args.n))
-      c.make_kept_half-run.new.0 c.make_kept_half-run.result
+      c.make_kept_half-run.new.a c.make_kept_half-run.result
   ran =
-      of_all p.args.kind p.args.n p.args.parts p.pre.0 q.over-walk.result q.over-walk.ensures
+      of_all p.args.kind p.args.n p.args.parts p.requires.0 q.over-walk.result q.over-walk.ensures
       c.make_kept_half-run.ensures
 
 pub returns-then-all-eq3 : goal.returns-then-all-eq3

@@ -19,26 +19,26 @@ module _ (q : After-half_degree-half) where
   start = q.before
 
   d_is : q.half_degree-half.result ≡ half_degree start.args.kind (r_of start.args.n)
-  d_is = parts_half start.args.n start.args.parts start.pre.0.parts start.args.kind _
+  d_is = parts_half start.args.n start.args.parts start.requires.0.parts start.args.kind _
       q.half_degree-half.ensures
 
   room : q.half_degree-half.result + 1 ≤ length start.args.b.now
-  room = half_room _ _ _ _ start.pre.0 _ d_is
+  room = half_room _ _ _ _ start.requires.0 _ d_is
 
   part : length (take (q.half_degree-half.result + 1) start.args.b.now) ≡ q.half_degree-half.result + 1
-  part = part_length _ _ _ _ start.pre.0 _ d_is
+  part = part_length _ _ _ _ start.requires.0 _ d_is
 
 -- after the height
 module _ (t : After-peak_within-top) where
   abbrev at_half : After-half_degree-half
-  at_half = t.before.before
+  at_half = t.before
 
   abbrev begin : Start
-  begin = at_half.before
+  begin = t.before.before
 
   high : (t.peak_within-top.result.height ≡ height begin.args.kind begin.args.n)
       × (t.peak_within-top.result.place * begin.args.parts.t ≡ peak begin.args.kind begin.args.n)
-  high = top_is _ _ _ _ begin.pre.0 _ (d_is at_half) begin.pre.1 _ t.peak_within-top.ensures
+  high = top_is _ _ _ _ begin.requires.0 _ (d_is at_half) begin.requires.1 _ t.peak_within-top.ensures
 
   told : ltb begin.args.h t.peak_within-top.result.height
       ≡ ltb begin.args.h (height begin.args.kind begin.args.n)
@@ -51,22 +51,22 @@ pub slice_bounds-peak_within-end : goal.slice_bounds-peak_within-end
 slice_bounds-peak_within-end c = room c
 
 pub slice_bounds-peak_within-end-2 : goal.slice_bounds-peak_within-end-2
-slice_bounds-peak_within-end-2 c = sym (part c.before)
+slice_bounds-peak_within-end-2 c = sym (part c)
 
 pub peak_within-top-requires : goal.peak_within-top-requires
 peak_within-top-requires c =
-    let q = c.before in
+    let q = c in
     rw (d_is q) q.requires.2
 
 pub returns-then-h-height : goal.returns-then-h-height
 returns-then-h-height c =
     let t = c.before.before.before.before in
     let s = begin t in
-    laid_tall s.args.kind s.args.n s.args.parts s.args.b.now s.pre.0 _ _
+    laid_tall s.args.kind s.args.n s.args.parts s.args.b.now s.requires.0 _ _
     (sym (told t) ∙ lt-ltb _ _ c.if-h-height.true) c.clear.ensures
 
 pub from_lower_half-requires : goal.from_lower_half-requires
-from_lower_half-requires c = let s = begin c.before.before in (s.pre.0, s.pre.1)
+from_lower_half-requires c = let s = begin c.before.before in (s.requires.0, s.requires.1)
 
 pub overflow_mul-peak : goal.overflow_mul-peak
 overflow_mul-peak c =
@@ -77,7 +77,7 @@ pub returns : goal.returns
 returns c =
     let t = c.before.before.before.before.before in
     let s = begin t in
-    laid_done s.args.kind s.args.n s.args.parts s.args.b.now s.pre.0 _ _ _ _
+    laid_done s.args.kind s.args.n s.args.parts s.args.b.now s.requires.0 _ _ _ _
     (sym (told t) ∙ le-ltb _ _ c.if-h-height.false)
     c.from_lower_half.ensures
     (high t).0 (high t).1

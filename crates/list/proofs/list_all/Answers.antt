@@ -4,18 +4,12 @@ use Rattle.std.proofs.Common.{◌≡◌, ◌<◌, length, refl, ◌∙◌, arith
 use Rattle.list.proofs.list_all.Goals as goal
 use Rattle.list.proofs.list_all.Goals.{After-list_read-g}
 
-pub start-line-requires : goal.start-line-requires
-start-line-requires c = tt
-
 pub loop-turns-init : goal.loop-turns-init
 loop-turns-init c = (refl, refl)
 
-pub read_some-got-requires : goal.read_some-got-requires
-read_some-got-requires c = tt
-
 pub list_read-g-requires : goal.list_read-g-requires
-list_read-g-requires c = let read = c.before.before.before.before in
-    let at = read.before.before.before in record {
+list_read-g-requires c = let read = c in
+    let at = c in record {
       in_bounds = omega (arith, at.loop-turns.invariant.1, at.requires);
       prefix_len = read.read_Some.ensures;
     }
@@ -43,9 +37,6 @@ shape_of-chunk-then-not-g c = chunk_kept c.before.before.before.before.before
 pub shape_of-out-then-not-g : goal.shape_of-out-then-not-g
 shape_of-out-then-not-g c = out_kept c.before.before.before.before.before
 
-pub returns-then-not-g : goal.returns-then-not-g
-returns-then-not-g c = tt
-
 pub overflow_sub-turns : goal.overflow_sub-turns
 overflow_sub-turns c = omega (arith, more c.before.before.before.before.before)
 
@@ -62,6 +53,3 @@ shape_of-chunk c = c.loop-turns.invariant.0
 
 pub shape_of-out : goal.shape_of-out
 shape_of-out c = c.loop-turns.invariant.1
-
-pub returns : goal.returns
-returns c = tt

@@ -3,9 +3,6 @@ use Rattle.std.proofs.Common.{[], ◌∷◌, refl, ap, ◌∙◌, lit<, take_all
 use Rattle.listing.specs.Stream.{NEWLINE, after}
 use Rattle.list.proofs.list_end.Goals as goal
 
-pub say_failed-requires : goal.say_failed-requires
-say_failed-requires c = tt
-
 pub returns-then-failed : goal.returns-then-failed
 returns-then-failed c = record { stops = refl; last = λ e some. cc c.if-failed.true }
 

@@ -28,7 +28,7 @@ list_some-g-requires c = let turn = c.before.before in record {
 
 -- a turn keeps the buffer's length, and takes something of what is left
 module _ (c : After-list_some-g) where
-  kept : length c.list_some-g.new.1.1.0
+  kept : length c.list_some-g.new.out
       ≡ length c.args.out.now
   kept = c.list_some-g.auto.1.1.0 ∙ c.loop-from.invariant.1.1
 

@@ -21,25 +21,22 @@ some c =
     takes c.run-p.ensures pre.in_bounds pre.piece_nonzero
 
 -- what it made lies in the buffer
-fits : (c : After-run-p) → c.run-p.result.made ≤ length c.run-p.new.1.1.0
+fits : (c : After-run-p) → c.run-p.result.made ≤ length c.run-p.new.out
 fits c = omega (arith, c.run-p.ensures.fits, c.run-p.auto.1.1.0)
-
-pub run-p-requires : goal.run-p-requires
-run-p-requires c = tt
 
 pub slice_bounds-write_made-end : goal.slice_bounds-write_made-end
 slice_bounds-write_made-end c = sym (length-take-le _ _ c.run-p.ensures.within)
 
 pub slice_bounds-write_made-end-2 : goal.slice_bounds-write_made-end-2
-slice_bounds-write_made-end-2 c = omega (arith, fits c.before.before.before.before)
+slice_bounds-write_made-end-2 c = omega (arith, fits c.before.before.before)
 
 pub slice_bounds-write_made-end-3 : goal.slice_bounds-write_made-end-3
 slice_bounds-write_made-end-3 c =
-    let r = c.before.before.before.before.before in
-    omega (arith, length-take-le r.run-p.result.made r.run-p.new.1.1.0 (fits r))
+    let r = c.before.before.before in
+    omega (arith, length-take-le r.run-p.result.made r.run-p.new.out (fits r))
 
 pub write_made-on-requires : goal.write_made-on-requires
-write_made-on-requires c = let r = c.before.before.before.before.before in
+write_made-on-requires c = let r = c.before.before.before in
     let ran = r.run-p.ensures in record {
       text_value = flushed ran ∙ no_heading _ _ (rw (length-take-le _ _ ran.within) (some r));
       next_value = ran.left;
@@ -49,7 +46,7 @@ pub shape_of-out : goal.shape_of-out
 shape_of-out c = c.run-p.auto.1.1.0
 
 pub returns : goal.returns
-returns c = let r = c.before.before.before.before.before.before in
+returns c = let r = c.before.before.before.before in
     let ran = r.run-p.ensures in record {
       took = record { within = omega (arith, ran.within); left = ran.left };
       taken_nonzero = omega (arith, some r, ran.within);

@@ -7,30 +7,18 @@ use Rattle.list.proofs.main.Goals as goal
 use Rattle.list.proofs.main.Goals.{After-heading-n}
 
 -- the heading leaves the buffer as long as it was
-still : (c : After-heading-n) → 131072 ≡ length c.heading-n.new.0
-still c = c.large-out.ensures ∙ sym c.heading-n.auto.0
-
-pub large_buffer-chunk-requires : goal.large_buffer-chunk-requires
-large_buffer-chunk-requires c = tt
-
-pub large-out-requires : goal.large-out-requires
-large-out-requires c = tt
+still : (c : After-heading-n) → 131072 ≡ length c.heading-n.new.out
+still c = c.large-out.ensures ∙ sym c.heading-n.auto.out
 
 pub slice_bounds-heading-end : goal.slice_bounds-heading-end
 slice_bounds-heading-end c = c.large-out.ensures
-
-pub heading-n-requires : goal.heading-n-requires
-heading-n-requires c = tt
-
-pub start-line-requires : goal.start-line-requires
-start-line-requires c = tt
 
 pub slice_bounds-write_made-end-2 : goal.slice_bounds-write_made-end-2
 slice_bounds-write_made-end-2 c = refl
 
 pub slice_bounds-out-end : goal.slice_bounds-out-end
 slice_bounds-out-end c =
-    let h = c.before.before.before in
+    let h = c in
     omega (arith, h.heading-n.ensures.upper_bound, h.large-out.ensures)
 
 pub write_made-requires : goal.write_made-requires
@@ -47,13 +35,7 @@ slice_bounds-list_all-end c =
     c.large_buffer-chunk.ensures
 
 pub slice_bounds-list_all-end-then-write_made : goal.slice_bounds-list_all-end-then-write_made
-slice_bounds-list_all-end-then-write_made c = still c.before.before.before.before.before.before.before.before
+slice_bounds-list_all-end-then-write_made c = still c.before.before.before.before.before.before.before.before.before
 
 pub list_all-requires : goal.list_all-requires
-list_all-requires c = omega (arith, still c.before.before.before.before.before.before.before.before)
-
-pub returns-then-write_made : goal.returns-then-write_made
-returns-then-write_made c = tt
-
-pub returns-else-write_made : goal.returns-else-write_made
-returns-else-write_made c = tt
+list_all-requires c = omega (arith, still c.before.before.before.before.before.before.before.before.before)

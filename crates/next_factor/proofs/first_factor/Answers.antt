@@ -6,7 +6,7 @@ use Rattle.next_factor.proofs.first_factor.Goals as goal
 
 pub overflow_add-result : goal.overflow_add-result
 overflow_add-result c =
-    let p = c.before.before.before in
+    let p = c in
     record {
       fits = omega (
         arith,
@@ -16,7 +16,7 @@ overflow_add-result c =
 
 pub returns : goal.returns
 returns c =
-    let p = c.before.before.before.before.before in
+    let p = c in
     let made = c.polynomial-made in
     first-is p.args.n p.requires.0 p.args.b.now p.requires.1 p.requires.2 made.ensures.0 made.ensures.1
     c.magnitude.ensures

@@ -6,7 +6,7 @@ use Rattle.next_factor.proofs.size_of.Goals as goal
 
 pub returns : goal.returns
 returns c =
-    let p = c.before.before in
+    let p = c in
     record {
       degree = parts_phi p.args.n p.args.parts p.requires.1;
       gain = seen-gain p.args.n p.requires.0 c.gain_of.ensures.0 c.magnitude.ensures;

@@ -20,7 +20,7 @@ module _ (g : After-size_of-size) where
 
   -- the entries that the product will have are there
   room : start.args.so.have + g.size_of-size.result.degree ≤ length start.args.b.now
-  room = inside start.pre.0 start.pre.1 g.size_of-size.ensures
+  room = inside start.requires.0 start.requires.1 g.size_of-size.ensures
 
 -- what the multiplication left has room for them too
 module _ (t : After-times) where
@@ -28,21 +28,21 @@ module _ (t : After-times) where
   sized = t.before.before.before.before.before.before.before
 
   kept : (start sized).args.so.have + sized.size_of-size.result.degree
-      ≤ length (t.times.last.0
+      ≤ length (t.times.new.b
       ++ drop ((start sized).args.so.have + sized.size_of-size.result.degree) (start sized).args.b.now)
-  kept = rw (whole_length (start sized).pre.0 (start sized).pre.1 sized.size_of-size.ensures t.times.ensures)
+  kept = rw (whole_length (start sized).requires.0 (start sized).requires.1 sized.size_of-size.ensures t.times.ensures)
       (room sized)
 
 pub size_of-size-requires : goal.size_of-size-requires
 size_of-size-requires c =
-    let p = c.before in (p.requires.1.good, c.take_apart-parts.ensures ∙ taken_good _ p.requires.1.good)
+    let p = c in (p.requires.1.good, c.take_apart-parts.ensures ∙ taken_good _ p.requires.1.good)
 
 pub returns-then-not-product_fits : goal.returns-then-not-product_fits
 returns-then-not-product_fits c = let g = c.before.before.before in
     let p = start g in record {
       taken = rw (sym c.out_of_range.ensures)
-          at (gain-over p.pre.0 p.pre.1 g.size_of-size.ensures c.product_fits.ensures
-          (not-true _ c.if-not-product_fits.true));
+          at (gain-over p.requires.0 p.requires.1 g.size_of-size.ensures c.product_fits.ensures
+          (c.if-not-product_fits.true));
       scratch_len_unchanged = refl;
     }
 
@@ -54,10 +54,10 @@ pub times-requires : goal.times-requires
 times-requires c =
     let g = c.before.before.before.before.before.before in
     let p = start g in (
-      factor-asked p.pre.0 p.pre.1 g.size_of-size.ensures
-          (g.take_apart-parts.ensures ∙ taken_good _ p.pre.1.good),
-      turns_asked p.pre.0 p.pre.1 g.size_of-size.ensures c.turned_by-turned.ensures,
-      p.pre.1.factor,
+      factor-asked p.requires.0 p.requires.1 g.size_of-size.ensures
+          (g.take_apart-parts.ensures ∙ taken_good _ p.requires.1.good),
+      turns_asked p.requires.0 p.requires.1 g.size_of-size.ensures c.turned_by-turned.ensures,
+      p.requires.1.factor,
     )
 
 pub returns-then-not-times : goal.returns-then-not-times
@@ -65,31 +65,31 @@ returns-then-not-times c = let t = c.before.before.before.before in
     let g = sized t in
     let p = start g in record {
       taken = rw (sym c.out_of_range-then-not-times.ensures)
-          at (coefficient_over p.pre.0 p.pre.1 g.size_of-size.ensures t.times.ensures
-          (not-true _ c.if-not-times.true));
-      scratch_len_unchanged = t.times.auto.1.0;
+          at (coefficient_over p.requires.0 p.requires.1 g.size_of-size.ensures t.times.ensures
+          (c.if-not-times.true));
+      scratch_len_unchanged = t.times.auto.scratch;
     }
 
 pub slice_bounds-peak-end-2 : goal.slice_bounds-peak-end-2
 slice_bounds-peak-end-2 c =
-    sym (length-take-le _ _ (kept c.before.before.before.before))
+    sym (length-take-le _ _ (kept c.before.before.before))
 
 pub overflow_mul-result : goal.overflow_mul-result
 overflow_mul-result c =
-    let e = c.before.before.before.before.before.before.before.before.before.before.before in
-    let g = e.before.before in
+    let e = c in
+    let g = c.before.before.before.before.before.before.before.before.before.before.before.before in
     let small : (start g).args.so.gain * g.size_of-size.result.gain ≤ largest
-    = leb-true _ _ (sym e.product_fits.ensures ∙ not-false _ e.if-not-product_fits.false) in
+    = leb-true _ _ (sym e.product_fits.ensures ∙ e.if-not-product_fits.false) in
     record { fits = omega arith }
 
 pub returns : goal.returns
-returns c = let t = c.before.before.before.before.before.before in
+returns c = let t = c.before.before.before.before.before in
     let g = sized t in
     let p = start g in
-    let e = t.before.before.before.before.before in record {
-      taken = extended p.pre.0 p.pre.1 g.size_of-size.ensures t.times.ensures
-          (not-false _ c.if-not-times.false)
-          e.product_fits.ensures (not-false _ e.if-not-product_fits.false)
+    let e = c in record {
+      taken = extended p.requires.0 p.requires.1 g.size_of-size.ensures t.times.ensures
+          (c.if-not-times.false)
+          e.product_fits.ensures (e.if-not-product_fits.false)
           t.turned_by-turned.ensures c.peak-top.ensures;
-      scratch_len_unchanged = t.times.auto.1.0;
+      scratch_len_unchanged = t.times.auto.scratch;
     }

@@ -6,10 +6,10 @@ use Rattle.next_factor.proofs.turned_by.Goals as goal
 
 pub returns-then-n-eq1 : goal.returns-then-n-eq1
 returns-then-n-eq1 c =
-    let p = c.before in
+    let p = c in
     sym (ap (λ b. cond b (not p.args.turned) p.args.turned) (eq-eqb p.args.n 1 c.if-n-eq1.true))
 
 pub returns-else-n-eq1 : goal.returns-else-n-eq1
 returns-else-n-eq1 c =
-    let p = c.before in
+    let p = c in
     sym (ap (λ b. cond b (not p.args.turned) p.args.turned) (ne_eqb p.args.n 1 c.if-n-eq1.false))

@@ -32,7 +32,7 @@ module _ (c : Then-stays_within) where
   none : (w : ℕ) → most ≤ w → (step_over w accumulate p.args.d all ≡ false)
       × Bounded most (entries (step_list accumulate p.args.d all))
   none =
-      grown accumulate p.args.d p.args.bound p.pre.0.size all p.pre.0.bounded
+      grown accumulate p.args.d p.args.bound p.requires.0.size all p.requires.0.bounded
       (ap (λ n. growth accumulate p.args.d n p.args.bound) (outlined-length p.args.o p.args.a.now)
       ∙ c.times_added-times.ensures.1 p.args.bound)
 
@@ -45,17 +45,17 @@ overflow_add-grown c = omega (arith, inside c, (p c).requires.0.good.1)
 pub accumulate_repeated-requires : goal.accumulate_repeated-requires
 accumulate_repeated-requires c = let q = c.before in
     let p = p q in record {
-      le_t = (p.pre.0.told.some, p.pre.3, omega arith);
-      a_value = rw (repeats_all p.args.o p.args.a.now p.pre.1)
-          (none q largest (omega (arith, inside q, p.pre.0.good.1))).0;
+      le_t = (p.requires.0.told.some, p.requires.3, omega arith);
+      a_value = rw (repeats_all p.args.o p.args.a.now p.requires.1)
+          (none q largest (omega (arith, inside q, p.requires.0.good.1))).0;
     }
 
 pub returns-then-stays_within : goal.returns-then-stays_within
 returns-then-stays_within c =
     let q = c.before.before.before in
     let p = p q in
-    whole-step p.pre.0
+    whole-step p.requires.0
     (under p.args.w accumulate p.args.d p.args.bound (all q) (none q p.args.w (inside q))
     (c.accumulate_repeated.ensures
-    ∙ ap (step_list accumulate p.args.d) (repeats_all p.args.o p.args.a.now p.pre.1)) (λ _. inside q))
+    ∙ ap (step_list accumulate p.args.d) (repeats_all p.args.o p.args.a.now p.requires.1)) (λ _. inside q))
     refl

@@ -11,7 +11,7 @@ slice_bounds-repeat-end-2 c = sym (length-take-le _ _ (omega arith))
 
 pub repeat-requires : goal.repeat-requires
 repeat-requires c =
-    let p = c.before in (
+    let p = c in (
       p.requires.0.told.some,
       omega (
         arith,
@@ -22,5 +22,5 @@ repeat-requires c =
 
 pub returns : goal.returns
 returns c =
-    let p = c.before.before.before in
+    let p = c in
     cut p.requires.0 p.requires.1 p.requires.2 p.requires.3 c.repeat.ensures

@@ -9,6 +9,6 @@ use Rattle.outlined_steps.proofs.write_zeros.Goals as goal
 
 pub returns : goal.returns
 returns c =
-    let p = c.before.before.before in
-    zeros-told p.args.told p.args.to p.args.a.now c.clear.new.0 p.requires.0 p.requires.1
+    let p = c in
+    zeros-told p.args.told p.args.to p.args.a.now c.clear.new.a p.requires.0 p.requires.1
     (c.clear.ensures ∙ ap zeros (mid_len p.args.told p.args.to p.args.a.now (omega arith)))

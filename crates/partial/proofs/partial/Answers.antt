@@ -13,7 +13,7 @@ use Rattle.partial.proofs.partial.Goals.{After-take_apart-parts, Else-not-known_
 
 -- the kind is known; the index is good and taken apart
 known : (c : Else-not-known_kind) → known_kind c.args.kind ≡ true
-known c = sym c.known_kind.ensures ∙ not-false _ c.if-not-known_kind.false
+known c = sym c.known_kind.ensures ∙ c.if-not-known_kind.false
 
 module _ (c : After-take_apart-parts) where
   abbrev start : Start
@@ -23,46 +23,28 @@ module _ (c : After-take_apart-parts) where
   kind_known = known c.before.before.before
 
   good : good_index start.args.n ≡ true
-  good = sym c.good_index.ensures ∙ not-false _ c.if-not-good_index.false
+  good = sym c.good_index.ensures ∙ c.if-not-good_index.false
 
   apart : c.take_apart-parts.result ≡ parts_of start.args.n
   apart = c.take_apart-parts.ensures ∙ taken_good start.args.n good
 
-pub known_kind-requires : goal.known_kind-requires
-known_kind-requires c = tt
-
-pub refused-requires : goal.refused-requires
-refused-requires c = tt
-
 pub returns-then-not-known_kind : goal.returns-then-not-known_kind
-returns-then-not-known_kind c = let p = c.before.before.before in
-    let k = sym c.known_kind.ensures ∙ not-true _ c.if-not-known_kind.true in
+returns-then-not-known_kind c = let p = c in
+    let k = sym c.known_kind.ensures ∙ c.if-not-known_kind.true in
     let s = at_kind p.args.kind p.args.n p.args.j p.args.w p.args.buf.now
     (stop-kind _ _ _ _ _ k) in record {
       value = c.refused.ensures ∙ s.0;
       buf_after = s.1;
     }
 
-pub good_index-requires : goal.good_index-requires
-good_index-requires c = tt
-
-pub refused-requires-then-not-good_index : goal.refused-requires-then-not-good_index
-refused-requires-then-not-good_index c = tt
-
 pub returns-then-not-good_index : goal.returns-then-not-good_index
-returns-then-not-good_index c = let p = c.before.before.before.before.before in
-    let g = sym c.good_index.ensures ∙ not-true _ c.if-not-good_index.true in
+returns-then-not-good_index c = let p = c in
+    let g = sym c.good_index.ensures ∙ c.if-not-good_index.true in
     let s = at_index p.args.kind p.args.n p.args.j p.args.w p.args.buf.now
     (stop-index _ _ _ _ _ (known c.before.before.before) g) in record {
       value = c.refused-then-not-good_index.ensures ∙ s.0;
       buf_after = s.1;
     }
-
-pub take_apart-parts-requires : goal.take_apart-parts-requires
-take_apart-parts-requires c = tt
-
-pub refused-requires-then-parts-eq1 : goal.refused-requires-then-parts-eq1
-refused-requires-then-parts-eq1 c = tt
 
 pub returns-then-parts-eq1 : goal.returns-then-parts-eq1
 returns-then-parts-eq1 c = let t = c.before.before.before in
@@ -85,5 +67,5 @@ stop_at-requires c =
 
 pub returns : goal.returns
 returns c = let told =
-    let p = c.before.before.before.before.before.before.before.before.before.before in
+    let p = c in
     rw (to_z-of_z p.ranges.w) at c.stop_at.ensures in record { value = told.0; buf_after = told.1 }

@@ -31,7 +31,7 @@ module _ (c : After-x-1) where
 
   small : nat_abs x ≤ addable
   unfolding entries
-  small = p.pre.2 (p.args.i + c.loop-q.q)
+  small = p.requires.2 (p.args.i + c.loop-q.q)
 
 pub overflow_sub-gathered : goal.overflow_sub-gathered
 overflow_sub-gathered c = difference_fits (p c).args.h (x c) (p c).requires.1 (small c)

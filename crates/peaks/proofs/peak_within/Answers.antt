@@ -30,7 +30,7 @@ module _ (c : After-magnitude-h) where
   at = c.before.before.before
 
   abbrev p : Start
-  p = at.before.before.before
+  p = c.before.before.before.before.before.before
 
   abbrev x : ℤ
   x = get_or p.args.coeffs.now at.loop-i.i 0ℤ

@@ -14,7 +14,7 @@ use Rattle.polynomial.proofs.polynomial.Goals as goal
 use Rattle.polynomial.proofs.polynomial.Goals.{Else-not-good_index, Else-not-known_kind, Else-w-lt1, Start}
 
 known : (c : Else-not-known_kind) → known_kind c.args.kind ≡ true
-known c = sym c.known_kind.ensures ∙ not-false _ c.if-not-known_kind.false
+known c = sym c.known_kind.ensures ∙ c.if-not-known_kind.false
 
 module _ (c : Else-not-good_index) where
   abbrev start : Start
@@ -24,19 +24,19 @@ module _ (c : Else-not-good_index) where
   kind_known = known c.before.before
 
   good : good_index start.args.n ≡ true
-  good = sym c.good_index.ensures ∙ not-false _ c.if-not-good_index.false
+  good = sym c.good_index.ensures ∙ c.if-not-good_index.false
 
 pub returns-then-not-known_kind : goal.returns-then-not-known_kind
-returns-then-not-known_kind c = let p = c.before.before.before in
-    let k = sym c.known_kind.ensures ∙ not-true _ c.if-not-known_kind.true in
+returns-then-not-known_kind c = let p = c in
+    let k = sym c.known_kind.ensures ∙ c.if-not-known_kind.true in
     let s = at_kind p.args.kind p.args.n p.args.h p.args.w p.args.buf.now (ask_kind _ _ _ _ _ k) in record {
       value = c.refused.ensures ∙ s.0;
       buf_after = s.1;
     }
 
 pub returns-then-not-good_index : goal.returns-then-not-good_index
-returns-then-not-good_index c = let p = c.before.before.before.before.before in
-    let g = sym c.good_index.ensures ∙ not-true _ c.if-not-good_index.true in
+returns-then-not-good_index c = let p = c in
+    let g = sym c.good_index.ensures ∙ c.if-not-good_index.true in
     let s = at_index p.args.kind p.args.n p.args.h p.args.w p.args.buf.now
     (ask_index _ _ _ _ _ (known c.before.before.before) g) in record {
       value = c.refused-then-not-good_index.ensures ∙ s.0;
@@ -47,7 +47,7 @@ pub returns-then-h-lt1 : goal.returns-then-h-lt1
 returns-then-h-lt1 c = let t = c.before.before in
     let p = start t in
     let s = at_limit p.args.kind p.args.n p.args.h p.args.w p.args.buf.now
-    (ask_limit _ _ _ _ _ (kind_known t) (good t) (rw (below_one_lem p.args.h p.fits.h
+    (ask_limit _ _ _ _ _ (kind_known t) (good t) (rw (below_one_lem p.args.h p.ranges.h
     c.if-h-lt1.true) refl)) in record {
       value = c.refused-then-h-lt1.ensures ∙ s.0;
       buf_after = s.1;
@@ -58,7 +58,7 @@ returns-then-w-lt1 c = let t = c.before.before.before in
     let p = start t in
     let s = at_limit p.args.kind p.args.n p.args.h p.args.w p.args.buf.now
     (ask_limit _ _ _ _ _ (kind_known t) (good t)
-    (rw (below_one_lem p.args.w p.fits.w c.if-w-lt1.true) (or-true (below_one p.args.h)))) in record {
+    (rw (below_one_lem p.args.w p.ranges.w c.if-w-lt1.true) (or-true (below_one p.args.h)))) in record {
       value = c.refused-then-w-lt1.ensures ∙ s.0;
       buf_after = s.1;
     }
@@ -69,15 +69,15 @@ module _ (c : Else-w-lt1) where
   asked = start c.before.before
 
   good_h : below_one asked.args.h ≡ false
-  good_h = below_one_lem asked.args.h asked.fits.h c.if-h-lt1.false
+  good_h = below_one_lem asked.args.h asked.ranges.h c.if-h-lt1.false
 
   good_w : below_one asked.args.w ≡ false
-  good_w = below_one_lem asked.args.w asked.fits.w c.if-w-lt1.false
+  good_w = below_one_lem asked.args.w asked.ranges.w c.if-w-lt1.false
 
 pub answer_in-requires : goal.answer_in-requires
 answer_in-requires c =
     let e = c.before.before.before.before in
-    let t = e.before.before in
+    let t = c.before.before.before.before.before.before in
     let w = read_limit (asked e).args.w (asked e).ranges.w (good_w e) c.magnitude-2.ensures in (
       c.take_apart-parts.ensures ∙ taken_good _ (good t),
       kind_known t,

@@ -30,7 +30,7 @@ size_in-requires c = (_, c.requires)
 
 pub returns-then-bytes-size_in : goal.returns-then-bytes-size_in
 returns-then-bytes-size_in c =
-    let start = c.before.before.before in
+    let start = c in
     sym (code_cut _ _ _ start.requires (omega (arith, c.size_in.ensures)))
 
 pub count_in-requires : goal.count_in-requires
@@ -51,29 +51,29 @@ uneven_in-uneven-requires c =
 
 pub returns-then-not-right : goal.returns-then-not-right
 returns-then-not-right c =
-    let looked = c.before.before in
-    let roomy = looked.before in
-    let long = roomy.before.before in
+    let looked = c in
+    let roomy = c.before.before.before in
+    let long = c.before.before.before.before.before in
     sym (code_wide _ _ _ (from long).requires (whole long) (room roomy)
-    (sym looked.right_in-right.ensures ∙ not-true _ c.if-not-right.true))
+    (sym looked.right_in-right.ensures ∙ c.if-not-right.true))
 
 -- the width is right
 wide : (c : Else-not-right) → let start = from c.before.before.before.before.before in
     eqb (width (stored_in start.args.form start.args.bytes.now)) (width_in start.args.bytes.now) ≡ true
-wide c = sym c.right_in-right.ensures ∙ not-false _ c.if-not-right.false
+wide c = sym c.right_in-right.ensures ∙ c.if-not-right.false
 
 pub returns-then-uneven : goal.returns-then-uneven
 returns-then-uneven c =
     let e = c.before in
-    let roomy = e.before.before.before in
-    let long = roomy.before.before in
+    let roomy = c.before.before.before.before in
+    let long = c.before.before.before.before.before.before in
     sym (code-uneven _ _ _ (from long).requires (whole long) (room roomy) (wide e)
     (sym e.uneven_in-uneven.ensures ∙ c.if-uneven.true))
 
 pub returns : goal.returns
 returns c =
     let e = c.before in
-    let roomy = e.before.before.before in
-    let long = roomy.before.before in
+    let roomy = c.before.before.before.before in
+    let long = c.before.before.before.before.before.before in
     sym (code_done _ _ _ (from long).requires (whole long) (room roomy) (wide e)
     (sym e.uneven_in-uneven.ensures ∙ c.if-uneven.false))

@@ -10,19 +10,19 @@ use Rattle.forms.proofs.Reading.{length-stored}
 use Rattle.reading.proofs.deliver.Goals as goal
 
 pub fill_stored-requires : goal.fill_stored-requires
-fill_stored-requires c = rw c.enum_told-1.given.1 at c.requires
+fill_stored-requires c = rw c.in-Whole.is at c.requires
 
 pub rebuild-requires : goal.rebuild-requires
-rebuild-requires c = rw c.enum_told-in-Half-1.given.1 at c.requires
+rebuild-requires c = rw c.in-Half.is at c.requires
 
 pub returns-in-Whole : goal.returns-in-Whole
 unfolding coefficients_in
 returns-in-Whole c =
-    let told = c.before.before.before in
+    let told = c in
     let bs = told.args.bytes.now in
-    rw told.enum_told-1.given.1 (c.fill_stored.ensures
+    rw told.in-Whole.is (c.fill_stored.ensures
     ∙ ap (λ (k : ℕ). stored_in Whole bs ++ drop k told.args.coeffs.now)
     (length-stored Whole bs))
 
 pub returns-in-Half : goal.returns-in-Half
-returns-in-Half c = rw c.enum_told-in-Half-1.given.1 c.rebuild.ensures
+returns-in-Half c = rw c.in-Half.is c.rebuild.ensures

@@ -20,8 +20,8 @@ stored_in-requires c = (_, (good c.before.before).header)
 
 pub fill-requires : goal.fill-requires
 fill-requires c =
-    let stored = c.before in
-    let start = stored.before.before.before in
+    let stored = c in
+    let start = c.before.before.before.before in
     let wide = stored.width_in.ensures in
     let g = good start in
     let k = stored.stored_in.ensures.0 in (
@@ -32,8 +32,8 @@ fill-requires c =
 
 pub returns : goal.returns
 returns c =
-    let stored = c.before.before.before in
-    let start = stored.before.before.before in
+    let stored = c in
+    let start = c.before.before.before.before.before.before in
     let k = stored.stored_in.ensures.0 in
     filled_in _ _ _ _ stored.width_in.ensures k start.args.coeffs.now _
     (omega (arith, (good start).ranges, k, stored-le start.args.form (count_in start.args.bytes.now)))

@@ -7,6 +7,6 @@ use Rattle.reading.proofs.look.Goals as goal
 
 pub returns : goal.returns
 returns c =
-    let known = c.before in
+    let known = c in
     let bs = known.args.bytes.now in
     c.code_of.ensures ∙ look_room _ bs (bytes_each bs (λ i. (known.type_inv.bytes i).fits))

@@ -32,7 +32,7 @@ negates_in-requires c = (right _ _ c.requires.0).long
 pub returns-then-not-negates_in : goal.returns-then-not-negates_in
 returns-then-not-negates_in c =
     middle_plain (from c.before.before).args.bytes.now
-    (sym c.negates_in.ensures ∙ not-true _ c.if-not-negates_in.true)
+    (sym c.negates_in.ensures ∙ c.if-not-negates_in.true)
 
 pub returns-then-count-eq0 : goal.returns-then-count-eq0
 returns-then-count-eq0 c =
@@ -48,7 +48,7 @@ stored : (c : Else-count-eq0) → let counted = c.before.before.before in
 stored c =
     let counted = c.before.before.before in
     let bs = (from counted).args.bytes.now in
-    let known = counted.before.before in
+    let known = c in
     let k = counted.count_in-count.result in
     let w = counted.width_in-w.result in
     let wide = counted.width_in-w.ensures in
@@ -76,12 +76,12 @@ get-requires c =
 
 pub returns : goal.returns
 returns c =
-    let e = c.before in
-    let counted = e.before.before.before in
+    let e = c in
+    let counted = c.before.before.before.before in
     let there = counted.count_in-count.ensures in
     middle_is (from counted).args.bytes.now _ _ counted.width_in-w.ensures
     (c.get.ensures.0
     ∙ ap (λ (k : ℕ). number_at counted.width_in-w.result (10 + k / 2 * counted.width_in-w.result)
     (from counted).args.bytes.now) there)
-    (sym e.negates_in.ensures ∙ not-false _ e.if-not-negates_in.false)
+    (sym e.negates_in.ensures ∙ e.if-not-negates_in.false)
     (λ z. e.if-count-eq0.false (ap (λ (k : ℕ). k % 2) there ∙ z))

@@ -11,7 +11,7 @@ told-requires c = (_, sym c.code_of-code.ensures)
 
 pub returns-then-code-ne-DONE : goal.returns-then-code-ne-DONE
 returns-then-code-ne-DONE c = let told =
-    let start = c.before.before.before.before in
+    let start = c in
     told c.told.ensures
     (refused start.args.form start.args.bytes.now start.args.coeffs.now _
     (sym c.code_of-code.ensures) c.if-code-ne-DONE.true) in record { answer = told.0; leaves = told.1 }
@@ -20,8 +20,8 @@ pub told-requires-2 : goal.told-requires-2
 told-requires-2 c = (_, sym c.code_of-code.ensures)
 
 pub returns : goal.returns
-returns c = let tested = c.before.before.before.before in
-    let start = tested.before.before.before in
+returns c = let tested = c in
+    let start = c in
     let code = sym tested.code_of-code.ensures ∙ tested.if-code-ne-DONE.false in
     let p = by_code start.args.form start.args.bytes.now start.args.coeffs.now DONE code in record {
       answer = c.told-2.ensures ∙ rw tested.if-code-ne-DONE.false p.0;

@@ -72,7 +72,7 @@ returns c =
     let k = c.before.before.before.before in
     let bs = (from k).args.bytes.now in
     whole-made k.count_in-count.result (stored_in Half bs) (from k).args.coeffs.now _ (half_is k) (fits k)
-    k.fill_stored.ensures c.negates_in.result c.mirror.new.0
+    k.fill_stored.ensures c.negates_in.result c.mirror.new.a
     c.mirror.ensures
     ∙ ap₂ (λ (s : Bool) (n : ℕ). rebuilt s n (stored_in Half bs) ++ drop n (from k).args.coeffs.now)
     c.negates_in.ensures k.count_in-count.ensures

@@ -13,7 +13,7 @@ stored_in-requires c = (_, c.requires.0)
 
 pub right_width-requires : goal.right_width-requires
 right_width-requires c =
-    let start = c.before.before.before in
+    let start = c in
     let wide = c.width_in.ensures in (
       rw wide (right _ _ start.requires.0).wide,
       omega (
@@ -25,5 +25,5 @@ right_width-requires c =
 
 pub returns : goal.returns
 returns c =
-    let stored = c.before in
+    let stored = c in
     c.right_width.ensures ∙ seen_in _ _ _ _ stored.width_in.ensures stored.stored_in.ensures.0

@@ -13,7 +13,7 @@ width_in-w-requires c = (right _ _ c.requires.1).long
 
 small : (c : After-stored_in) → c.stored_in.result * c.width_in-w.result ≤ 524288
 small c =
-    let wide = c.before in
+    let wide = c in
     few c.stored_in.result wide.width_in-w.result c.stored_in.ensures.1
     (in_bounds _ _ _ wide.width_in-w.ensures wide.requires.1).1
 

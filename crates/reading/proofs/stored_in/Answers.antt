@@ -14,7 +14,7 @@ count_in-requires c = (right _ _ c.requires.1).long
 
 small : (c : After-count_in) → c.count_in.result ≤ 65536
 small c =
-    let known = c.before in
+    let known = c in
     let bs = known.args.bytes.now in
     omega (
       arith,

@@ -36,9 +36,9 @@ index_in-requires c = (right _ _ (done c.before.before.before)).long
 
 pub returns-then-code-eq-DONE : goal.returns-then-code-eq-DONE
 returns-then-code-eq-DONE c =
-    let counted = c.before.before.before in
+    let counted = c in
     rw counted.if-code-eq-DONE.true (all_told _ _ _ _ _ _
-    (omega (arith, counted.count_in.ensures, (right _ _ (done counted.before)).count))
+    (omega (arith, counted.count_in.ensures, (right _ _ (done c.before.before.before.before)).count))
     c.size_in.ensures
     c.kind_in.ensures c.index_in.ensures.0)
 
@@ -50,11 +50,11 @@ overflow_sub-count_in c = omega (arith, c.count_in-then-code-eq-SHORT.ensures, (
 
 pub returns-then-code-eq-SHORT : goal.returns-then-code-eq-SHORT
 returns-then-code-eq-SHORT c =
-    let counted = c.before in
+    let counted = c in
     c.refused.ensures ∙ rw counted.if-code-eq-SHORT.true (short-told _ _ _
-    (omega (arith, counted.count_in-then-code-eq-SHORT.ensures, (right _ _ (short counted.before)).count)))
+    (omega (arith, counted.count_in-then-code-eq-SHORT.ensures, (right _ _ (short c.before.before)).count)))
 
 pub returns : goal.returns
 returns c =
-    let e = c.before.before in
+    let e = c in
     c.refused-2.ensures ∙ other-told _ _ _ _ e.if-code-eq-DONE.false e.if-code-eq-SHORT.false c.byte_of.ensures

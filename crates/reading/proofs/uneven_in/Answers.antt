@@ -4,7 +4,7 @@ use borrow.Author.Rules.{rules}
 use Rattle.reading.proofs.uneven_in.Goals as goal
 
 pub middle_in-requires : goal.middle_in-requires
-middle_in-requires c = rw c.enum_told-in-Half-1.given.1 at c.requires
+middle_in-requires c = rw c.in-Half.is at c.requires
 
 pub returns-in-Half : goal.returns-in-Half
-returns-in-Half c = c.middle_in.ensures ∙ rw c.enum_told-in-Half-1.given.1
+returns-in-Half c = c.middle_in.ensures ∙ rw c.in-Half.is

@@ -23,15 +23,15 @@ slice_bounds-repeat-end-2 c = sym (length-take-le _ _ (omega arith))
 
 pub repeat-requires : goal.repeat-requires
 repeat-requires c =
-    let p = c.before in
+    let p = c in
     (p.requires.le_t.0, omega (arith, length-take-le p.args.d p.args.a.now p.requires.le_t.2))
 
 pub overflow_sub-row : goal.overflow_sub-row
-overflow_sub-row c = let p = c.before.before.before in omega (arith, mod-lt p.args.d p.requires.le_t.0)
+overflow_sub-row c = let p = c in omega (arith, mod-lt p.args.d p.requires.le_t.0)
 
 pub loop-x-init : goal.loop-x-init
 loop-x-init c =
-    let p = c.before.before.before in
+    let p = c in
     let d = p.args.d in
     let rest = mod-lt d p.requires.le_t.0 in
     let len = written-length p.args.t d p.args.a.now p.requires.le_t.0 p.requires.le_t.1 p.requires.le_t.2
@@ -56,22 +56,22 @@ module _ (at : At-loop-x) where
   l = p.args.a.now
 
   abbrev f : Series
-  f = old p.args.t p.args.d l p.pre.0.0 p.pre.0.1 p.pre.0.2
+  f = old p.args.t p.args.d l p.requires.le_t.0 p.requires.le_t.1 p.requires.le_t.2
 
   same : length at.loop-x.a ≡ length l
   same =
       at.loop-x.inv.0
-      ∙ written-length p.args.t p.args.d l p.pre.0.0 p.pre.0.1 p.pre.0.2
+      ∙ written-length p.args.t p.args.d l p.requires.le_t.0 p.requires.le_t.1 p.requires.le_t.2
       at.repeat.ensures
 
   comes : Again p.args.t f
-  comes = old_again p.args.t p.args.d l p.pre.0.0 p.pre.0.1 p.pre.0.2
+  comes = old_again p.args.t p.args.d l p.requires.le_t.0 p.requires.le_t.1 p.requires.le_t.2
 
   so_far : (k : ℕ) → k < at.loop-x.x + p.args.d % p.args.t → k < length l
       → entries at.loop-x.a k ≡ accumulated p.args.d f k
   so_far k h below =
       at.loop-x.inv.7 f comes
-      (written p.args.t p.args.d l p.pre.0.0 p.pre.0.1 p.pre.0.2
+      (written p.args.t p.args.d l p.requires.le_t.0 p.requires.le_t.1 p.requires.le_t.2
       at.repeat.ensures) k h (omega (arith, same, at.loop-x.inv.0))
 
 pub sum_row-requires : goal.sum_row-requires
@@ -93,7 +93,7 @@ sum_row-requires c = let at = c.before.before.before in
           (at.loop-x.x + p.args.d % p.args.t) (omega (arith, inv.2)) (inv.6 (f at) (comes at)).1
           (omega arith) (omega (arith, inv.2)) (so_far at) k h (omega (arith, to, inv.2)) (omega (arith, to, inv.2))
           (omega (arith, to, inv.2)) below)
-          (fits p.args.t p.args.d (l at) p.pre.0.0 p.pre.0.1 p.pre.0.2 p.pre.1 k
+          (fits p.args.t p.args.d (l at) p.requires.le_t.0 p.requires.le_t.1 p.requires.le_t.2 p.requires.a_value k
           (omega (arith, inv.2)) below);
     }
 
@@ -126,5 +126,5 @@ pub returns : goal.returns
 returns c =
     let at = c.before in
     let p = p at in
-    all_summed p.args.t p.args.d (l at) p.pre.0.0 p.pre.0.1 p.pre.0.2 at.loop-x.a (same at)
+    all_summed p.args.t p.args.d (l at) p.requires.le_t.0 p.requires.le_t.1 p.requires.le_t.2 at.loop-x.a (same at)
     (λ k below. so_far at k (omega (arith, same at, at.loop-x.invariant.0)) below)

@@ -18,7 +18,7 @@ loop-i-init c = (c.requires.0, omega arith, c.requires.1, omega arith, λ f a b.
 pub loop-i-preserved : goal.loop-i-preserved
 unfolding entries
 loop-i-preserved c =
-    let q = c.before.before.before.before.before.before in
+    let q = c in
     let r = c.read_entry-x.ensures in
     let m = c.put.ensures in (
       q.loop-i.invariant.0,

@@ -18,8 +18,8 @@ copy_up-requires c =
 pub returns : goal.returns
 unfolding repeated
 returns c =
-    let q = c.before.before.before.before in
-    let p = q.before.before.before in
+    let q = c in
+    let p = c in
     let f = q.far_back-far.ensures in
     told-again p.args.d _ p.args.a.now _ _ p.requires.0 f.0 f.1 q.copy_up.ensures f.2
     c.copy_up-2.ensures

@@ -14,12 +14,12 @@ use Rattle.request_lines.proofs.is_good_with.Goals as goal
 pub returns-then-kind-eq0 : goal.returns-then-kind-eq0
 unfolding is_good_with
 returns-then-kind-eq0 c =
-    let s = c.before.before in
+    let s = c in
     simp (unknown _ (sym s.requires ∙ c.if-kind-eq0.true))
 
 pub returns-then-not-between : goal.returns-then-not-between
 unfolding is_good_with
-returns-then-not-between c = simp (← c.between.ensures, not-true c.between.result c.if-not-between.true, and-false)
+returns-then-not-between c = simp (← c.between.ensures, c.if-not-between.true, and-false)
 
 pub returns-then-not-between-2 : goal.returns-then-not-between-2
 unfolding is_good_with
@@ -34,7 +34,7 @@ overflow_add-a c =
     omega (
       arith,
       nine_range _ (sym c.between.ensures
-          ∙ not-false _ c.if-not-between.false),
+          ∙ c.if-not-between.false),
     )
 
 pub returns-then-byte_at-ne32-2 : goal.returns-then-byte_at-ne32-2
@@ -46,7 +46,7 @@ overflow_add-result c =
     omega (
       arith,
       nine_range _ (sym c.between.ensures
-          ∙ not-false _ c.if-not-between.false),
+          ∙ c.if-not-between.false),
     )
 
 pub overflow_add-result-2 : goal.overflow_add-result-2
@@ -54,22 +54,22 @@ overflow_add-result-2 c =
     omega (
       arith,
       nine_range _ (sym c.between.ensures
-          ∙ not-false _ c.if-not-between.false),
+          ∙ c.if-not-between.false),
       nine_range _ (sym c.between-2.ensures
-          ∙ not-false _ c.if-not-between-2.false),
+          ∙ c.if-not-between-2.false),
     )
 
 pub returns : goal.returns
 unfolding is_good_with
 returns c =
-    let s = c.before.before.before.before.before.before.before.before.before.before in
+    let s = c in
     simp (
       known (get_or s.args.line.now 0 0)
           (λ e. c.if-kind-eq0.false (s.requires ∙ e)),
       sym c.between.ensures
-          ∙ not-false _ c.if-not-between.false,
+          ∙ c.if-not-between.false,
       sym c.between-2.ensures
-          ∙ not-false _ c.if-not-between-2.false,
+          ∙ c.if-not-between-2.false,
       ap (λ x. eqb x 32) (sym c.byte_at.ensures)
           ∙ eq-eqb _ _ c.if-byte_at-ne32.false,
       ap (λ x. eqb x 32) (sym c.byte_at-2.ensures) ∙ eq-eqb _ _ c.if-byte_at-ne32-2.false,

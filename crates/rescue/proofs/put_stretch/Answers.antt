@@ -11,25 +11,25 @@ use Rattle.rescue.proofs.put_stretch.Goals.{After-put_number-p}
 -- the first number's digits are few
 short : (c : After-put_number-p) → c.put_number-p.result ≤ 20
 short c =
-    let start = c.before.before.before in
+    let start = c in
     omega (arith, c.put_number-p.ensures.place, length_machine start.args.start start.ranges.start.fits)
 
 pub put_item-p-requires : goal.put_item-p-requires
 put_item-p-requires c =
     let first = c.before.before.before in
-    omega (arith, short first, first.put_number-p.auto.0)
+    omega (arith, short first, first.put_number-p.auto.out)
 
 pub put_text-requires : goal.put_text-requires
 put_text-requires c =
-    let second = c.before.before.before.before in
-    let first = second.before.before.before.before in
-    omega (arith, short first, first.put_number-p.auto.0, second.put_item-p.ensures.upper_bound, second.put_item-p.auto.0)
+    let second = c in
+    let first = c.before.before.before.before.before.before.before.before.before in
+    omega (arith, short first, first.put_number-p.auto.out, second.put_item-p.ensures.upper_bound, second.put_item-p.auto.out)
 
 pub returns : goal.returns
 unfolding line_of
-returns c = let last = c.before.before in
-    let second = last.before.before.before.before.before in
-    let first = second.before.before.before.before in record {
+returns c = let last = c in
+    let second = c in
+    let first = c.before.before.before.before.before.before.before.before.before.before.before.before in record {
       puts = then first.put_number-p.ensures (then second.put_item-p.ensures.puts last.put_text.ensures);
       upper_bound = omega (arith, short first, second.put_item-p.ensures.upper_bound, last.put_text.ensures.place);
     }

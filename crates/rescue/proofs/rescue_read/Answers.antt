@@ -42,9 +42,9 @@ module _ (shelf out list out' list' : List ℕ) (entries : ℕ) (r : Rescued)
 
 all : (c : After-rescue-rescued) →
     Delivered c.args.shelf.now
-    c.rescue-rescued.new.1.0 c.rescue-rescued.new.1.1.0 c.rescue-rescued.result
+    c.rescue-rescued.new.out c.rescue-rescued.new.list c.rescue-rescued.result
 all c =
-    let known = c.before.before.before.before.before.before.before in
+    let known = c in
     let shelf = known.args.shelf.now in
     let out = c.byte_room-out in
     let list = c.list_room-list in
@@ -62,7 +62,7 @@ slice_bounds-out-end c = omega (arith, (all c.before.before.before).kept_in_lem)
 pub slice_bounds-write_kept-end : goal.slice_bounds-write_kept-end
 slice_bounds-write_kept-end c =
     let r = c.before.before.before.before in
-    omega (arith, length-take-le r.rescue-rescued.result.kept r.rescue-rescued.new.1.0 (all r).kept_in_lem)
+    omega (arith, length-take-le r.rescue-rescued.result.kept r.rescue-rescued.new.out (all r).kept_in_lem)
 
 pub write_kept-requires : goal.write_kept-requires
 write_kept-requires c = (all c.before.before.before.before).keeps

@@ -12,8 +12,8 @@ use Rattle.rescue.proofs.say_stretches.Goals as goal
 
 pub say_stretch-requires : goal.say_stretch-requires
 say_stretch-requires c =
-    let turn = c.before.before.before in
-    let start = turn.before.before.before in
+    let turn = c in
+    let start = c in
     let a = start.args in
     let all = start.requires.list_value in
     let long : length (listed a.shelf.now) ≡ 2 * a.count =

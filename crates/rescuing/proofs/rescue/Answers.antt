@@ -21,7 +21,7 @@ done asked e =
 
 pub returns-then-is_short : goal.returns-then-is_short
 returns-then-is_short c = let told =
-    let asked = c.before.before.before.before.before in
+    let asked = c in
     let a = asked.args in
     let r = refused a.shelf.now a.out-1.now a.list-1.now (length a.coeffs-1.now)
     (sym c.if-is_short.true ∙ asked.is_short.ensures.value) in
@@ -34,8 +34,8 @@ write_all-written-requires c =
 
 pub returns : goal.returns
 returns c = let told =
-    let w = c.before.before.before.before.before.before.before.before.before in
-    let asked = w.before.before.before.before.before.before in
+    let w = c in
+    let asked = c.before.before.before.before.before.before.before.before.before.before.before.before.before.before.before in
     let a = asked.args in
     let e = w.write_all-written.ensures in
     let r = delivered a.shelf.now a.out-1.now a.list-1.now (length a.coeffs-1.now)

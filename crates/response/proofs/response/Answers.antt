@@ -18,10 +18,10 @@ use Rattle.response.proofs.response.Goals as goal
 
 pub returns-then-not-inside : goal.returns-then-not-inside
 returns-then-not-inside c =
-    let start = c.before.before.before in
+    let start = c in
     c.refused.ensures
     ∙ sym (outside-answer start.args.coeffs.now start.args.at
-    (sym c.inside.ensures ∙ not-true _ c.if-not-inside.true))
+    (sym c.inside.ensures ∙ c.if-not-inside.true))
 
 pub loop-left-init : goal.loop-left-init
 unfolding of_bits
@@ -31,7 +31,7 @@ loop-left-init c =
 
 pub returns-then-coarse : goal.returns-then-coarse
 returns-then-coarse c =
-    let met = c.before.before in
+    let met = c in
     let in-loop = met.before.before in
     let loop = in-loop.before in
     let entered = loop.before in
@@ -40,7 +40,7 @@ returns-then-coarse c =
     let left = loop.loop-left.left in
     let this = to_z-of_z {w = w64} {z = get_or cs (left - 1) 0ℤ} (record { sfits = met.c-1.given }) in
     let first = sym (met.coarse.ensures ∙ ap is_coarse this) ∙ c.if-coarse.true in
-    let inside = sym entered.inside.ensures ∙ not-false _ entered.if-not-inside.false in
+    let inside = sym entered.inside.ensures ∙ entered.if-not-inside.false in
     c.refused-then-coarse.ensures
     ∙ sym (coarse_answer cs start.args.at inside
     (coarse_some cs (left - 1) (coarse_more cs left (omega arith) (omega arith) ∙ rw first refl)))
@@ -50,7 +50,7 @@ next-running-requires c = sym c.coarse.ensures ∙ c.if-coarse.false
 
 pub loop-left-preserved : goal.loop-left-preserved
 loop-left-preserved c =
-    let met = c.before.before in
+    let met = c in
     let in-loop = met.before.before in
     let loop = in-loop.before in
     let start = loop.before.before.before in
@@ -66,11 +66,11 @@ loop-left-preserved c =
 
 pub returns : goal.returns
 returns c =
-    let loop = c.before in
-    let entered = loop.before in
-    let start = entered.before.before in
+    let loop = c in
+    let entered = c in
+    let start = c in
     let cs = start.args.coeffs.now in
     let none : loop.loop-left.left ≡ 0 = omega arith in
-    let inside = sym entered.inside.ensures ∙ not-false _ entered.if-not-inside.false in
+    let inside = sym entered.inside.ensures ∙ entered.if-not-inside.false in
     rw (loop.loop-left.invariant.0, none)
     (sym (delivered cs start.args.at inside (rw none at loop.loop-left.invariant.1)))

@@ -14,7 +14,7 @@ use Rattle.second.proofs.second.Goals as goal
 use Rattle.second.proofs.second.Goals.{Else-h-lt1, Else-not-good_index, Else-not-known_kind, Start}
 
 known : (c : Else-not-known_kind) → known_kind c.args.kind ≡ true
-known c = sym c.known_kind.ensures ∙ not-false _ c.if-not-known_kind.false
+known c = sym c.known_kind.ensures ∙ c.if-not-known_kind.false
 
 module _ (c : Else-not-good_index) where
   abbrev start : Start
@@ -24,20 +24,20 @@ module _ (c : Else-not-good_index) where
   kind_known = known c.before.before
 
   good : good_index start.args.n ≡ true
-  good = sym c.good_index.ensures ∙ not-false _ c.if-not-good_index.false
+  good = sym c.good_index.ensures ∙ c.if-not-good_index.false
 
 pub returns-then-not-known_kind : goal.returns-then-not-known_kind
 returns-then-not-known_kind c = let told =
-    let p = c.before.before.before in
-    let k = sym c.known_kind.ensures ∙ not-true _ c.if-not-known_kind.true in
+    let p = c in
+    let k = sym c.known_kind.ensures ∙ c.if-not-known_kind.true in
     let s = at_kind p.args.kind p.args.n p.args.h p.args.buf.now p.args.scratch.now
     (ask_kind _ _ _ _ _ k) in
     (c.refused.ensures ∙ s.0, s.1) in record { value = told.0; buf_after = told.1; scratch_after = told.2 }
 
 pub returns-then-not-good_index : goal.returns-then-not-good_index
 returns-then-not-good_index c = let told =
-    let p = c.before.before.before.before.before in
-    let g = sym c.good_index.ensures ∙ not-true _ c.if-not-good_index.true in
+    let p = c in
+    let g = sym c.good_index.ensures ∙ c.if-not-good_index.true in
     let s = at_index p.args.kind p.args.n p.args.h p.args.buf.now p.args.scratch.now
     (ask_index _ _ _ _ _ (known c.before.before.before) g) in
     (c.refused-then-not-good_index.ensures ∙ s.0, s.1) in record { value = told.0; buf_after = told.1; scratch_after = told.2 }
@@ -47,26 +47,26 @@ returns-then-h-lt1 c = let told =
     let t = c.before.before in
     let p = start t in
     let s = at_limit p.args.kind p.args.n p.args.h p.args.buf.now p.args.scratch.now
-    (ask_limit _ _ _ _ _ (kind_known t) (good t) (below_one_lem p.args.h p.fits.h c.if-h-lt1.true)) in
+    (ask_limit _ _ _ _ _ (kind_known t) (good t) (below_one_lem p.args.h p.ranges.h c.if-h-lt1.true)) in
     (c.refused-then-h-lt1.ensures ∙ s.0, s.1) in record { value = told.0; buf_after = told.1; scratch_after = told.2 }
 
 -- the limit is good
 good_h : (c : Else-h-lt1) → below_one (start c.before).args.h ≡ false
-good_h c = let p = start c.before in below_one_lem p.args.h p.fits.h c.if-h-lt1.false
+good_h c = let p = start c.before in below_one_lem p.args.h p.ranges.h c.if-h-lt1.false
 
 pub answer_in-requires : goal.answer_in-requires
 answer_in-requires c =
     let e = c.before.before.before.before in
-    let p = start e.before in (
-      c.take_apart-parts.ensures ∙ taken_good _ (good e.before),
-      kind_known e.before,
-      good e.before,
-      (read_limit p.args.h p.fits.h (good_h e) c.magnitude.ensures).2.0,
+    let p = start c.before.before.before.before.before in (
+      c.take_apart-parts.ensures ∙ taken_good _ (good c.before.before.before.before.before),
+      kind_known c.before.before.before.before.before,
+      good c.before.before.before.before.before,
+      (read_limit p.args.h p.ranges.h (good_h e) c.magnitude.ensures).2.0,
     )
 
 pub returns : goal.returns
 returns c = let told =
     let e = c.before.before.before.before.before.before.before in
-    let p = start e.before in
-    rw (read_limit p.args.h p.fits.h (good_h e)
+    let p = start c.before.before.before.before.before.before.before.before in
+    rw (read_limit p.args.h p.ranges.h (good_h e)
     c.magnitude.ensures).1 at c.answer_in.ensures in record { value = told.0; buf_after = told.1; scratch_after = told.2 }

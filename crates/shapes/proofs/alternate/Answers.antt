@@ -22,7 +22,7 @@ loop-i-init c = (
 
 pub negate_to-requires : goal.negate_to-requires
 negate_to-requires c =
-    let q = c.before.before in (
+    let q = c in (
       omega arith,
       omega arith,
       rw (alternate_read (entries q.args.a.now) q.loop-i.invariant.2 q.loop-i.invariant.1 (omega arith))
@@ -31,7 +31,7 @@ negate_to-requires c =
 
 pub loop-i-preserved : goal.loop-i-preserved
 loop-i-preserved c =
-    let q = c.before.before.before.before in (
+    let q = c in (
       omega arith,
       omega arith,
       alternate-turn (entries q.args.a.now) q.loop-i.invariant.2 q.loop-i.invariant.1

@@ -33,7 +33,7 @@ put_signed-requires c =
 
 pub loop-i-preserved : goal.loop-i-preserved
 loop-i-preserved c = λ l p.
-    let q = c.before.before.before.before in
+    let q = c in
     let here = q.mirror_fours-i.ensures.split.len in
     let same : length l ≡ length q.args.a.now = sym p.split.len ∙ here in
     mirror-next (q.loop-i.invariant l p) _ (omega arith) (omega arith) c.put_signed.ensures

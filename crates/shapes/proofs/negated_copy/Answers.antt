@@ -18,7 +18,7 @@ loop-i-init c =
 
 pub negate_to-requires : goal.negate_to-requires
 negate_to-requires c =
-    let q = c.before.before in (
+    let q = c in (
       omega arith,
       omega arith,
       rw (copy_read q.args.r (entries q.args.a.now) q.loop-i.invariant.3 q.loop-i.invariant.1
@@ -27,7 +27,7 @@ negate_to-requires c =
 
 pub loop-i-preserved : goal.loop-i-preserved
 loop-i-preserved c =
-    let q = c.before.before.before.before in (
+    let q = c in (
       omega arith,
       omega arith,
       omega arith,

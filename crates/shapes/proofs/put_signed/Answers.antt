@@ -7,6 +7,6 @@ use Rattle.shapes.proofs.put_signed.Goals as goal
 
 pub returns : goal.returns
 returns c =
-    let q = c.before.before.before.before.before in
+    let q = c in
     let e = c.signed_entry-v.ensures in
     c.put.ensures ∙ ap (set q.args.a.now q.args.i) (handed e.1 e.0)

@@ -36,11 +36,11 @@ known : (c : At-loop-i)
     → Spreading c.args.t (entries c.args.a.now)
     (length c.args.a.now) c.loop-i.a c.loop-i.i c.loop-i.at
 known c =
-    let g = c.before.before in
-    let q = g.before.before in
+    let g = c in
+    let q = c in
     let l = q.args.a.now in
     c.loop-i.invariant.1 (entries l)
-    (spreading_start q.args.t q.args.top l g.clear.new.0 q.requires.0 q.requires.1
+    (spreading_start q.args.t q.args.top l g.clear.new.a q.requires.0 q.requires.1
     (g.clear.ensures ∙ ap zeros (mid_len (q.args.top + 1) (length l) l (omega arith)))
     _ refl)
 
@@ -49,26 +49,26 @@ inside : (c : At-loop-i) → c.loop-i.i < length c.loop-i.a
 inside c = omega (arith, (known c).len, at_least (known c) c.requires.0, c.loop-i.invariant.0)
 
 pub read_entry-x-requires : goal.read_entry-x-requires
-read_entry-x-requires c = inside c.before.before
+read_entry-x-requires c = inside c.before
 
 pub put-requires : goal.put-requires
-put-requires c = inside c.before.before.before.before
+put-requires c = inside c.before.before.before
 
 pub put-requires-in-loop-i : goal.put-requires-in-loop-i
 put-requires-in-loop-i c =
-    let g = c.before.before.before.before.before.before.before in
+    let g = c.before.before.before.before.before.before in
     let same = ap length c.put.ensures ∙ length-set g.loop-i.a g.loop-i.i _ in
     omega (arith, (known g).len, g.loop-i.invariant.0)
 
 pub overflow_sub-at-in-loop-i : goal.overflow_sub-at-in-loop-i
 overflow_sub-at-in-loop-i c =
-    let g = c.before.before.before.before.before.before.before.before.before in
+    let g = c.before.before.before.before.before.before.before.before in
     room (known g) (omega arith)
 
 pub loop-i-preserved : goal.loop-i-preserved
 loop-i-preserved c =
-    let g = c.before.before.before.before.before.before.before.before.before in
-    let q = g.before.before.before.before in
+    let g = c in
+    let q = c in
     let r = c.read_entry-x.ensures in (
       omega arith,
       λ e s.
@@ -81,5 +81,5 @@ shape_of-a c = (known c.before).len
 
 pub returns : goal.returns
 returns c =
-    let q = c.before.before.before.before.before in
+    let q = c in
     spreading_end (known c.before) q.requires.0 (omega arith)

@@ -8,7 +8,7 @@ use Rattle.squarefree_from_half.proofs.alternated.Goals as goal
 
 pub alternate-requires : goal.alternate-requires
 alternate-requires c =
-    let p = c.before.before.before.before in
+    let p = c in
     let e = c.mirrored.ensures in
     λ i h.
     let b = front_length _ _ _ e in
@@ -17,6 +17,6 @@ alternate-requires c =
 
 pub returns : goal.returns
 returns c =
-    let p = c.before.before.before.before.before.before in
+    let p = c in
     alternated (degree p.args.kind p.args.r + 1) (polynomial p.args.kind p.args.r) _ _
     c.mirrored.ensures c.alternate.ensures

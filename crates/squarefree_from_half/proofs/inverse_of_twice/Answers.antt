@@ -10,25 +10,25 @@ use borrow.Author.Rules.{rules}
 use Rattle.squarefree_from_half.proofs.inverse_of_twice.Goals as goal
 
 pub slice_bounds-alternated-end-2 : goal.slice_bounds-alternated-end-2
-slice_bounds-alternated-end-2 c = let p = c.before in sym (length-take-le p.args.top p.args.a.now (omega arith))
+slice_bounds-alternated-end-2 c = let p = c in sym (length-take-le p.args.top p.args.a.now (omega arith))
 
 pub alternated-requires : goal.alternated-requires
 alternated-requires c =
-    let p = c.before in (
+    let p = c in (
       lower-front 2 p.args.r p.args.top p.args.a.now (omega arith) p.requires.0,
       length-take-le p.args.top p.args.a.now (omega arith) ∙ p.requires.1,
     )
 
 pub second_copy-requires : goal.second_copy-requires
 second_copy-requires c =
-    let p = c.before.before.before.before in
+    let p = c in
     copy-front p.args.r p.args.top p.args.a.now _ p.requires.0 p.requires.1 p.requires.2
     c.alternated.ensures
 
 pub returns : goal.returns
 returns c =
-    let q = c.before.before.before.before in
-    let p = q.before.before in
+    let q = c in
+    let p = c in
     c.second_copy.ensures
     ∙ ap (λ k. firsts k (I (2 * p.args.r)))
     ((copy-front p.args.r p.args.top p.args.a.now _ p.requires.0 p.requires.1 p.requires.2

@@ -15,13 +15,13 @@ use Rattle.squarefree_from_half.proofs.mirrored.Goals as goal
 
 pub mirror-requires : goal.mirror-requires
 mirror-requires c =
-    let p = c.before in
+    let p = c in
     λ i h. let b = half-number p.args.kind p.args.r in let m = rw p.requires.1 at h in
     rw (p.requires.0.half i (omega arith)) (p.requires.0.inside i (omega arith))
 
 pub returns : goal.returns
 returns c =
-    let p = c.before.before.before in
+    let p = c in
     c.mirror.ensures
     ∙ ap (λ k. firsts k (mirrored_up (not (eqb p.args.kind 1)) k (entries p.args.a.now))) p.requires.1
     ∙ firsts_same (degree p.args.kind p.args.r + 1) _ (polynomial p.args.kind p.args.r)

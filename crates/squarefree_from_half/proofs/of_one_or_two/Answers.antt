@@ -13,7 +13,7 @@ slice_set_of-a c =
 
 pub returns : goal.returns
 returns c =
-    let p = c.before in
+    let p = c in
     tiny-whole p.args.kind p.args.even p.args.a.now _ p.requires.1
     (ap Rattle.step_laws.specs.Machine.seen c.first_of-first.ensures
     ∙ first-seen p.args.kind p.args.even p.requires.0)

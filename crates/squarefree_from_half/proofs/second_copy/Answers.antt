@@ -13,13 +13,13 @@ slice_bounds-clear-count c = top_below c.args.r c.args.top c.args.a.now c.requir
 
 pub negated_copy-requires : goal.negated_copy-requires
 negated_copy-requires c =
-    let p = c.before.before.before.before in
+    let p = c in
     let b = top_below p.args.r p.args.top p.args.a.now p.requires in
     let z = c.clear.ensures
     ∙ ap zeros (mid_len p.args.top p.args.r p.args.a.now (omega (arith, p.requires.len))) in
     let n = cleared_length p.args.r p.args.top p.args.a.now p.requires
-    c.clear.new.0 z in (
-      cleared_inside p.args.r p.args.top p.args.a.now p.requires c.clear.new.0 z,
+    c.clear.new.a z in (
+      cleared_inside p.args.r p.args.top p.args.a.now p.requires c.clear.new.a z,
       p.requires.squarefree.pos,
       omega (arith, n, p.requires.len),
       omega (arith, n, p.requires.len),
@@ -27,9 +27,9 @@ negated_copy-requires c =
 
 pub returns : goal.returns
 returns c =
-    let q = c.before.before.before.before in
-    let p = q.before.before in
+    let q = c in
+    let p = c in
     let z = q.clear.ensures
     ∙ ap zeros (mid_len p.args.top p.args.r p.args.a.now (omega (arith, p.requires.len))) in
-    second-done p.args.r p.args.top p.args.a.now p.requires q.clear.new.0 z _
+    second-done p.args.r p.args.top p.args.a.now p.requires q.clear.new.a z _
     c.negated_copy.ensures

@@ -9,7 +9,7 @@ use Rattle.streams.proofs.read_more.Goals as goal
 
 pub returns : goal.returns
 returns c = let read = c.before.before.read_Some in
-    let start = c.before.before.before.before.before in
+    let start = c in
     let at = start.args.at in
     let l = start.args.buffer.now in
     let rest = length l - at in record {

@@ -8,15 +8,6 @@ use Rattle.streams.proofs.read_some.Goals as goal
 pub loop-turns-init : goal.loop-turns-init
 loop-turns-init c = refl
 
-pub read-answer-requires : goal.read-answer-requires
-read-answer-requires c = tt
-
-pub interrupted-requires : goal.interrupted-requires
-interrupted-requires c = tt
-
-pub count-requires : goal.count-requires
-count-requires c = tt
-
 pub shape_of-chunk-then-not-interrupted : goal.shape_of-chunk-then-not-interrupted
 shape_of-chunk-then-not-interrupted c = c.read-answer.auto.1.0
     ∙ c.loop-turns.invariant

@@ -8,4 +8,4 @@ use Rattle.streams.proofs.say.Goals as goal
 pub slice_bounds-write_whole-end : goal.slice_bounds-write_whole-end
 slice_bounds-write_whole-end c =
     sym (length-take-le _ _
-    (omega (arith, c.put_line-n.ensures.upper_bound, c.put_line-n.auto.0)))
+    (omega (arith, c.put_line-n.ensures.upper_bound, c.put_line-n.auto.out)))

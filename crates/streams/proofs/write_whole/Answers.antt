@@ -5,12 +5,6 @@ use lib.ListN.{length, drop, length-take}
 use Rattle.streams.proofs.write_whole.Goals as goal
 use Rattle.streams.proofs.write_whole.Goals.{After-write_some-n}
 
-pub write_some-n-requires : goal.write_some-n-requires
-write_some-n-requires c = tt
-
-pub returns-then-n-eq0 : goal.returns-then-n-eq0
-returns-then-n-eq0 c = tt
-
 -- what was taken lies within what was left
 within : (c : After-write_some-n) → c.write_some-n.result
     ≤ length c.args.bytes.now - c.loop-done.done
@@ -31,6 +25,3 @@ loop-done-smaller c = omega (arith, within c.before)
 
 pub loop-done-preserved : goal.loop-done-preserved
 loop-done-preserved c = omega (arith, within c.before)
-
-pub returns : goal.returns
-returns c = tt

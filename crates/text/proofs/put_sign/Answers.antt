@@ -8,7 +8,7 @@ use borrow.Author.Rules.{rules}
 use Rattle.text.proofs.put_sign.Goals as goal
 
 pub returns-then-c-lt0 : goal.returns-then-c-lt0
-returns-then-c-lt0 c = let s = c.before.before.before.before.before.before in
+returns-then-c-lt0 c = let s = c in
     let put = c.put-p.ensures in
     let one = sign_below s.args.c (rw (to_z-of_z s.ranges.c) at c.if-c-lt0.true) in record {
       out_after = put.leaves;
@@ -16,7 +16,7 @@ returns-then-c-lt0 c = let s = c.before.before.before.before.before.before in
     }
 
 pub returns : goal.returns
-returns c = let s = c.before.before.before.before.before.before in
+returns c = let s = c in
     let none = sign_above s.args.c (rw (to_z-of_z s.ranges.c) at c.if-c-lt0.false) in record {
       out_after = c.put-p.ensures.leaves;
       value = omega (arith, ap length none);

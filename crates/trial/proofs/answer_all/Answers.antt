@@ -8,9 +8,3 @@ use Rattle.trial.proofs.answer_all.Goals as goal
 
 pub loop-at-init : goal.loop-at-init
 loop-at-init c = (refl, refl, refl)
-
-pub answer-requires : goal.answer-requires
-answer-requires c = tt
-
-pub returns : goal.returns
-returns c = tt

@@ -10,12 +10,12 @@ use Rattle.trial_census_doors.proofs.census_in.Goals.{After-census-arg-3-1}
 
 -- the rows' numbers and the entries that they are told by
 both_lent : (c : After-census-arg-3-1) →
-    let r = c.before.before.before in
+    let r = c in
     let a = r.args in
     (length (take r.room-s.result a.told-1.now) ≡ r.room-s.result)
     × (length (take r.room-s.result a.rows-1.now) ≡ r.room-s.result)
 both_lent c =
-    let r = c.before.before.before in
+    let r = c in
     let same = r.requires in
     (length-take-le _ _ (omega (arith, r.room-s.ensures, same)), length-take-le _ _ r.room-s.ensures)
 

@@ -6,7 +6,7 @@ use lib.ListN.{length}
 use Rattle.trial_output.proofs.spelled.Given as goal
 
 abbrev pub invariant-loop-i : goal.invariant-loop-i
-invariant-loop-i l = i ≤ length l.a
+invariant-loop-i l = l.i ≤ length l.a
 
 abbrev pub decreases-loop-i : goal.decreases-loop-i
-decreases-loop-i l = length l.a - i
+decreases-loop-i l = length l.a - l.i

@@ -19,10 +19,10 @@ module _ (q : After-degree_from-top) where
   start = q.before
 
   out : LaidOut start.args.kind start.args.n start.args.parts start.args.b.now q.degree_from-top.result
-  out = laid_out _ _ _ _ start.pre.0 _ q.degree_from-top.ensures
+  out = laid_out _ _ _ _ start.requires.0 _ q.degree_from-top.ensures
 
   parity : cond (eqb (start.args.n % 2) 0) (2 * start.args.parts.r) start.args.parts.r ≡ m_of start.args.n
-  parity = m_by_parity _ _ _ _ start.pre.0
+  parity = m_by_parity _ _ _ _ start.requires.0
 
 pub overflow_add-size : goal.overflow_add-size
 overflow_add-size c = omega (arith, (out c).top-room)
@@ -37,13 +37,13 @@ pub of_m-requires : goal.of_m-requires
 of_m-requires c =
     let q = c.before in
     let p = start q in
-    let r = r_is _ _ _ _ p.pre.0 in (
+    let r = r_is _ _ _ _ p.requires.0 in (
       lower-front p.args.kind p.args.parts.r (q.degree_from-top.result + 1) p.args.b.now
           (subst (λ x. degree p.args.kind x + 1 ≤ q.degree_from-top.result + 1) (sym r) (out q).r-room)
-          (subst (λ x. Lower p.args.kind x p.args.b.now) (sym r) p.pre.1),
-      p.pre.0.known,
-      free_is _ _ _ _ p.pre.0 ∙ ap phi (sym r),
-      subst (λ x. x ≤ 65535) (sym r) (r_small p.args.n p.pre.0.good),
+          (subst (λ x. Lower p.args.kind x p.args.b.now) (sym r) p.requires.1),
+      p.requires.0.known,
+      free_is _ _ _ _ p.requires.0 ∙ ap phi (sym r),
+      subst (λ x. x ≤ 65535) (sym r) (r_small p.args.n p.requires.0.good),
       (out q).part_of-m (parity q),
     )
 

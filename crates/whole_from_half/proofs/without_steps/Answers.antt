@@ -15,10 +15,10 @@ module _ (q : After-degree_from-top) where
   start = q.before
 
   out : LaidOut start.args.kind start.args.n start.args.parts start.args.b.now q.degree_from-top.result
-  out = laid_out _ _ _ _ start.pre.0 _ q.degree_from-top.ensures
+  out = laid_out _ _ _ _ start.requires.0 _ q.degree_from-top.ensures
 
   parity : cond (eqb (start.args.n % 2) 0) 2 1 ≡ m_of start.args.n
-  parity = tiny_m _ _ _ _ start.pre.0 start.pre.1
+  parity = tiny_m _ _ _ _ start.requires.0 start.requires.1
 
 pub overflow_add-size : goal.overflow_add-size
 overflow_add-size c = omega (arith, (out c).top-room)

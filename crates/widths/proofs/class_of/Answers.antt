@@ -28,12 +28,12 @@ overflow_add-most c = omega (arith, small c)
 pub returns-then-v-most : goal.returns-then-v-most
 returns-then-v-most c =
     let start = from c.before in
-    sym (lowest _ _ start.pre.0 start.pre.1 (omega arith))
+    sym (lowest _ _ start.requires.0 start.requires.1 (omega arith))
 
 pub returns-then-v-less : goal.returns-then-v-less
 returns-then-v-less c =
     let start = from c.before.before in
-    sym (small_above _ _ start.pre.0 start.pre.1 (omega arith))
+    sym (small_above _ _ start.requires.0 start.requires.1 (omega arith))
 
 pub overflow_add-most-2 : goal.overflow_add-most-2
 overflow_add-most-2 c = omega (arith, small c.before.before)
@@ -44,15 +44,15 @@ overflow_add-most-3 c = omega (arith, small c.before.before)
 pub overflow_sub-most : goal.overflow_sub-most
 overflow_sub-most c =
     let start = from c.before.before in
-    omega (arith, full start.args.w (width_bounds start.args.w start.pre.0).0)
+    omega (arith, full start.args.w (width_bounds start.args.w start.requires.0).0)
 
 pub returns-then-most-v : goal.returns-then-most-v
 returns-then-most-v c =
     let start = from c.before.before.before in
-    sym (small_below _ _ start.pre.0 start.pre.1 (omega arith))
+    sym (small_below _ _ start.requires.0 start.requires.1 (omega arith))
 
 pub returns : goal.returns
 returns c =
     let start = from c.before.before.before in
-    sym (between _ _ start.pre.0 start.pre.1 (λ e. c.if-v-most.false (omega arith)) (omega arith)
+    sym (between _ _ start.requires.0 start.requires.1 (λ e. c.if-v-most.false (omega arith)) (omega arith)
     (omega arith))

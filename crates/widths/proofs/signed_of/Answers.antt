@@ -24,16 +24,16 @@ whole_of-requires-else-v-most c = omega (arith, small c.before.before)
 
 pub returns-then-v-most : goal.returns-then-v-most
 returns-then-v-most c =
-    let start = c.before.before.before in
-    passed c.whole_of.result c.whole_of.type-inv ∙ c.whole_of.ensures
+    let start = c in
+    passed c.whole_of.result c.whole_of.type_inv ∙ c.whole_of.ensures
     ∙ signed_low start.args.w c.top_of-most.result start.args.v
     c.top_of-most.ensures
     c.if-v-most.true
 
 pub returns-else-v-most : goal.returns-else-v-most
 returns-else-v-most c =
-    let start = c.before.before.before in
-    passed c.whole_of-else-v-most.result c.whole_of-else-v-most.type-inv ∙ c.whole_of-else-v-most.ensures
+    let start = c in
+    passed c.whole_of-else-v-most.result c.whole_of-else-v-most.type_inv ∙ c.whole_of-else-v-most.ensures
     ∙ signed_high start.args.w c.top_of-most.result start.args.v start.requires.0
     c.top_of-most.ensures
     c.if-v-most.false

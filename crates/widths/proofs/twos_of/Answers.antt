@@ -39,7 +39,7 @@ overflow_cast-result-else-x-lt0 c =
 
 pub returns-then-x-lt0 : goal.returns-then-x-lt0
 returns-then-x-lt0 c =
-    let start = c.before.before in
+    let start = c in
     let x = start.args.x in
     let fit = start.ranges.x in
     omega (
@@ -52,6 +52,6 @@ returns-then-x-lt0 c =
 
 pub returns-else-x-lt0 : goal.returns-else-x-lt0
 returns-else-x-lt0 c =
-    let start = c.before.before in
+    let start = c in
     ap nat_abs (plain start.args.x start.ranges.x c.if-x-lt0.false) ∙ sym
     (twos-above start.args.x start.ranges.x c.if-x-lt0.false start.args.w)

@@ -10,7 +10,7 @@ returns-then-a-d c =
     let q = c.args in sym (wrapped_long (sort_means q.sort) q.d q.a-1.now c.if-a-d.true)
 
 pub returns-in-Comb : goal.returns-in-Comb
-returns-in-Comb c = rw c.enum_told-1.given.1 c.comb.ensures
+returns-in-Comb c = rw c.in-Comb.is c.comb.ensures
 
 pub returns-in-Accumulate : goal.returns-in-Accumulate
-returns-in-Accumulate c = rw c.enum_told-in-Accumulate-1.given.1 c.accumulate.ensures
+returns-in-Accumulate c = rw c.in-Accumulate.is c.accumulate.ensures

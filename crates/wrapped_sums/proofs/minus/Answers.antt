@@ -7,11 +7,11 @@ use Rattle.wrapped_sums.proofs.minus.Goals as goal
 
 pub returns : goal.returns
 returns c =
-    let q = c.before.before.before.before in
+    let q = c in
     handed (wrap_fits _)
     (c.of_bits.ensures
     ∙ difference_wraps q.args.x q.args.y q.ranges.x q.ranges.y
     (c.bits_of.ensures ∙ as_read q.ranges.x)
     (c.bits_of-2.ensures ∙ as_read q.ranges.y)
-    c.wrapping_sub_u64.ensures
-    (omega (arith, c.wrapping_sub_u64.type-inv)))
+    c.wrapping_sub_u64.ensures.value
+    (omega (arith, c.wrapping_sub_u64.type_inv)))

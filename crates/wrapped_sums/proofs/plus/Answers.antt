@@ -7,10 +7,10 @@ use Rattle.wrapped_sums.proofs.plus.Goals as goal
 
 pub returns : goal.returns
 returns c =
-    let q = c.before.before.before.before in
+    let q = c in
     handed (wrap_fits _)
     (c.of_bits.ensures
     ∙ sum_wraps q.args.x q.args.y q.ranges.x q.ranges.y
     (c.bits_of.ensures ∙ as_read q.ranges.x)
     (c.bits_of-2.ensures ∙ as_read q.ranges.y)
-    c.wrapping_add_u64.ensures)
+    c.wrapping_add_u64.ensures.value)

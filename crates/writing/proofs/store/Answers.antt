@@ -22,7 +22,7 @@ stored_at c = c.before.before.before
 pub overflow_cast-w : goal.overflow_cast-w
 overflow_cast-w c =
     let start = from c.before.before in
-    omega (arith, (width_fits start.args.coeffs.now start.args.w start.pre.1 start.pre.2).high)
+    omega (arith, (width_fits start.args.coeffs.now start.args.w start.requires.1 start.requires.2).high)
 
 pub put_header-requires : goal.put_header-requires
 put_header-requires c =
@@ -30,8 +30,8 @@ put_header-requires c =
     let start = from stored in
     omega (
       arith,
-      size-made start.args.form start.args.coeffs.now _ _ start.pre.1 stored.Stored-of.ensures.0,
-      start.pre.4,
+      size-made start.args.form start.args.coeffs.now _ _ start.requires.1 stored.Stored-of.ensures.0,
+      start.requires.4,
     )
 
 -- what is stored is a part of all
@@ -40,37 +40,37 @@ cut : (c : After-stored_of-k) → length (take c.Stored-of.result (from c).args.
 cut c = length-take-le c.Stored-of.result (from c).args.coeffs.now c.Stored-of.ensures.1
 
 pub slice_bounds-put_body-end : goal.slice_bounds-put_body-end
-slice_bounds-put_body-end c = sym (cut (stored_at c.before.before.before))
+slice_bounds-put_body-end c = sym (cut (stored_at c.before.before))
 
 pub put_body-requires : goal.put_body-requires
 put_body-requires c =
-    let header = c.before.before.before.before in
+    let header = c.before.before.before in
     let stored = stored_at header in
     let start = from stored in
     let cs = start.args.coeffs.now in
     let w = start.args.w in
     let k = stored.Stored-of.result in
-    let f = width_fits cs w start.pre.1 start.pre.2 in (
+    let f = width_fits cs w start.requires.1 start.requires.2 in (
       f.low,
       f.high,
       omega (arith, f.takes, height-take k cs),
       omega (
         arith,
         length-body w (take k cs) ∙ ap (λ (n : ℕ). n * w) (cut stored),
-        size-made start.args.form cs w k start.pre.1 stored.Stored-of.ensures.0,
-        header.put_header.auto.0,
-        start.pre.4,
+        size-made start.args.form cs w k start.requires.1 stored.Stored-of.ensures.0,
+        header.put_header.auto.bytes,
+        start.requires.4,
       ),
     )
 
 pub returns : goal.returns
 returns c =
-    let header = c.before.before.before.before.before.before.before in
+    let header = c.before.before.before.before.before.before in
     let stored = stored_at header in
     let start = from stored in
     let a = start.args in
     record_made a.form a.kind a.n a.w stored.Stored-of.result a.coeffs.now a.bytes-1.now _ _
-    start.pre.1 stored.Stored-of.ensures.0 start.pre.4
+    start.requires.1 stored.Stored-of.ensures.0 start.requires.4
     (header.put_header.ensures
     ∙ ap (λ (m : ℕ). sets a.bytes-1.now 0 (header_of m a.kind a.w a.n (length a.coeffs.now)))
     header.mark_of.ensures)

@@ -4,4 +4,4 @@ use borrow.Author.Rules.{rules}
 use Rattle.writing.proofs.uneven_for.Goals as goal
 
 pub returns-in-Half : goal.returns-in-Half
-returns-in-Half c = c.uneven.ensures ∙ rw (c.enum_told-in-Half-1.given.1, c.negates.ensures)
+returns-in-Half c = c.uneven.ensures ∙ rw (c.in-Half.is, c.negates.ensures)

@@ -13,27 +13,27 @@ use Rattle.writing.proofs.write.Goals.{Else-not-known_kind}
 
 -- the kind passed its test
 known : (c : Else-not-known_kind) → known_kind c.args.kind ≡ true
-known c = sym c.known_kind.ensures ∙ not-false _ c.if-not-known_kind.false
+known c = sym c.known_kind.ensures ∙ c.if-not-known_kind.false
 
 pub returns-then-not-known_kind : goal.returns-then-not-known_kind
 unfolding write_tells byte_of
 returns-then-not-known_kind c = let told =
-    let tested = c.before in
+    let tested = c in
     told c.refused.ensures
-    (kind-wrong _ _ _ _ _ (sym tested.known_kind.ensures ∙ not-true _ tested.if-not-known_kind.true)) in record { answer = told.0; leaves = told.1 }
+    (kind-wrong _ _ _ _ _ (sym tested.known_kind.ensures ∙ tested.if-not-known_kind.true)) in record { answer = told.0; leaves = told.1 }
 
 pub returns-then-not-good_index : goal.returns-then-not-good_index
 unfolding write_tells byte_of
 returns-then-not-good_index c = let told =
-    let tested = c.before in
+    let tested = c in
     told c.refused-then-not-good_index.ensures
-    (index-wrong _ _ _ _ _ (known tested.before.before)
-    (sym tested.good_index.ensures ∙ not-true _ tested.if-not-good_index.true)) in record { answer = told.0; leaves = told.1 }
+    (index-wrong _ _ _ _ _ (known c.before.before.before)
+    (sym tested.good_index.ensures ∙ tested.if-not-good_index.true)) in record { answer = told.0; leaves = told.1 }
 
 pub write_with-requires : goal.write_with-requires
 write_with-requires c =
-    let tested = c.before in
-    (known tested.before.before, sym tested.good_index.ensures ∙ not-false _ tested.if-not-good_index.false)
+    let tested = c in
+    (known c.before.before.before, sym tested.good_index.ensures ∙ tested.if-not-good_index.false)
 
 pub returns : goal.returns
 returns c = let told = c.write_with.ensures in record { answer = told.0; leaves = told.1 }

@@ -56,8 +56,8 @@ fit c = width_fits _ _ (made c.before) (nonzero _ c.if-w-eq0.false)
 
 short : (c : Else-w-eq0) → length (from2 c).args.coeffs.now ≤ 65536
 short c =
-    let e = c.before.before.before in
-    omega (arith, e.if-count-degree.false, low e.before)
+    let e = c in
+    omega (arith, e.if-count-degree.false, low c.before.before.before.before)
 
 whole : (c : After-stored_of) → 10 + c.Stored-of.result * (over_of c.before).least_width-w.result
     ≡ size (from3 c).args.form (from3 c).args.coeffs.now
@@ -76,17 +76,17 @@ unfolding write_tells byte_of
 returns-then-count-degree c = let told =
     let e = c.before.before in
     let start = from e in
-    told c.refused.ensures (count-wrong start.args.form _ _ _ _ start.pre.0 start.pre.1
+    told c.refused.ensures (count-wrong start.args.form _ _ _ _ start.requires.0 start.requires.1
     (λ m. c.if-count-degree.true (m ∙ ap (λ d. d + 1) (sym (degree_is e))))) in record { answer = told.0; leaves = told.1 }
 
 pub returns-then-w-eq0 : goal.returns-then-w-eq0
 unfolding write_tells byte_of
 returns-then-w-eq0 c = let told =
     let looked = c.before.before in
-    let e = looked.before.before in
+    let e = c.before.before.before.before in
     let start = from1 e in
-    told (c.refused-then-w-eq0.ensures ∙ degree-told _ _ _ (degree_is e.before))
-    (too_low start.args.form _ _ _ _ start.pre.0 start.pre.1 (counted e)
+    told (c.refused-then-w-eq0.ensures ∙ degree-told _ _ _ (degree_is c.before.before.before.before.before))
+    (too_low start.args.form _ _ _ _ start.requires.0 start.requires.1 (counted e)
     (width-none _ (sym (made looked) ∙ c.if-w-eq0.true))) in record { answer = told.0; leaves = told.1 }
 
 pub uneven_for-requires : goal.uneven_for-requires
@@ -95,12 +95,12 @@ uneven_for-requires c = ltb-false largest _ (fit c).within
 pub returns-then-uneven_for : goal.returns-then-uneven_for
 unfolding write_tells byte_of
 returns-then-uneven_for c = let told =
-    let looked = c.before.before in
-    let over = looked.before in
-    let e = over.before.before.before in
+    let looked = c in
+    let over = c.before.before.before in
+    let e = c.before.before.before.before.before.before in
     let start = from1 e in
     told c.refused-then-uneven_for.ensures
-    (halves_unlike start.args.form _ _ _ _ start.pre.0 start.pre.1 (counted e) (fit over).within
+    (halves_unlike start.args.form _ _ _ _ start.requires.0 start.requires.1 (counted e) (fit over).within
     (sym looked.uneven_for.ensures ∙ c.if-uneven_for.true)) in record { answer = told.0; leaves = told.1 }
 
 pub stored_of-requires : goal.stored_of-requires
@@ -121,18 +121,18 @@ pub returns-then-bytes-size : goal.returns-then-bytes-size
 unfolding write_tells byte_of
 returns-then-bytes-size c = let told =
     let stored = c.before.before in
-    let over = over_of stored.before in
+    let over = over_of c.before.before.before in
     let e = over.before.before.before in
     let start = from1 e in
     told (c.refused-then-bytes-size.ensures ∙ degree-told _ _ _ (degree_is e.before))
-    (no_room start.args.form _ _ _ _ start.pre.0 start.pre.1 (counted e) (fit over).within (even stored)
+    (no_room start.args.form _ _ _ _ start.requires.0 start.requires.1 (counted e) (fit over).within (even stored)
     (omega (arith, whole stored))) in record { answer = told.0; leaves = told.1 }
 
 pub store-requires : goal.store-requires
 store-requires c =
     let stored = c.before.before in
-    let over = over_of stored.before in (
-      omega (arith, kind_small _ (from2 over).pre.0),
+    let over = over_of c.before.before.before in (
+      omega (arith, kind_small _ (from2 over).requires.0),
       made over.before,
       (fit over).low,
       short over,
@@ -142,11 +142,11 @@ store-requires c =
 pub returns : goal.returns
 returns c = let told =
     let stored = c.before.before.before.before.before in
-    let over = over_of stored.before in
+    let over = over_of c.before.before.before.before.before.before in
     let e = over.before.before.before in
     let start = from1 e in
     let a = start.args in
-    let p = stored-whole a.form a.kind a.n a.coeffs.now a.bytes-1.now start.pre.0 start.pre.1
+    let p = stored-whole a.form a.kind a.n a.coeffs.now a.bytes-1.now start.requires.0 start.requires.1
     (counted e) (fit over).within (even stored) (omega (arith, whole stored)) in
     told (all_told a.form _ _ _ _ _ (degree_is e.before) (whole stored))
     (p.0, c.store.ensures ∙ p.1) in record { answer = told.0; leaves = told.1 }

@@ -22,7 +22,7 @@ above c =
 
 pub step_entry-requires : goal.step_entry-requires
 step_entry-requires c =
-    let g = c.before.before in
+    let g = c in
     let p = g.requires in
     let b = above c.before in
     let i = g.loop-x.invariant in (
@@ -33,7 +33,7 @@ step_entry-requires c =
 
 pub loop-x-preserved : goal.loop-x-preserved
 loop-x-preserved c =
-    let g = c.before.before.before.before in
+    let g = c in
     let p = g.requires in (
       omega arith,
       omega (arith, g.loop-x.invariant.1),
@@ -47,7 +47,7 @@ shape_of-a c = c.loop-x.invariant.2.len
 
 pub returns : goal.returns
 returns c =
-    let g = c.before in
+    let g = c in
     let p = g.args in
     let e : g.loop-x.x ≡ p.from = omega (arith, g.loop-x.invariant.0) in
     subst (λ x. PutBack p.d x p.to p.a-1.now g.loop-x.a) e g.loop-x.invariant.2

@@ -29,7 +29,7 @@ module _ (c : Then-to-full) where
   here : (y : ℕ) → (y < p.args.stop → is_taken p.args.d p.args.full p.args.to p.args.stop y ≡ true)
       × (p.args.stop ≤ y → is_taken p.args.d p.args.full p.args.to p.args.stop y ≡ false)
   here y =
-      early_taken p.args.d p.args.full p.args.to p.args.stop y p.pre.0 (omega arith) (omega arith)
+      early_taken p.args.d p.args.full p.args.to p.args.stop y p.requires.0 (omega arith) (omega arith)
 
   begun : (l : List ℤ) → Split now (length now) (length now) (entries now) (entries l)
   begun l = none_back now (entries l) (omega arith)

@@ -39,8 +39,8 @@ taken_in_row-requires c = let p = c.requires in (p.1, omega (arith, p.2, c.loop-
 -- at most d of a row are taken
 most : (c : After-taken_in_row) → c.taken_in_row.result ≤ c.args.d
 most c =
-    let g = c.before.before in
-    let p = g.before in
+    let g = c in
+    let p = c in
     rw c.taken_in_row.ensures
     (row-most p.args.d p.args.full p.args.to p.args.stop g.loop-k.k p.requires.0 p.requires.1
     g.loop-k.invariant.1 p.requires.2)
@@ -48,16 +48,13 @@ most c =
 pub overflow_add-k : goal.overflow_add-k
 overflow_add-k c = omega (arith, most c, c.loop-k.invariant.0)
 
-pub smaller-end-requires : goal.smaller-end-requires
-smaller-end-requires c = tt
-
 -- the row from k on, and how much of it was taken
 module _ (c : After-smaller-end) where
   abbrev at : At-loop-k
   at = c.before.before.before
 
   abbrev p : Start
-  p = at.before
+  p = c.before.before.before.before
 
   abbrev k : ℕ
   k = at.loop-k.k
@@ -80,7 +77,7 @@ module _ (c : After-smaller-end) where
       → (y < k + count → is_taken p.args.d p.args.full p.args.to p.args.stop y ≡ true)
       × (k + count ≤ y → is_taken p.args.d p.args.full p.args.to p.args.stop y ≡ false)
   here =
-      row-taken p.args.d p.args.full p.args.to p.args.stop k p.pre.0 p.pre.1 at.loop-k.inv.1
+      row-taken p.args.d p.args.full p.args.to p.args.stop k p.requires.0 p.requires.1 at.loop-k.inv.1
 
   taken : (y : ℕ) → k ≤ y → y < end
       → is_taken p.args.d p.args.full p.args.to p.args.stop y ≡ true
@@ -103,7 +100,7 @@ put_back-requires c = let m = c.before in
     }
 
 pub loop-k-smaller : goal.loop-k-smaller
-loop-k-smaller c = let g = c.before.before.before.before.before.before in omega (arith, g.requires.0)
+loop-k-smaller c = let g = c in omega (arith, g.requires.0)
 
 pub loop-k-preserved : goal.loop-k-preserved
 loop-k-preserved c =
@@ -116,7 +113,7 @@ loop-k-preserved c =
       omega (arith, g.loop-k.inv.2),
       λ l s.
           subst
-          (λ x. Split c.put_back.new.0 (length q.args.a.now) x (entries q.args.a.now)
+          (λ x. Split c.put_back.new.a (length q.args.a.now) x (entries q.args.a.now)
           (entries l))
           e
           (range_back s (k m + q.args.d) (g.loop-k.inv.3 l s) c.put_back.ensures (omega arith)
@@ -129,7 +126,7 @@ shape_of-a c = c.loop-k.invariant.2
 
 pub returns : goal.returns
 returns c = λ l s.
-    let g = c.before in
+    let g = c in
     let i = g.loop-k.invariant in
     let first : g.loop-k.k ≡ 0 = sym (mod-eq_of_lt (omega arith)) ∙ i.1 in
     all_back s (i.3 l s) (omega arith)

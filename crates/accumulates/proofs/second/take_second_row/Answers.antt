@@ -28,13 +28,13 @@ sofar : (c : At-loop-x)
     → Tested c.args.w c.args.d 0 c.args.d c.loop-x.x c.args.a.now
     c.loop-x.a
 sofar c =
-    let p = c.before in
+    let p = c in
     second_tested p.args.d p.requires.0 p.args.a.now c.loop-x.invariant.2 c.loop-x.invariant.3
 
 pub step_entry_within-requires : goal.step_entry_within-requires
 step_entry_within-requires c =
-    let g = c.before.before in
-    let p = g.before in
+    let g = c in
+    let p = c in
     let i = g.loop-x.invariant in (
       i.0,
       omega arith,
@@ -46,9 +46,9 @@ step_entry_within-requires c =
 
 -- the value is past w: the list is as it was
 refused : (c : Then-not-step_entry_within)
-    → c.step_entry_within.new.1.1.1.0 ≡ c.loop-x.a
+    → c.step_entry_within.new.a ≡ c.loop-x.a
 refused c =
-    let s = c.step_entry_within in rw (not-true s.result c.if-not-step_entry_within.true) at s.ensures.1
+    let s = c.step_entry_within in rw (c.if-not-step_entry_within.true) at s.ensures.1
 
 pub shape_of-a-then-not-step_entry_within : goal.shape_of-a-then-not-step_entry_within
 shape_of-a-then-not-step_entry_within c = ap length (refused c) ∙ c.loop-x.invariant.2.len
@@ -56,7 +56,7 @@ shape_of-a-then-not-step_entry_within c = ap length (refused c) ∙ c.loop-x.inv
 pub returns-then-not-step_entry_within : goal.returns-then-not-step_entry_within
 returns-then-not-step_entry_within c =
     let g = c.before.before.before.before.before in
-    let p = g.before in
+    let p = c in
     let i = g.loop-x.invariant in
     let s = c.step_entry_within in
     record {
@@ -67,7 +67,7 @@ returns-then-not-step_entry_within c =
         omega arith,
         ap (in_range p.args.w)
             (sym (second_is p.args.d p.requires.0 p.args.a.now i.2 i.0 short))
-            ∙ sym (rw (not-true s.result c.if-not-step_entry_within.true) at s.ensures.0.0),
+            ∙ sym (rw (c.if-not-step_entry_within.true) at s.ensures.0.0),
       );
     }
 
@@ -78,11 +78,11 @@ loop-x-smaller c = omega (arith, c.loop-x.invariant.2.len)
 pub loop-x-preserved : goal.loop-x-preserved
 unfolding entries
 loop-x-preserved c =
-    let g = c.before.before.before.before.before in
-    let p = g.before in
+    let g = c in
+    let p = c in
     let i = g.loop-x.invariant in
     let s = c.step_entry_within in
-    let passed = not-false s.result c.if-not-step_entry_within.false in
+    let passed = c.if-not-step_entry_within.false in
     let b : g.loop-x.x < length p.args.a.now = omega (arith, i.2.len) in
     let is = second_is p.args.d p.requires.0 p.args.a.now i.2 i.0 b in (
       omega (arith, i.0),

@@ -13,13 +13,13 @@ loop-i-init c = sized_none _ c.requires
 pub returns-then-not-good_index : goal.returns-then-not-good_index
 returns-then-not-good_index c =
     refused c.loop-i.invariant c.loop-i-test.true
-    c.good_index.ensures (not-true _ c.if-not-good_index.true)
+    c.good_index.ensures (c.if-not-good_index.true)
 
 pub overflow_add-total : goal.overflow_add-total
 overflow_add-total c =
-    let at = c.before.before.before.before.before in
+    let at = c in
     let small = total_fits at.loop-i.invariant c.loop-i-test.true
-    c.good_index.ensures (not-false _ c.if-not-good_index.false) c.degree_of-phi.ensures in
+    c.good_index.ensures (c.if-not-good_index.false) c.degree_of-phi.ensures in
     record { fits = omega arith }
 
 pub overflow_add-i : goal.overflow_add-i
@@ -29,7 +29,7 @@ pub loop-i-preserved : goal.loop-i-preserved
 loop-i-preserved c =
     sized_more c.loop-i.invariant
     c.loop-i-test.true c.good_index.ensures
-    (not-false _ c.if-not-good_index.false) c.degree_of-phi.ensures c.larger-longest.ensures
+    (c.if-not-good_index.false) c.degree_of-phi.ensures c.larger-longest.ensures
 
 pub returns : goal.returns
 returns c = sized_done c.loop-i.invariant c.loop-i-test.false

@@ -17,7 +17,7 @@ module _ (p : Start) where
   total_is = p.requires.0.total (p.requires.0.good ∙ p.requires.1.good)
 
   longest_is : p.args.sizes.longest ≡ longest p.args.indices.now
-  longest_is = p.pre.0.longest (p.pre.0.good ∙ p.pre.1.good)
+  longest_is = p.requires.0.longest (p.requires.0.good ∙ p.requires.1.good)
 
 pub returns-then-buf-total : goal.returns-then-buf-total
 returns-then-buf-total c = let told =

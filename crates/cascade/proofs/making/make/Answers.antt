@@ -13,12 +13,12 @@ bounds-indices-0 c = c.requires.0
 
 pub first_factor-so-requires : goal.first_factor-so-requires
 first_factor-so-requires c =
-    let p = c.before.before.before.before.before.before in
+    let p = c in
     first_asks p.requires.0 p.requires.1 _ c.clear.ensures
 
 pub loop-i-init : goal.loop-i-init
 loop-i-init c =
-    let p = c.before.before.before.before.before.before.before.before in (
+    let p = c in (
       underway_first p.requires.0 p.requires.1 c.clear.ensures
           c.first_factor-so.ensures,
       refl,
@@ -26,12 +26,12 @@ loop-i-init c =
 
 pub take_factor-so-requires : goal.take_factor-so-requires
 take_factor-so-requires c =
-    let at = c.before.before.before.before in
+    let at = c in
     (known at.loop-i.invariant.0, room at.loop-i.invariant.0 c.loop-i-test.true)
 
 pub shape_of-b-then-so : goal.shape_of-b-then-so
 shape_of-b-then-so c =
-    let at = c.before.before.before.before.before.before.before.before in
+    let at = c in
     c.take_factor-so.ensures.taken.len ∙ at.loop-i.invariant.0.roomy.room
     ∙ sym at.requires.1.room
 
@@ -40,8 +40,8 @@ shape_of-scratch-then-so c = c.take_factor-so.ensures.scratch_len_unchanged
     ∙ c.loop-i.invariant.1
 
 pub returns-then-so : goal.returns-then-so
-returns-then-so c = let at = c.before.before.before.before.before.before.before.before in
-    let t = c.before.before.before in record {
+returns-then-so c = let at = c in
+    let t = c in record {
       product_is = over_here at.loop-i.invariant.0 c.loop-i-test.true
           t.take_factor-so.ensures.taken c.if-so.true;
       scratch_len_unchanged = t.take_factor-so.ensures.scratch_len_unchanged ∙ at.loop-i.invariant.1;
@@ -49,8 +49,8 @@ returns-then-so c = let at = c.before.before.before.before.before.before.before.
 
 pub loop-i-preserved : goal.loop-i-preserved
 loop-i-preserved c =
-    let at = c.before.before.before.before.before.before.before.before in
-    let t = c.before.before.before in (
+    let at = c in
+    let t = c in (
       underway_more at.loop-i.invariant.0 c.loop-i-test.true
           t.take_factor-so.ensures.taken c.if-so.false _ t.take_factor-so.ensures.scratch_len_unchanged,
       t.take_factor-so.ensures.scratch_len_unchanged ∙ at.loop-i.invariant.1,

@@ -9,14 +9,14 @@ pub loop-i-init : goal.loop-i-init
 loop-i-init c = (omega arith, passed_none _)
 
 pub returns-then-input-i-eq10 : goal.returns-then-input-i-eq10
-returns-then-input-i-eq10 c = let t = c.before.before.before in record {
+returns-then-input-i-eq10 c = let t = c in record {
   upper_bound = t.loop-i.invariant.0;
   input_value = at_newline t.loop-i.invariant.1 c.loop-i-test.true c.if-input-i-eq10.true;
 }
 
 pub loop-i-preserved : goal.loop-i-preserved
 loop-i-preserved c =
-    let t = c.before.before.before in
+    let t = c in
     (omega arith, passes t.loop-i.invariant.1 c.loop-i-test.true c.if-input-i-eq10.false)
 
 pub returns : goal.returns

@@ -13,7 +13,7 @@ use Rattle.census_lines.proofs.asked.is_good_with.Goals.{Else-byte_at-ne32}
 
 pub returns-then-not-between : goal.returns-then-not-between
 unfolding is_good_with
-returns-then-not-between c = simp (← c.between.ensures, not-true c.between.result c.if-not-between.true)
+returns-then-not-between c = simp (← c.between.ensures, c.if-not-between.true)
 
 pub returns-then-not-between-2 : goal.returns-then-not-between-2
 unfolding is_good_with
@@ -27,10 +27,10 @@ returns-then-byte_at-ne32 c = simp (← c.byte_at.ensures, ne_eqb _ _ c.if-byte_
 module _ (c : Else-byte_at-ne32) where
   first : between 1 9 c.args.p ≡ true
   first = sym c.between.ensures
-      ∙ not-false _ c.if-not-between.false
+      ∙ c.if-not-between.false
 
   second : between 1 9 c.args.q ≡ true
-  second = sym c.between-2.ensures ∙ not-false _ c.if-not-between-2.false
+  second = sym c.between-2.ensures ∙ c.if-not-between-2.false
 
 pub overflow_add-result : goal.overflow_add-result
 overflow_add-result c = omega (arith, nine_range _ (first c))

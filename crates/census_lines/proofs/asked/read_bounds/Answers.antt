@@ -9,7 +9,7 @@ use Rattle.census_lines.proofs.asked.read_bounds.Goals.{After-is_good_with}
 
 pub number_at-requires-then-is_good_with : goal.number_at-requires-then-is_good_with
 number_at-requires-then-is_good_with c =
-    let tested = c.before.before in (
+    let tested = c in (
       tested.digits_at-q.ensures,
       (counted _ tested.digits_at-p.result tested.digits_at-q.result
           (sym tested.is_good_with.ensures ∙ c.if-is_good_with.true)).1,

@@ -27,11 +27,11 @@ pub returns-then-not-asked : goal.returns-then-not-asked
 unfolding wrong
 returns-then-not-asked c = let told =
     let put = c.put_text.ensures in
-    let asked = c.before.before.before.before.before.before.before in
+    let asked = c.before.before.before.before.before.before.before.before in
     rw (
       le-ltb _ _ asked.if-out-lt-MOST.false,
       ← replied_wrong _ asked.read_bounds-asked.result (asked_is asked)
-          (not-true _ c.if-not-asked.true),
+          (c.if-not-asked.true),
     ) (put, omega (arith, put.place)) in record { puts = told.0; upper_bound = told.1 }
 
 pub returns : goal.returns
@@ -41,5 +41,5 @@ returns c = let told =
     rw (
       le-ltb _ _ asked.if-out-lt-MOST.false,
       ← replied _ asked.read_bounds-asked.result (asked_is asked)
-          (not-false _ c.if-not-asked.false),
+          (c.if-not-asked.false),
     ) (put.puts, omega (arith, put.upper_bound)) in record { puts = told.0; upper_bound = told.1 }

@@ -7,8 +7,8 @@ use Rattle.census_lines.proofs.reply.put_heading.Goals as goal
 
 pub returns : goal.returns
 unfolding heading_of word
-returns c = let last = c.before.before in
-    let first = last.before.before.before.before in record {
+returns c = let last = c in
+    let first = c in record {
       puts = then first.put_text-p.ensures last.put_two_more.ensures.puts;
       upper_bound = omega (arith, first.put_text-p.ensures.place, last.put_two_more.ensures.upper_bound);
     }

@@ -10,18 +10,18 @@ use Rattle.census_lines.proofs.reply.put_refusal.Goals.{After-put_number-p}
 
 short : (c : After-put_number-p) → c.put_number-p.result ≤ 20
 short c =
-    let s = c.before.before.before in
+    let s = c in
     omega (arith, c.put_number-p.ensures.place, length_machine s.args.code s.ranges.code.fits)
 
 pub put-requires : goal.put-requires
 put-requires c =
     let first = c.before.before.before in
-    omega (arith, short first, first.put_number-p.auto.0)
+    omega (arith, short first, first.put_number-p.auto.out)
 
 pub returns : goal.returns
 unfolding refusal
-returns c = let last = c.before.before in
-    let first = last.before.before.before.before in record {
+returns c = let last = c in
+    let first = c.before.before.before.before.before.before in record {
       puts = then first.put_number-p.ensures last.put.ensures;
       upper_bound = omega (arith, short first, last.put.ensures.place);
     }

@@ -13,7 +13,7 @@ pub returns-then-code-ne-DONE : goal.returns-then-code-ne-DONE
 returns-then-code-ne-DONE c = let told =
     let put = c.put_refusal in
     let counted = c.census-counted in
-    let s = c.before.before.before.before.before.before.before.before.before.before.before.before.before in
+    let s = c in
     rw (← refused s.args.a s.args.b s.args.rows.now _ counted.result s.requires.0 s.requires.1
     counted.ensures.0 c.if-code-ne-DONE.true)
     (put.ensures.0, omega (arith, put.ensures.1)) in record { puts = told.0; upper_bound = told.1 }
@@ -21,19 +21,19 @@ returns-then-code-ne-DONE c = let told =
 -- on code 0 there are at most 64 rows
 few_rows : (c : After-census-counted) → c.census-counted.result.code ≡ DONE → c.census-counted.result.rows ≤ 64
 few_rows c done =
-    let s = c.before.before.before.before.before in
+    let s = c in
     few s.args.a s.args.b s.args.rows.now _ c.census-counted.result s.requires.0 s.requires.1
     c.census-counted.ensures.answer done
 
 pub put_rows-requires : goal.put_rows-requires
 put_rows-requires c =
-    let counted = c.before.before.before.before.before.before.before.before.before.before in
+    let counted = c.before.before.before.before.before.before.before.before.before in
     let small = few_rows counted c.if-code-ne-DONE.false in
-    let s = counted.before.before.before.before.before in (
+    let s = c in (
       omega (arith, counted.census-counted.auto.1.1.0, s.requires.0),
       omega (
         arith,
-        c.put_heading-p.auto.0,
+        c.put_heading-p.auto.out,
         s.requires.2,
         c.put_heading-p.ensures.upper_bound,
       ),
@@ -42,11 +42,11 @@ put_rows-requires c =
 pub returns : goal.returns
 returns c = let told =
     let put = c.put_rows in
-    let headed = c.before.before.before.before.before.before.before in
+    let headed = c in
     let heading = headed.put_heading-p in
     let done = headed.if-code-ne-DONE.false in
-    let counted = headed.before.before.before.before.before.before in
-    let s = counted.before.before.before.before.before in
+    let counted = c.before.before.before.before.before.before.before.before.before.before.before.before in
+    let s = c in
     rw (← delivered s.args.a s.args.b s.args.rows.now _ counted.census-counted.result s.requires.0 s.requires.1
     counted.census-counted.ensures.answer done _ counted.census-counted.ensures.leaves.0) (
       then heading.ensures.0 put.ensures.0,

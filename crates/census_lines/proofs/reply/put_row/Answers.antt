@@ -11,18 +11,18 @@ use Rattle.census_lines.proofs.reply.put_row.Goals.{After-put_number-p}
 -- the height's digits are few
 short : (c : After-put_number-p) → c.put_number-p.result ≤ c.args.at + 20
 short c =
-    let s = c.before.before.before in
+    let s = c in
     omega (arith, c.put_number-p.ensures.place, length_machine s.args.height s.ranges.height.fits)
 
 pub put_two_more-requires : goal.put_two_more-requires
 put_two_more-requires c =
     let first = c.before.before.before in
-    omega (arith, short first, first.put_number-p.auto.0)
+    omega (arith, short first, first.put_number-p.auto.out)
 
 pub returns : goal.returns
 unfolding row_line
-returns c = let last = c.before.before in
-    let first = last.before.before.before.before in record {
+returns c = let last = c in
+    let first = c.before.before.before.before.before.before in record {
       puts = then first.put_number-p.ensures last.put_two_more.ensures.puts;
       upper_bound = omega (arith, short first, last.put_two_more.ensures.upper_bound);
     }

@@ -9,9 +9,9 @@ use Rattle.census_lines.proofs.reply.put_two_more.Goals as goal
 
 pub returns : goal.returns
 unfolding two_more
-returns c = let last = c.before.before in
-    let second = last.before.before.before.before in
-    let first = second.before.before.before.before in
+returns c = let last = c in
+    let second = c in
+    let first = c in
     let a = first.args in record {
       puts = rw (spaced-append (pos a.x ∷ []) (pos a.y ∷ []), append_assoc)
           (then first.put_item-p.ensures.puts (then second.put_item-p-2.ensures.puts last.put.ensures));

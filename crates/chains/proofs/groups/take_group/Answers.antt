@@ -21,10 +21,10 @@ first_row-requires c = (omega arith, omega arith)
 -- as many sums as before
 module _ (c : After-s-1) where
   abbrev start : Start
-  start = c.before.before.before.before
+  start = c.before.before.before
 
   abbrev many : ℕ
-  many = length c.first_row.new.0
+  many = length c.first_row.new.s
 
   same : many ≡ length start.args.s.now
   same = omega arith
@@ -38,7 +38,7 @@ module _ (c : After-s-1) where
 pub loop-k-init : goal.loop-k-init
 loop-k-init c =
     let p = (start c).args in
-    group_start p.d p.c (many c) (some c) (room c) p.w p.a-1.now c.first_row.new.0
+    group_start p.d p.c (many c) (some c) (room c) p.w p.a-1.now c.first_row.new.s
     (omega (arith, same c)) (omega (arith, same c)) refl
     (λ j h. c.first_row.ensures j (omega (arith, same c)))
 
@@ -54,11 +54,11 @@ asked c j h b =
     let p = start e in
     asked-row p.args.d p.args.c (many e) (some e) (room e) c.loop-k.k c.loop-k.invariant p.args.test
     (subst (λ x. AskedOfGroup p.args.test p.args.w p.args.d p.args.c (p.args.c + x) p.args.a.now)
-    (sym (same e)) p.pre.asked) j (omega (arith, c.loop-k.invariant.many)) b
+    (sym (same e)) p.requires.asked) j (omega (arith, c.loop-k.invariant.many)) b
 
 pub take_row-q-requires : goal.take_row-q-requires
 take_row-q-requires c = let g = c.before.before.before in record {
-  m_in_bounds = (omega arith, omega arith, (start g.before).pre.limit);
+  m_in_bounds = (omega arith, omega arith, (start c.before.before.before.before).requires.limit);
   by_index = λ j h. asked g j h (omega (arith, g.loop-k.invariant.tested.taken.len));
 }
 
@@ -94,8 +94,8 @@ loop-k-smaller c = omega (arith, c.loop-k.invariant.most)
 pub loop-k-preserved : goal.loop-k-preserved
 loop-k-preserved c =
     let t = c.take_row-q in
-    let g = c.before.before.before.before.before.before.before in
-    let e = g.before in
+    let g = c in
+    let e = c.before.before.before.before.before.before.before.before in
     let p = (start e).args in
     let i = g.loop-k.invariant in
     let whole : t.result ≡ many e = omega (arith, i.many, t.ensures.0.0) in
@@ -112,8 +112,8 @@ shape_of-a-then-a-k c = c.loop-k.invariant.tested.taken.len
 
 pub returns-then-a-k : goal.returns-then-a-k
 returns-then-a-k c =
-    let g = c.before.before in
-    let e = g.before in
+    let g = c in
+    let e = c.before.before.before in
     let p = (start e).args in
     let i = g.loop-k.invariant in
     settled (ap (λ x. p.c + x) (same e)) (sym i.tested.taken.len)
@@ -122,7 +122,7 @@ returns-then-a-k c =
 
 pub take_row-requires : goal.take_row-requires
 take_row-requires c = let g = c.before.before.before.before in record {
-  m_in_bounds = (omega arith, omega arith, (start g.before).pre.limit);
+  m_in_bounds = (omega arith, omega arith, (start c.before.before.before.before.before).requires.limit);
   by_index = λ j h. asked g j (omega arith) (omega (arith, g.loop-k.invariant.tested.taken.len));
 }
 

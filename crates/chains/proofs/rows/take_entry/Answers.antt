@@ -20,7 +20,7 @@ use Rattle.chains.proofs.rows.take_entry.Goals.{After-passes_test, After-read_en
 -- what was read, and its sum
 module _ (c : After-read_entry-y) where
   abbrev p : Start
-  p = c.before.before.before.before
+  p = c.before.before
 
   x_is : seen c.read_entry-x.result ≡ get_or p.args.a.now (p.args.k + p.args.q) 0ℤ
   unfolding entries
@@ -49,26 +49,26 @@ within c = c.passes_test.ensures ∙ ap (in_range (p c.before).args.w) (sum c.be
 
 pub returns-then-not-passes_test : goal.returns-then-not-passes_test
 returns-then-not-passes_test c = let e = c.before in record {
-  value = (sym (not-true _ c.if-not-passes_test.true) ∙ within e, x_fits e.before);
+  value = (sym (c.if-not-passes_test.true) ∙ within e, x_fits c.before.before);
   s_after = (refl, refl);
 }
 
 -- it is
 inside : (c : Else-not-passes_test) → in_range (p c.before.before).args.w (value c.before.before) ≡ true
-inside c = sym (within c.before) ∙ not-false _ c.if-not-passes_test.false
+inside c = sym (within c.before) ∙ c.if-not-passes_test.false
 
 value_fits : (c : Else-not-passes_test) → SFits w64 (value c.before.before)
-value_fits c = range_fits _ (range_more (p c.before.before).pre.2.1 _ (inside c))
+value_fits c = range_fits _ (range_more (p c.before.before).requires.2.1 _ (inside c))
 
 pub new_value-v-requires : goal.new_value-v-requires
 new_value-v-requires c = rw (sum c.before.before) (value_fits c)
 
 pub returns : goal.returns
-returns c = let n = c.before.before.before.before.before.before in
-    let e = n.before in
-    let q = (p e.before.before).args in
-    let is = handed (value_fits e) (n.new_value-v.ensures ∙ sum e.before.before) in record {
-      value = (sym (inside e), x_fits e.before.before);
+returns c = let n = c in
+    let e = c.before.before.before.before.before.before.before in
+    let q = (p c.before.before.before.before.before.before.before.before.before).args in
+    let is = handed (value_fits e) (n.new_value-v.ensures ∙ sum c.before.before.before.before.before.before.before.before.before) in record {
+      value = (sym (inside e), x_fits c.before.before.before.before.before.before.before.before.before);
       s_after = (
         c.put.ensures ∙ ap (set q.s-1.now q.q) is,
         c.put-2.ensures ∙ ap (set q.a-1.now (q.k + q.q)) is,

@@ -34,7 +34,7 @@ returns-then-m-q c = let told =
 
 pub take_entry-requires : goal.take_entry-requires
 take_entry-requires c =
-    let g = c.before.before.before.before in
+    let g = c in
     let r = g.loop-q.invariant.1 in
     let p = g.requires in (
       omega arith,
@@ -52,10 +52,10 @@ shape_of-a-then-not-take_entry c = omega (arith, c.loop-q.invariant.1.len)
 pub returns-then-not-take_entry : goal.returns-then-not-take_entry
 returns-then-not-take_entry c = let told =
     let t = c.take_entry in
-    let g = c.before.before.before.before.before.before.before.before in
+    let g = c in
     let i = g.loop-q.invariant in
     let r = i.1 in
-    let no = not-true _ c.if-not-take_entry.true in (
+    let no = c.if-not-take_entry.true in (
       (
         i.0,
         row-left r (omega (arith, r.sums)) (omega (arith, r.len)) t.result t.ensures.1.0
@@ -67,10 +67,10 @@ returns-then-not-take_entry c = let told =
 pub loop-q-preserved : goal.loop-q-preserved
 loop-q-preserved c =
     let t = c.take_entry in
-    let g = c.before.before.before.before.before.before.before.before in
+    let g = c in
     let p = g.args in
     let r = g.loop-q.invariant.1 in
-    let yes : t.result ≡ true = not-false _ c.if-not-take_entry.false in (
+    let yes : t.result ≡ true = c.if-not-take_entry.false in (
       omega arith,
       row_took r (omega (arith, r.sums)) (omega (arith, r.len)) t.result t.ensures.1.0 t.ensures.1.1 yes,
       λ j h.

@@ -67,8 +67,8 @@ degree_is c = omega (arith, c.count_in-degree.ensures, (header (tested c.before)
 
 pub returns-then-code-ne-DONE : goal.returns-then-code-ne-DONE
 returns-then-code-ne-DONE c = let told =
-    let then = c.before.before in
-    let l = then.before in
+    let then = c in
+    let l = c.before.before.before in
     told c.refused.ensures
     (refused_look (form l) (bytes l) (start l).args.out.now _ _ l.look-code.ensures then.if-code-ne-DONE.true
     c.byte_of.ensures) in record { answer = told.0; leaves = told.1 }
@@ -88,8 +88,8 @@ overflow_sub-degree c = omega (arith, c.count_in-degree.ensures, (header (tested
 pub returns-then-uneven : goal.returns-then-uneven
 unfolding convert_tells byte_of
 returns-then-uneven c = let told =
-    let then = c.before in
-    let sized = then.before.before in
+    let then = c in
+    let sized = c.before.before.before in
     let l = look_of sized in
     told c.refused-then-uneven.ensures
     (by_code (form l) (bytes l) (start l).args.out.now UNEVEN
@@ -100,9 +100,9 @@ pub returns-then-out-written : goal.returns-then-out-written
 unfolding convert_tells byte_of
 returns-then-out-written c = let told =
     let e = c.before.before in
-    let sized = e.before.before in
+    let sized = c.before.before.before.before in
     let l = look_of sized in
-    told (c.refused-then-out-written.ensures ∙ degree-told _ _ (degree_is e.before))
+    told (c.refused-then-out-written.ensures ∙ degree-told _ _ (degree_is c.before.before.before))
     (by_code (form l) (bytes l) (start l).args.out.now SHORT
     (code-short _ _ _ (passed (tested sized)) (even e) (omega (arith, written_is sized)))) in record { answer = told.0; leaves = told.1 }
 
@@ -117,10 +117,10 @@ size_in-requires c =
     (_, (looked _ _ (passed (tested sized))).header)
 
 pub returns : goal.returns
-returns c = let roomy = c.before.before.before.before.before in
-    let e = roomy.before in
-    let counted = e.before in
-    let sized = counted.before in
+returns c = let roomy = c in
+    let e = c.before.before.before.before.before.before in
+    let counted = c.before.before.before.before.before.before.before in
+    let sized = c.before.before.before.before.before.before.before.before in
     let l = look_of sized in
     let cs = coefficients_in (form l) (bytes l) in
     let record_of_lem = record_of (other (form l)) (kind_in (bytes l)) (index_in (bytes l)) cs in

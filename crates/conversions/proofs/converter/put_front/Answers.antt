@@ -21,8 +21,8 @@ size_in-requires c = (_, (good c.before.before).header)
 
 pub copy-requires : goal.copy-requires
 copy-requires c =
-    let sized = c.before in
-    let start = sized.before.before.before in (
+    let sized = c in
+    let start = c.before.before.before.before in (
       omega (
         arith,
         sized.size_in.ensures,
@@ -34,16 +34,16 @@ copy-requires c =
 
 pub bounds-out-1 : goal.bounds-out-1
 bounds-out-1 c =
-    let copied = c.before.before.before.before in
-    let start = copied.before.before.before.before.before in
+    let copied = c in
+    let start = c in
     omega (arith, copied.copy.auto.1.1.0, start.requires.1, size_least Half start.args.bytes.now)
 
 pub returns : goal.returns
 returns c =
-    let copied = c.before.before.before.before in
-    let sized = copied.before.before in
-    let known = sized.before.before in
-    let start = known.before in
+    let copied = c in
+    let sized = c in
+    let known = c in
+    let start = c in
     let bs = start.args.bytes.now in
     front-stored start.args.from bs (bytes_each bs (λ i. (known.type_inv.bytes i).fits)) start.requires.0
     start.args.out.now _ _ _ start.requires.1 sized.size_in.ensures

@@ -23,7 +23,7 @@ from c = c.before.before.before.before.before.before
 
 pub put_front-requires : goal.put_front-requires
 put_front-requires c =
-    let start = c.before.before.before in
+    let start = c in
     (start.requires.0, omega (arith, start.requires.1, half_least Whole start.args.bytes.now))
 
 pub width_in-w-requires : goal.width_in-w-requires
@@ -37,9 +37,9 @@ negates_in-requires c = (right _ _ (good (from c.before.before)).header).long
 
 pub put_other-requires : goal.put_other-requires
 put_other-requires c =
-    let counted = c.before.before in
-    let wide = counted.before in
-    let start = from wide.before in
+    let counted = c in
+    let wide = c in
+    let start = from c.before.before.before.before in
     let bs = start.args.bytes.now in
     let g = good start in
     let ew = wide.width_in-w.ensures in
@@ -49,21 +49,21 @@ put_other-requires c =
       omega (
         arith,
         size_in_lem Whole bs _ _ ew ek,
-        start.pre.1,
+        start.requires.1,
         wide.put_front.auto.1.1.0,
       ),
     )
 
 pub returns : goal.returns
 returns c =
-    let negates = c.before.before.before.before in
-    let counted = negates.before in
-    let wide = counted.before in
-    let front = wide.before in
+    let negates = c in
+    let counted = c in
+    let wide = c in
+    let front = c.before.before.before.before.before.before.before in
     let start = from front in
-    let known = front.before.before.before.before.before in
+    let known = c in
     let bs = start.args.bytes.now in
-    whole-stored bs (bytes_each bs (λ i. (known.type_inv.bytes i).fits)) start.pre.0
-    start.args.out.now _ _ start.pre.1 front.put_front.ensures
+    whole-stored bs (bytes_each bs (λ i. (known.type_inv.bytes i).fits)) start.requires.0
+    start.args.out.now _ _ start.requires.1 front.put_front.ensures
     (placed bs _ _ _ _ _ wide.width_in-w.ensures counted.count_in-count.ensures negates.negates_in.ensures
     c.put_other.ensures)

@@ -11,21 +11,21 @@ use Rattle.conversions.proofs.Converting.{front_record}
 use Rattle.conversions.proofs.converter.store.Goals as goal
 
 pub put_front-requires : goal.put_front-requires
-put_front-requires c = rw c.enum_told-1.given.1 at c.requires
+put_front-requires c = rw c.in-Whole.is at c.requires
 
 pub put_whole-requires : goal.put_whole-requires
-put_whole-requires c = rw c.enum_told-in-Half-1.given.1 at c.requires
+put_whole-requires c = rw c.in-Half.is at c.requires
 
 pub returns-in-Whole : goal.returns-in-Whole
 returns-in-Whole c =
-    let told = c.before.before.before.before in
-    let known = told.before.before.before in
-    let start = known.before in
+    let told = c in
+    let known = c in
+    let start = c in
     let bs = start.args.bytes.now in
-    let pre = rw told.enum_told-1.given.1 at start.requires.0 in
-    rw told.enum_told-1.given.1 (c.put_front.ensures
+    let pre = rw told.in-Whole.is at start.requires.0 in
+    rw told.in-Whole.is (c.put_front.ensures
     ∙ ap (λ (x : List ℕ). x ++ drop (size_in Half bs) start.args.out.now)
     (front_record bs (bytes_each bs (λ i. (known.type_inv.bytes i).fits)) pre))
 
 pub returns-in-Half : goal.returns-in-Half
-returns-in-Half c = rw c.enum_told-in-Half-1.given.1 c.put_whole.ensures
+returns-in-Half c = rw c.in-Half.is c.put_whole.ensures

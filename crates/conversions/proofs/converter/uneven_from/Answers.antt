@@ -13,9 +13,9 @@ use Rattle.conversions.proofs.Converting.{stored_as}
 use Rattle.conversions.proofs.converter.uneven_from.Goals as goal
 use Rattle.conversions.proofs.converter.uneven_from.Goals.{In-Whole}
 
-good : (c : In-Whole) → let start = c.before.before.before in
+good : (c : In-Whole) → let start = c in
     Read_right Whole start.args.bytes.now (count_in start.args.bytes.now)
-good c = looked Whole _ (rw c.enum_told-1.given.1 at c.requires)
+good c = looked Whole _ (rw c.in-Whole.is at c.requires)
 
 pub width_in-requires : goal.width_in-requires
 width_in-requires c = (right _ _ (good c).header).long
@@ -28,9 +28,9 @@ negates_in-requires c = (right _ _ (good c.before.before).header).long
 
 pub uneven_in-requires : goal.uneven_in-requires
 uneven_in-requires c =
-    let counted = c.before in
-    let wide = counted.before in
-    let told = wide.before in
+    let counted = c in
+    let wide = c in
+    let told = c.before.before.before in
     let bs = told.args.bytes.now in
     let g = good told in
     let ew = wide.width_in.ensures in
@@ -43,9 +43,9 @@ uneven_in-requires c =
 pub returns-in-Whole : goal.returns-in-Whole
 unfolding coefficients_in
 returns-in-Whole c =
-    let counted = c.before.before in
-    let told = counted.before.before in
-    rw told.enum_told-1.given.1
+    let counted = c in
+    let told = c in
+    rw told.in-Whole.is
     (c.uneven_in.ensures
     ∙ ap₂ uneven c.negates_in.ensures
     (stored_as Whole told.args.bytes.now _ _ counted.width_in.ensures

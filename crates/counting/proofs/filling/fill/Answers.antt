@@ -37,7 +37,7 @@ loop-n-init c =
 pub measure-measured-requires : goal.measure-measured-requires
 measure-measured-requires c =
     let l = c.loop-n in
-    let s = c.before.before.before in
+    let s = c in
     (omega (arith, s.requires.0), omega (arith, s.requires.2, l.invariant.1), omega (arith, s.requires.3, l.invariant.1, l.invariant.2))
 
 -- what an index measured, at its turn
@@ -46,16 +46,16 @@ module _ (m : After-measure-measured) where
   turn = m.before.before.before
 
   abbrev start : Start
-  start = turn.before
+  start = m.before.before.before.before
 
   abbrev n : ℕ
   n = turn.loop-n.n - 1
 
   low : 0 < n
-  low = omega (arith, start.pre.0)
+  low = omega (arith, start.requires.0)
 
   small : height 1 n ≤ largest
-  small = height_fits n low (omega (arith, turn.loop-n.inv.1, start.pre.2)) 1
+  small = height_fits n low (omega (arith, turn.loop-n.inv.1, start.requires.2)) 1
 
   told : m.measure-measured.result.height ≡ height 1 n
   told = ap (λ r. r.height) m.measure-measured.ensures.value
@@ -70,16 +70,16 @@ module _ (m : After-measure-measured) where
   added = ap (λ r. r.additions) m.measure-measured.ensures.value
 
   high : n ≤ 65535
-  high = omega (arith, turn.loop-n.inv.1, start.pre.2)
+  high = omega (arith, turn.loop-n.inv.1, start.requires.2)
 
   -- the additions so far
   all-few : all_additions (from_to turn.loop-n.n start.args.b) ≤ 4096 * 2097152
   unfolding from_to
   all-few =
-      let most : suc start.args.b - turn.loop-n.n ≤ 4096 = omega (arith, start.pre.2) in
+      let most : suc start.args.b - turn.loop-n.n ≤ 4096 = omega (arith, start.requires.2) in
       NatL.le_trans
       (additions_small turn.loop-n.n (suc start.args.b - turn.loop-n.n) (omega arith)
-      (omega (arith, turn.loop-n.inv.1, start.pre.2)))
+      (omega (arith, turn.loop-n.inv.1, start.requires.2)))
       (NatL.mul-le-mul_right 2097152 most)
 
 pub overflow_cast-work : goal.overflow_cast-work
@@ -115,17 +115,17 @@ loop-n-preserved c =
     let m = c.before.before.before in
     let l = (turn m).loop-n in
     let s = start m in
-    let inside : n m < length m.measure-measured.new.1.0 =
-    omega (arith, m.measure-measured.ensures.work_len_unchanged.0, l.inv.2, l.inv.1, s.pre.3) in
+    let inside : n m < length m.measure-measured.new.work =
+    omega (arith, m.measure-measured.ensures.work_len_unchanged.0, l.inv.2, l.inv.1, s.requires.3) in
     let one = from_more (n m) s.args.b (omega (arith, l.inv.1)) in (
       omega arith,
       omega (arith, l.inv.1),
-      length-set m.measure-measured.new.1.0 (n m) _ ∙ (m.measure-measured.ensures.work_len_unchanged.0 ∙ l.inv.2),
+      length-set m.measure-measured.new.work (n m) _ ∙ (m.measure-measured.ensures.work_len_unchanged.0 ∙ l.inv.2),
       NatL.add_comm l.additions m.measure-measured.result.additions
           ∙ (ap₂ ◌+◌ (added m) (l.inv.3 ∙ ap (λ k. all_additions (from_to k s.args.b)) (sym (again m)))
           ∙ sym (ap all_additions one ∙ additions_more (n m) _)),
-      ap (λ v. take (suc s.args.b - n m) (drop (n m) (set m.measure-measured.new.1.0 (n m) v))) (value m)
-          ∙ filled_more m.measure-measured.new.1.0 l.work-1 (n m) s.args.b (omega (arith, l.inv.1)) inside
+      ap (λ v. take (suc s.args.b - n m) (drop (n m) (set m.measure-measured.new.work (n m) v))) (value m)
+          ∙ filled_more m.measure-measured.new.work l.work-1 (n m) s.args.b (omega (arith, l.inv.1)) inside
           m.measure-measured.ensures.work_len_unchanged.1 (subst (λ k. take (suc s.args.b - k) (drop k l.work-1) ≡ heights_of
           (from_to k s.args.b)) (sym (again m)) l.inv.4),
     )

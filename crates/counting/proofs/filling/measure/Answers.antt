@@ -28,7 +28,7 @@ parts p = p.take_apart-parts.ensures ∙ taken_good p.args.n (good p.before)
 pub returns-then-parts-eq1 : goal.returns-then-parts-eq1
 returns-then-parts-eq1 c = let told =
     let p = c.before.before in
-    let s = p.before in
+    let s = c in
     let one : r_of s.args.n ≡ 1 = sym (parts_r s.args.n _ (parts p)) ∙ c.if-parts-eq1.true in
     let is = one_is s.args.n s.requires.0 one in
     (rw (is.0, is.1) refl, (refl, refl)) in record { value = told.0; work_len_unchanged = told.1; work_unchanged = told.2 }
@@ -39,7 +39,7 @@ module _ (q : After-half_degree-half) where
   apart = q.before.before.before
 
   abbrev start : Start
-  start = apart.before
+  start = q.before.before.before.before
 
   above : r_of start.args.n ≢ 1
   above e = q.if-parts-eq1.left (parts_r start.args.n _ (parts apart) ∙ e)
@@ -48,10 +48,10 @@ module _ (q : After-half_degree-half) where
   half = parts_half start.args.n _ (parts apart) 1 _ q.half_degree-half.ensures
 
   before-n : q.half_degree-half.result + 1 ≤ start.args.n
-  before-n = omega (arith, half, kept_within start.args.n start.pre.0 above)
+  before-n = omega (arith, half, kept_within start.args.n start.requires.0 above)
 
   room : q.half_degree-half.result + 1 ≤ length start.args.work.now
-  room = omega (arith, before-n, start.pre.2)
+  room = omega (arith, before-n, start.requires.2)
 
 pub slice_bounds-lower_half-end : goal.slice_bounds-lower_half-end
 slice_bounds-lower_half-end c = room c
@@ -66,11 +66,11 @@ lower_half-requires c =
 
 pub returns : goal.returns
 returns c = let told =
-    let m = c.before in
-    let q = m.before.before in
+    let m = c in
+    let q = c.before.before.before in
     let w = (start q).args.work.now in
     let r = r_of (start q).args.n in
-    let k = m.lower_half.new.1.1.0 in
+    let k = m.lower_half.new.a in
     let long = ap length m.lower_half.ensures.a_after ∙ length-firsts (half_degree 1 r + 1) (polynomial 1 r)
     ∙ ap (λ (d : ℕ). d + 1) (sym (half q)) in (
       m.lower_half.ensures.value,

@@ -15,12 +15,12 @@ loop-row-init c = rw c.next_row-row.ensures (turn-start _)
 
 pub overflow_add-count : goal.overflow_add-count
 overflow_add-count c =
-    let l = c.before.before in
+    let l = c in
     record { fits = omega (arith, turn-few _ _ l.requires _ _ l.loop-row.invariant) }
 
 pub overflow_add-row : goal.overflow_add-row
 overflow_add-row c =
-    let l = c.before.before.before in
+    let l = c in
     record { fits = omega (arith, turn_tall _ _ l.requires _ _ l.loop-row.invariant (omega arith)) }
 
 pub next_row-row-requires-in-loop-row : goal.next_row-row-requires-in-loop-row
@@ -28,12 +28,12 @@ next_row-row-requires-in-loop-row c = c.requires
 
 pub loop-row-smaller : goal.loop-row-smaller
 loop-row-smaller c =
-    let l = c.before.before.before.before in
+    let l = c in
     rw c.next_row-row-in-loop-row.ensures (turn_less _ _ _ l.loop-row.invariant (omega arith))
 
 pub loop-row-preserved : goal.loop-row-preserved
 loop-row-preserved c =
-    let l = c.before.before.before.before in
+    let l = c in
     let more : 3 * l.loop-row.count + 3 ≡ 3 * (l.loop-row.count + 1) = omega arith in
     rw (c.next_row-row-in-loop-row.ensures, sym more) (turn_again _ _ _ l.loop-row.invariant (omega arith))
 

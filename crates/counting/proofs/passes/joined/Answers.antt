@@ -14,13 +14,13 @@ returns-then-h-due c = rw (lt-ltb _ _ c.if-h-due.true) refl
 pub returns-then-begins : goal.returns-then-begins
 unfolding joined_to
 returns-then-begins c =
-    let asked = c.before in
+    let asked = c in
     rw (le-ltb _ _ asked.if-h-due.false, sym asked.begins.ensures, c.if-begins.true) refl
 
 pub returns-then-row-h : goal.returns-then-row-h
 unfolding joined_to
 returns-then-row-h c =
-    let asked = c.before.before.before in
+    let asked = c in
     rw (
       le-ltb _ _ asked.if-h-due.false,
       sym asked.begins.ensures,
@@ -31,7 +31,7 @@ returns-then-row-h c =
 pub returns : goal.returns
 unfolding joined_to
 returns c =
-    let asked = c.before.before.before.before in
+    let asked = c in
     let a = asked.args in
     rw (
       le-ltb _ _ asked.if-h-due.false,

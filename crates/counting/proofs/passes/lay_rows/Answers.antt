@@ -6,7 +6,7 @@ use Rattle.counting.proofs.passes.lay_rows.Goals as goal
 
 pub returns-then-rows-count : goal.returns-then-rows-count
 returns-then-rows-count c =
-    let q = c.before in
+    let q = c in
     record {
       many = q.count_rows-count.ensures;
       fit = too_few _ _ _ q.count_rows-count.ensures c.if-rows-count.true;
@@ -15,8 +15,8 @@ returns-then-rows-count c =
 
 pub returns : goal.returns
 returns c =
-    let w = c.before.before in
-    let q = w.before.before.before in
+    let w = c in
+    let q = c in
     record {
       many = q.count_rows-count.ensures;
       fit = enough_for _ _ _ q.count_rows-count.ensures w.if-rows-count.false;

@@ -35,7 +35,7 @@ module _ (c : After-joined-arg-1) where
 
   read : get_or start.args.heights.now place 0ℤ ≡ pos (height 1 (start.args.a + place))
   read =
-      ap (λ l. get_or l place 0ℤ) start.pre.are
+      ap (λ l. get_or l place 0ℤ) start.requires.are
       ∙ height_at start.args.a (length start.args.heights.now) place
       (omega (arith, c.loop-i.invariant.1))
 

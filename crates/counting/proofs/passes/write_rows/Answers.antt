@@ -31,7 +31,7 @@ overflow_add-at c =
 
 pub overflow_add-row : goal.overflow_add-row
 overflow_add-row c =
-    let l = c.before.before.before.before.before.before.before in
+    let l = c in
     record {
       fits = omega (arith, turn_tall _ _ l.requires.heights _ _ l.loop-row.invariant.turn (omega arith));
     }
@@ -41,7 +41,7 @@ next_row-row-requires-in-loop-row c = c.requires.heights
 
 pub loop-row-smaller : goal.loop-row-smaller
 loop-row-smaller c =
-    let l = c.before.before.before.before.before.before.before.before in
+    let l = c in
     rw c.next_row-row-in-loop-row.ensures (turn_less _ _ _ l.loop-row.invariant.turn (omega arith))
 
 pub loop-row-preserved : goal.loop-row-preserved

@@ -16,8 +16,8 @@ loop-q-init c = (refl, omega arith, λ j h. absurd (not-suc-le-zero h))
 pub loop-q-preserved : goal.loop-q-preserved
 unfolding entries
 loop-q-preserved c =
-    let r = c.before.before.before in
-    let g = r.before.before in
+    let r = c in
+    let g = c in
     let i = g.loop-q.invariant in
     let l = g.args.a.now in
     let v = handed r.read_entry-x.ensures.1 r.read_entry-x.ensures.0 in (

@@ -8,24 +8,24 @@ pub overflow_sub-result : goal.overflow_sub-result
 unfolding ◌⊕◌ ⊖
 overflow_sub-result c =
     rw (seen_both c.ranges.x c.ranges.y ◌⊝◌)
-    (rw c.enum_told-1.given.1 at c.requires)
+    (rw c.in-Comb.is at c.requires)
 
 pub overflow_add-result : goal.overflow_add-result
 unfolding ◌⊕◌ ⊖
 overflow_add-result c =
     rw (seen_both c.ranges.x c.ranges.y ◌⊕◌)
-    (rw c.enum_told-in-Accumulate-1.given.1 at c.requires)
+    (rw c.in-Accumulate.is at c.requires)
 
 pub returns-in-Comb : goal.returns-in-Comb
 unfolding ◌⊕◌ ⊖
 returns-in-Comb c =
-    rw c.enum_told-1.given.1
+    rw c.in-Comb.is
     (answered c.ranges.x c.ranges.y ◌⊝◌
-    (rw c.enum_told-1.given.1 at c.requires))
+    (rw c.in-Comb.is at c.requires))
 
 pub returns-in-Accumulate : goal.returns-in-Accumulate
 unfolding ◌⊕◌ ⊖
 returns-in-Accumulate c =
-    rw c.enum_told-in-Accumulate-1.given.1
+    rw c.in-Accumulate.is
     (answered c.ranges.x c.ranges.y ◌⊕◌
-    (rw c.enum_told-in-Accumulate-1.given.1 at c.requires))
+    (rw c.in-Accumulate.is at c.requires))

@@ -19,7 +19,7 @@ within-requires-then-within c = (omega arith, omega arith)
 
 pub returns-then-within-2 : goal.returns-then-within-2
 returns-then-within-2 c =
-    let s = c.before.before.before.before in
+    let s = c in
     let hx = within addable s.args.x s.ranges.x c.within.ensures
     c.if-within.true in
     let hy = within addable s.args.y s.ranges.y c.within-then-within.ensures c.if-within-2.true in
@@ -27,12 +27,12 @@ returns-then-within-2 c =
 
 pub returns-in-Comb : goal.returns-in-Comb
 returns-in-Comb c =
-    let q = c.before.before.before.before.before in
-    rw c.enum_told-1.given.1
+    let q = c in
+    rw c.in-Comb.is
     (c.difference_fits.ensures ∙ ap (in_range largest) (seen_both q.ranges.x q.ranges.y ◌⊝◌))
 
 pub returns-in-Accumulate : goal.returns-in-Accumulate
 returns-in-Accumulate c =
-    let q = c.before.before.before.before.before in
-    rw c.enum_told-in-Accumulate-1.given.1
+    let q = c in
+    rw c.in-Accumulate.is
     (c.sum_fits.ensures ∙ ap (in_range largest) (seen_both q.ranges.x q.ranges.y ◌⊕◌))

@@ -9,7 +9,7 @@ use Rattle.entry_steps.proofs.entry.new_value_within.Goals as goal
 
 pub returns : goal.returns
 returns c =
-    let p = c.before.before in
+    let p = c in
     c.within.ensures
     ∙ ap (in_range p.args.w)
     (handed p.requires.1

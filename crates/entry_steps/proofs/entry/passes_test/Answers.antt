@@ -23,7 +23,7 @@ module _ (p : Start) where
   value = new_value (sort_means p.args.sort) p.args.x p.args.y
 
   seen_value : new_value (sort_means p.args.sort) (seen p.args.x) (seen p.args.y) ≡ value
-  seen_value = seen_both p.fits.x p.fits.y (new_value (sort_means p.args.sort))
+  seen_value = seen_both p.ranges.x p.ranges.y (new_value (sort_means p.args.sort))
 
   within : (w : ℕ) {r : Bool}
       → r ≡ in_range w (new_value (sort_means p.args.sort) (seen p.args.x) (seen p.args.y)) → r

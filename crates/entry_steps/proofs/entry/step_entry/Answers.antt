@@ -7,6 +7,6 @@ use Rattle.entry_steps.proofs.entry.step_entry.Goals as goal
 
 pub returns : goal.returns
 returns c =
-    let q = c.before.before.before.before.before in
+    let q = c in
     c.put.ensures
     ∙ ap (set q.args.a.now q.args.i) (handed q.requires.2 c.new_entry-v.ensures)

@@ -21,7 +21,7 @@ use Rattle.entry_steps.proofs.entry.step_entry_within.Goals.{After-passes_test, 
 -- both are read: what is handed on is the two entries themselves, and their value that of the place
 module _ (c : After-read_entry-y) where
   abbrev p : Start
-  p = c.before.before.before.before
+  p = c.before.before
 
   seen-x : seen c.read_entry-x.result ≡ get_or p.args.a.now p.args.i 0ℤ
   unfolding entries
@@ -46,25 +46,25 @@ told : (c : After-passes_test) → c.passes_test.result ≡ in_range (p c.before
 told c = c.passes_test.ensures ∙ ap (in_range (p c.before).args.w) (seen_value c.before)
 
 pub returns-then-not-passes_test : goal.returns-then-not-passes_test
-returns-then-not-passes_test c = let r = c.before.before in record {
-  value = (sym (not-true _ c.if-not-passes_test.true) ∙ told c.before, r.read_entry-x.ensures.1);
+returns-then-not-passes_test c = let r = c in record {
+  value = (sym (c.if-not-passes_test.true) ∙ told c.before, r.read_entry-x.ensures.1);
   a_after = refl;
 }
 
 -- the test passed: the value is within w, and fits
 module _ (c : Else-not-passes_test) where
   passed : true ≡ in_range (p c.before.before).args.w (value c.before.before)
-  passed = sym (not-false _ c.if-not-passes_test.false) ∙ told c.before
+  passed = sym (c.if-not-passes_test.false) ∙ told c.before
 
   value_fits : SFits w64 (value c.before.before)
-  value_fits = range_fits _ (range_more (p c.before.before).pre.2.1 _ (sym passed))
+  value_fits = range_fits _ (range_more (p c.before.before).requires.2.1 _ (sym passed))
 
 pub new_value-v-requires : goal.new_value-v-requires
 new_value-v-requires c = rw (seen_value c.before.before) (value_fits c)
 
 pub returns : goal.returns
 returns c = let e = c.before.before.before.before in
-    let r = e.before.before in
+    let r = c.before.before.before.before.before.before in
     let q = p r in record {
       value = (passed e, r.read_entry-x.ensures.1);
       a_after = c.put.ensures

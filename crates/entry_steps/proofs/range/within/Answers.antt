@@ -23,8 +23,8 @@ module _ (p : Start) where
 
   lower : le_z (seen (pos 0 -ℤ to_z w64 p.args.w)) (seen p.args.v) ≡ le_z (neg_ℤ (pos p.args.w)) p.args.v
   lower =
-      ap₂ le_z (to_z-of_z (negative_fits p.args.w p.pre.1) ∙ negative p.args.w p.pre.1)
-      (to_z-of_z p.fits.v)
+      ap₂ le_z (to_z-of_z (negative_fits p.args.w p.requires.1) ∙ negative p.args.w p.requires.1)
+      (to_z-of_z p.ranges.v)
 
 pub returns-then-least-v : goal.returns-then-least-v
 returns-then-least-v c =

@@ -20,7 +20,7 @@ bounds-shelf-at c = omega (arith, c.requires)
 
 pub loop-i-preserved : goal.loop-i-preserved
 loop-i-preserved c =
-    let loop = c.before.before in
+    let loop = c in
     let a = loop.args in
     let k = loop.loop-i.i in (
       (λ e. let p = neither loop.loop-i.found _ e in
@@ -31,6 +31,6 @@ loop-i-preserved c =
 
 pub returns : goal.returns
 returns c =
-    let loop = c.before in
+    let loop = c in
     let all : loop.loop-i.i ≡ 16 = omega arith in
     rw all at loop.loop-i.invariant.0

@@ -18,7 +18,7 @@ returns-then-shelf-at c = c.loop-at.invariant
 
 pub loop-at-preserved : goal.loop-at-preserved
 loop-at-preserved c =
-    let loop = c.before.before.before in
+    let loop = c in
     let a = loop.args in (
       omega (arith, loop.loop-at.invariant.0),
       omega arith,

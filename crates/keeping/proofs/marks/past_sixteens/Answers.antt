@@ -17,7 +17,7 @@ returns-then-marked_ahead c = c.loop-at.invariant
 
 pub loop-at-preserved : goal.loop-at-preserved
 loop-at-preserved c =
-    let loop = c.before.before.before in
+    let loop = c in
     let a = loop.args in (
       omega (arith, loop.loop-at.invariant.0),
       marked-ahead-requires c.before.before c.marked_ahead.lifetimes,

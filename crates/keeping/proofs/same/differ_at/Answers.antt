@@ -23,7 +23,7 @@ found a r b e s = rw e at s
 
 pub returns-then-differ_some : goal.returns-then-differ_some
 returns-then-differ_some c =
-    let loop = c.before.before.before in
+    let loop = c in
     let a = loop.args in
     let cs = coefficients_at a.w (length a.coeffs.now) (drop 10 a.bytes.now) in
     let here = found _ _ _ loop.loop-i.invariant.0 c.differ_some.ensures in
@@ -32,7 +32,7 @@ returns-then-differ_some c =
 
 pub loop-i-preserved : goal.loop-i-preserved
 loop-i-preserved c =
-    let loop = c.before.before.before in (
+    let loop = c in (
       sym (found _ _ _ loop.loop-i.invariant.0 c.differ_some.ensures) ∙ c.if-differ_some.false,
       (differ-some-requires c.before.before c.differ_some.lifetimes).3,
     )
@@ -43,7 +43,7 @@ differ_some-requires-2 c =
 
 pub returns : goal.returns
 returns c =
-    let loop = c.before.before in
+    let loop = c in
     let a = loop.args in
     let cs = coefficients_at a.w (length a.coeffs.now) (drop 10 a.bytes.now) in
     let all : loop.loop-i.i + (length a.coeffs.now - loop.loop-i.i) ≡ length a.coeffs.now = omega arith in

@@ -31,17 +31,17 @@ unlike-found-requires c =
 
 pub loop-i-preserved : goal.loop-i-preserved
 loop-i-preserved c =
-    let loop = c.before.before in
+    let loop = c in
     let a = loop.args in (
-      differ-next (stored loop.before) a.coeffs.now a.from loop.loop-i.i
-          (differ_to a.from (stored loop.before) a.coeffs.now) loop.loop-i.found c.unlike-found.result
+      differ-next (stored c.before.before.before) a.coeffs.now a.from loop.loop-i.i
+          (differ_to a.from (stored c.before.before.before) a.coeffs.now) loop.loop-i.found c.unlike-found.result
           loop.loop-i.invariant.0 c.unlike-found.ensures,
       omega arith,
     )
 
 pub returns : goal.returns
 returns c =
-    let loop = c.before in
+    let loop = c in
     let a = loop.args in
     let all : loop.loop-i.i ≡ a.count = omega arith in
     rw all at loop.loop-i.invariant.0

@@ -41,7 +41,7 @@ slice_bounds-first_half-end-2 c =
 
 pub first_half-height-requires : goal.first_half-height-requires
 first_half-height-requires c =
-    let start = c.before.before.before.before in
+    let start = c in
     let counted = c.count_in-count.ensures in
     let index = c.index_in.ensures.0 in
     let b = bytes_each start.args.bytes.now (λ i. (c.type_inv.bytes i).fits) in
@@ -59,7 +59,7 @@ module _ (f : After-first_half-height) where
   k = half_of f.count_in-count.result
 
   abbrev made : List ℤ
-  made = f.first_half-height.last.1.1.0
+  made = f.first_half-height.new.b
 
   abbrev behind : List ℤ
   behind = drop k (start f).args.coeffs.now
@@ -68,28 +68,28 @@ module _ (f : After-first_half-height) where
   counted = f.count_in-count.ensures
 
   same_index : coefficients 1 f.index_in.result ≡ own (bs f)
-  same_index = ap₂ coefficients (sym (start f).pre.2) f.index_in.ensures.0
+  same_index = ap₂ coefficients (sym (start f).requires.2) f.index_in.ensures.0
 
   made-own : made ≡ first_half (own (bs f))
   made-own = f.first_half-height.ensures.b_after ∙ ap first_half same_index
 
   made-long : length made ≡ k
   made-long =
-      ap length made-own ∙ half-own (bs f) (each f) (start f).pre.0 (start f).pre.2 (start f).pre.4
+      ap length made-own ∙ half-own (bs f) (each f) (start f).requires.0 (start f).requires.2 (start f).requires.4
       ∙ ap half_of (sym counted)
 
   front : take k (made ++ behind) ≡ made
   front = take_at made behind k made-long
 
   within : k ≤ length (start f).args.coeffs.now
-  within = omega (arith, counted, (start f).pre.1, (header (bs f) (start f).pre.0).count)
+  within = omega (arith, counted, (start f).requires.1, (header (bs f) (start f).requires.0).count)
 
   all-long : length (made ++ behind) ≡ length (start f).args.coeffs.now
   all-long =
       length-append made behind ∙ omega (arith, made-long, length-drop k (start f).args.coeffs.now, within)
 
   tall : f.first_half-height.result ≡ height (kind_in (bs f)) (index_in (bs f))
-  tall = f.first_half-height.ensures.value ∙ ap₂ height (sym (start f).pre.2) f.index_in.ensures.0
+  tall = f.first_half-height.ensures.value ∙ ap₂ height (sym (start f).requires.2) f.index_in.ensures.0
 
 least : (c : After-least_width) → c.least_width.result
     ≡ least_of widths (height (kind_in (bs c.before.before.before)) (index_in (bs c.before.before.before)))
@@ -107,18 +107,18 @@ returns-then-least_width-w c = let f = c.before.before.before.before in record {
 
 pub slice_bounds-differ_in-end-2 : goal.slice_bounds-differ_in-end-2
 slice_bounds-differ_in-end-2 c =
-    let f = c.before.before.before.before.before in sym (ap length (front f) ∙ made-long f)
+    let f = c.before.before.before.before in sym (ap length (front f) ∙ made-long f)
 
 pub differ_in-requires : goal.differ_in-requires
 differ_in-requires c =
-    let f = c.before.before.before.before.before in
+    let f = c.before.before.before.before in
     rw (front f)
     (comparable_half (bs f) (each f) (start f).requires.0 (start f).requires.2 (start f).requires.4 _
     c.width_in-w.ensures _ (made-own f)
-    (sym (least c.before.before) ∙ c.if-least_width-w.false))
+    (sym (least c.before) ∙ c.if-least_width-w.false))
 
 pub returns-then-differ_in : goal.returns-then-differ_in
-returns-then-differ_in c = let f = c.before.before.before.before.before.before.before in record {
+returns-then-differ_in c = let f = c.before.before.before.before.before.before in record {
   value = halves_differ (bs f) (each f) (start f).requires.0 (start f).requires.2 (start f).requires.4 _
       c.width_in-w.ensures _ (made-own f)
       (sym (rw (front f) at c.differ_in.ensures) ∙ c.if-differ_in.true);
@@ -127,11 +127,11 @@ returns-then-differ_in c = let f = c.before.before.before.before.before.before.b
 
 pub uneven_in-requires : goal.uneven_in-requires
 uneven_in-requires c =
-    let f = c.before.before.before.before.before.before.before in
+    let f = c.before.before.before.before.before.before in
     stored-right (bs f) (start f).requires.0 _ _ c.width_in-w.ensures (counted f)
 
 pub returns : goal.returns
-returns c = let f = c.before.before.before.before.before.before.before.before in record {
+returns c = let f = c.before.before.before.before.before.before.before in record {
   value = ap not (c.uneven_in.ensures ∙ ap (λ (k : ℕ). uneven false
       (coefficients_at c.width_in-w.result k (drop 10 (bs f))))
       (counted f))

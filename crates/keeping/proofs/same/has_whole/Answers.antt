@@ -73,20 +73,20 @@ slice_bounds-differ_in-end-2 c = sym (length-take-le _ _ (slice-reshare-prefix-d
 
 -- what is compared is its polynomial
 made : (p : After-polynomial-made) (k : ℕ) → k ≡ count_in (bs p)
-    → take k p.polynomial-made.new.1.1.1.1.0 ≡ coefficients (kind_in (bs p)) (index_in (bs p))
+    → take k p.polynomial-made.new.buf ≡ coefficients (kind_in (bs p)) (index_in (bs p))
 made p =
     made_is (bs p) (each p) (start p).requires.0 (start p).args.coeffs.now (start p).requires.1 _ _ (kind_is p)
     (index_is p) p.polynomial-made.ensures.buf_after
 
 pub differ_in-requires : goal.differ_in-requires
 differ_in-requires c =
-    let p = c.before.before.before.before.before.before in
+    let p = c.before.before.before.before.before in
     comparable (bs p) (each p) (start p).requires.0 _ c.width_in-w.ensures _
     (made p _ c.count_in-count.ensures)
-    (sym (least c.before.before.before) ∙ c.if-least_width-w.false)
+    (sym (least c.before.before) ∙ c.if-least_width-w.false)
 
 pub returns : goal.returns
-returns c = let p = c.before.before.before.before.before.before.before in record {
+returns c = let p = c.before.before.before.before.before.before in record {
   value = ap not (c.differ_in.ensures
       ∙ compared (bs p) (each p) (start p).requires.0 _ c.width_in-w.ensures
       _

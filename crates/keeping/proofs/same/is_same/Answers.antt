@@ -16,7 +16,7 @@ index_in-requires c = (header _ c.requires.0).long
 
 pub has_half-requires : goal.has_half-requires
 has_half-requires c =
-    let start = c.before.before.before.before.before.before.before.before in
+    let start = c in
     let bs = start.args.bytes.now in
     let b = bytes_each bs (λ i. (c.type_inv.bytes
     i).fits) in

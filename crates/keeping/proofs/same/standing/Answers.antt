@@ -19,15 +19,15 @@ stands start w e b is =
     rw (← e, is) (lowest start.args.w start.requires.0 start.args.x start.requires.1)
 
 pub returns-in-1 : goal.returns-in-1
-returns-in-1 c = stands c.before.before 1 c.in-1.keys1 _ (c.bits_of-b.ensures ∙ ap (of_z w64)
+returns-in-1 c = stands c.before.before 1 c.in-1.is _ (c.bits_of-b.ensures ∙ ap (of_z w64)
     (to_z-of_z c.ranges.x))
 
 pub returns-in-2 : goal.returns-in-2
-returns-in-2 c = stands c.before.before 2 c.in-2.keys2 _
+returns-in-2 c = stands c.before.before 2 c.in-2.is _
     (c.bits_of-b.ensures ∙ ap (of_z w64) (to_z-of_z c.ranges.x))
 
 pub returns-in-4 : goal.returns-in-4
-returns-in-4 c = stands c.before.before 4 c.in-4.keys3 _
+returns-in-4 c = stands c.before.before 4 c.in-4.is _
     (c.bits_of-b.ensures ∙ ap (of_z w64) (to_z-of_z c.ranges.x))
 
 pub returns-in_default : goal.returns-in_default
@@ -38,5 +38,5 @@ returns-in_default c =
     omega (
       arith,
       stands start 8 last _ (c.bits_of-b.ensures ∙ ap (of_z w64) (to_z-of_z start.ranges.x)),
-      c.bits_of-b.type-inv,
+      c.bits_of-b.type_inv,
     )

@@ -14,7 +14,7 @@ use Rattle.kept_half.proofs.run.make_kept_half.Goals as goal
 
 pub take_divisors-outcome-requires : goal.take_divisors-outcome-requires
 unfolding entries
-take_divisors-outcome-requires c = let p = c.before.before in record {
+take_divisors-outcome-requires c = let p = c in record {
   kept_half_at = fresh-stands p.args.w p.args.kind p.args.walk _ p.requires.workable p.requires.walk_at_start.0
       (length-set p.args.a.now 0 _ ∙ p.requires.walk_at_start.1)
       (get_or-set_same p.args.a.now 0 _ 0ℤ (omega arith)

@@ -17,8 +17,8 @@ loop-i-init c = (
 
 pub take_divisor-outcome-requires : goal.take_divisor-outcome-requires
 take_divisor-outcome-requires c =
-    let q = c.before.before in
-    let p = q.before in (
+    let q = c in
+    let p = c in (
       stands p.args.w p.args.kind p.args.walk.r p.requires.kept_half_at.walk.squarefree p.requires.kept_half_at.walk.small
           p.requires.kept_half_at.above
           q.loop-i.invariant.1 (omega arith),
@@ -28,16 +28,16 @@ take_divisor-outcome-requires c =
 
 pub shape_of-a-then-outcome : goal.shape_of-a-then-outcome
 shape_of-a-then-outcome c =
-    let q = c.before.before.before.before.before.before in
-    let p = q.before in
+    let q = c in
+    let p = c in
     turned-length p.args.w p.args.kind p.args.walk.r p.requires.kept_half_at.walk.squarefree p.requires.kept_half_at.walk.small
     p.requires.kept_half_at.above q.loop-i.invariant.1 (omega arith) c.take_divisor-outcome.ensures
     ∙ sym (standing_length p.requires.kept_half_at)
 
 pub returns-then-outcome : goal.returns-then-outcome
 returns-then-outcome c =
-    let q = c.before.before.before.before.before.before in
-    let p = q.before in
+    let q = c in
+    let p = c in
     ran_over p.args.w p.args.kind p.args.walk.r q.loop-i.i p.args.j _ (omega arith)
     (stops p.args.w p.args.kind p.args.walk.r p.requires.kept_half_at.walk.squarefree p.requires.kept_half_at.walk.small
     p.requires.kept_half_at.above
@@ -48,8 +48,8 @@ returns-then-outcome c =
 
 pub overflow_add-additions : goal.overflow_add-additions
 overflow_add-additions c =
-    let q = c.before.before.before.before.before.before.before in
-    let p = q.before in
+    let q = c in
+    let p = c in
     let u = runs_on p.args.w p.args.kind p.args.walk.r p.requires.kept_half_at.walk.squarefree
     p.requires.kept_half_at.walk.small
     p.requires.kept_half_at.above q.loop-i.invariant.1 (omega arith) c.take_divisor-outcome.ensures
@@ -63,8 +63,8 @@ overflow_add-additions c =
 
 pub loop-i-preserved : goal.loop-i-preserved
 loop-i-preserved c =
-    let q = c.before.before.before.before.before.before.before.before in
-    let p = q.before in (
+    let q = c in
+    let p = c in (
       omega arith,
       runs_on p.args.w p.args.kind p.args.walk.r p.requires.kept_half_at.walk.squarefree p.requires.kept_half_at.walk.small
           p.requires.kept_half_at.above q.loop-i.invariant.1 (omega arith)
@@ -76,16 +76,16 @@ write_out-requires c = c.loop-i.invariant.1.told
 
 pub shape_of-a : goal.shape_of-a
 shape_of-a c =
-    let q = c.before.before.before.before in
-    let p = q.before in
+    let q = c in
+    let p = c in
     ap length (c.write_out.ensures ∙ q.loop-i.invariant.1.half)
     ∙ kept-length p.args.kind p.args.walk.r q.loop-i.i
     ∙ sym (standing_length p.requires.kept_half_at)
 
 pub returns : goal.returns
 returns c =
-    let q = c.before.before.before.before in
-    let p = q.before in
+    let q = c in
+    let p = c in
     let e : q.loop-i.i ≡ p.args.j = omega arith in
     ran p.args.w p.args.kind p.args.walk.r p.args.j q.loop-i.additions q.loop-i.bound
     q.loop-i.at q.loop-i.outline q.loop-i.a _

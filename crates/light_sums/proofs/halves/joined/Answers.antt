@@ -29,18 +29,18 @@ returns-then-v-gt2147483647 c =
 
 between : (c : Else-v-gt2147483647) → mag c.args.v < 2147483648
 between c =
-    let p = c.before.before in
+    let p = c in
     test_between 2147483647 p.args.v (rw (to_z-of_z p.ranges.v) at c.if-v-ltminus2147483648.false)
     (rw (to_z-of_z p.ranges.v) at c.if-v-gt2147483647.false)
 
 pub add_product-requires : goal.add_product-requires
 add_product-requires c =
-    let p = c.before.before in
+    let p = c in
     joined_asks half 2147483648 refl (omega arith) p.args.v p.args.d p.ranges.v p.ranges.d p.requires
     (between c)
 
 pub returns : goal.returns
 returns c =
-    let p = c.before.before.before in
+    let p = c in
     joined_seen half 2147483648 refl (omega arith) p.args.v p.args.d p.ranges.v p.ranges.d p.requires
     (between c.before) c.add_product.result c.add_product.ensures

@@ -15,7 +15,7 @@ use Rattle.light_sums.proofs.halves.whole.Goals.{After-high_half, After-low_half
 
 above : (c : After-high_half) → seen c.high_half.result ≡ high_half c.args.low
 above c =
-    let p = c.before in
+    let p = c in
     handed (shr_fits half p.args.low p.ranges.low) (c.high_half.ensures ∙ ap high_half (to_z-of_z p.ranges.low))
 
 pub plus-requires : goal.plus-requires
@@ -24,7 +24,7 @@ plus-requires c = rw (above c, to_z-of_z c.ranges.high) c.requires
 low : (c : After-low_half) → seen c.low_half.result ≡ pos (rest half c.args.low)
 unfolding low_half
 low c =
-    let p = c.before.before.before in
+    let p = c in
     handed (rest_fits half 2147483648 refl (omega arith) p.args.low)
     (c.low_half.ensures ∙ ap low_half (to_z-of_z p.ranges.low))
 
@@ -35,7 +35,7 @@ joined-requires c =
 
 pub returns : goal.returns
 returns c =
-    let p = c.before.before.before.before in
+    let p = c in
     let sum : seen c.plus.result ≡ p.args.high ⊕ high_half p.args.low =
     handed p.requires
     (c.plus.ensures ∙ ap₂ ◌⊕◌ (to_z-of_z p.ranges.high) (above c.before.before.before)) in

@@ -12,7 +12,7 @@ pub loop-j-init : goal.loop-j-init
 loop-j-init c = (omega arith, c.requires.from_le_to.0, sum-seen c.requires.f_bound.0 c.requires.f_bound.1)
 
 pub add_term-sum-requires : goal.add_term-sum-requires
-add_term-sum-requires c = let p = c.before.before in record {
+add_term-sum-requires c = let p = c in record {
   j_in_bounds = (omega arith, omega arith, p.requires.from_le_to.3);
   f_bound = (p.requires.f_bound.0, c.loop-j.invariant.2);
 }

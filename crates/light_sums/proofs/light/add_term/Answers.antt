@@ -37,7 +37,7 @@ module _ (c : After-half_of) where
       (c.half_of.ensures ∙ ap (half_of p.args.high) (handed y_fits c.read_entry-y.ensures.0))
 
   next : SFits w64 (x ⊗ half_of p.args.high y) × SFits w64 (p.args.s ⊕ x ⊗ half_of p.args.high y)
-  next = more_asks p.pre.1.0 p.pre.1.1 y_fits
+  next = more_asks p.requires.f_bound.0 p.requires.f_bound.1 y_fits
 
 pub add_product-requires : goal.add_product-requires
 add_product-requires c = rw (x-seen c, y-seen c, to_z-of_z (p c).ranges.s) (next c)

@@ -12,13 +12,13 @@ use Rattle.light_sums.proofs.light.half_of.Goals as goal
 pub returns-then-high : goal.returns-then-high
 unfolding half_of
 returns-then-high c =
-    let p = c.before.before in
+    let p = c in
     rw c.if-high.true
     (handed (half_fits true p.args.y p.ranges.y) (c.high_half.ensures ∙ ap high_half (to_z-of_z p.ranges.y)))
 
 pub returns : goal.returns
 unfolding half_of
 returns c =
-    let p = c.before.before in
+    let p = c in
     rw c.if-high.false
     (handed (half_fits false p.args.y p.ranges.y) (c.low_half.ensures ∙ ap low_half (to_z-of_z p.ranges.y)))

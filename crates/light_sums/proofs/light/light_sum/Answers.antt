@@ -18,14 +18,14 @@ pub loop-j-init : goal.loop-j-init
 loop-j-init c = let t = c.requires.0 in (omega arith, t.order, start t true, start t false)
 
 pub add_four-high-requires : goal.add_four-high-requires
-add_four-high-requires c = let p = c.before.before in
+add_four-high-requires c = let p = c in
     let t = p.requires.0 in record {
       j_in_bounds = (omega (arith, t.few), omega (arith, t.most), t.inside);
       f_bound = (p.requires.1, c.loop-j.invariant.2);
     }
 
 pub add_four-low-requires : goal.add_four-low-requires
-add_four-low-requires c = let p = c.before.before.before in
+add_four-low-requires c = let p = c in
     let t = p.requires.0 in record {
       j_in_bounds = (omega (arith, t.few), omega (arith, t.most), t.inside);
       f_bound = (p.requires.1, c.loop-j.invariant.3);
@@ -37,14 +37,14 @@ loop-j-preserved c =
     (omega arith, omega arith, sum-seen l c.add_four-high.ensures, sum-seen l c.add_four-low.ensures)
 
 pub add_rest-requires : goal.add_rest-requires
-add_rest-requires c = let p = c.before.before in
+add_rest-requires c = let p = c in
     let t = p.requires.0 in record {
       from_le_to = (c.loop-j.invariant.1, t.few, omega (arith, t.most), t.inside);
       f_bound = (p.requires.1, c.loop-j.invariant.2);
     }
 
 pub add_rest-requires-2 : goal.add_rest-requires-2
-add_rest-requires-2 c = let p = c.before.before.before in
+add_rest-requires-2 c = let p = c in
     let t = p.requires.0 in record {
       from_le_to = (c.loop-j.invariant.1, t.few, omega (arith, t.most), t.inside);
       f_bound = (p.requires.1, c.loop-j.invariant.3);
@@ -59,7 +59,7 @@ whole-requires c =
 
 pub returns : goal.returns
 returns c =
-    let p = c.before.before.before.before.before in
+    let p = c in
     let l = p.requires.1 in
     let high = sum-seen l c.add_rest.ensures in
     let low = sum-seen l c.add_rest-2.ensures in

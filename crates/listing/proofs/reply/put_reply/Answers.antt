@@ -12,39 +12,39 @@ use Rattle.listing.proofs.reply.put_reply.Goals as goal
 
 pub returns-then-not-q : goal.returns-then-not-q
 returns-then-not-q c = let told =
-    let s = c.before.before.before.before.before.before.before.before.before in
+    let s = c in
     let q = c.read_line-q in
     rw (← replied_wrong s.args.number s.args.line.now q.result q.ensures.0
-    (not-true _ c.if-not-q.true))
+    (c.if-not-q.true))
     (c.put_wrong.ensures.puts, omega (arith, c.put_wrong.ensures.upper_bound)) in record { puts = told.0; upper_bound = told.1 }
 
 pub overflow_cast-q : goal.overflow_cast-q
 overflow_cast-q c = record { sfits = omega (arith, c.read_line-q.ensures.1) }
 
 pub put_tail-requires : goal.put_tail-requires
-put_tail-requires c = let s = c.before.before.before.before.before.before.before.before.before.before.before.before.before.before.before in
+put_tail-requires c = let s = c in
     let q = c.read_line-q.result in
     let a = c.polynomial-a in record {
       entries_in_bounds = omega (
         arith,
         a.auto.1.1.1.1.0,
         c.put_head-p.ensures.upper_bound,
-        s.pre.0,
-        s.pre.1,
+        s.requires.0,
+        s.requires.1,
       );
       degree_in_bounds = λ z. omega (arith, a.auto.1.1.1.1.0, degree_fits q.kind q.n _ _ _ a.ensures.0 z);
     }
 
 pub returns : goal.returns
 returns c = let told =
-    let s = c.before.before.before.before.before.before.before.before.before.before.before.before.before.before.before.before.before.before in
+    let s = c in
     let q = c.read_line-q in
     let a = c.polynomial-a in
     let f : SFits w64 (pos q.result.h) = record { sfits = omega (arith, q.ensures.1) } in
     rw (← replied s.args.number s.args.line.now q.result q.ensures.0 a.result s.args.entries.now
     a.new.1.1.1.1.0
     (not-false _
-    c.if-not-q.false) s.pre.0 (rw (to_z-of_z f) at a.ensures.0) (rw (to_z-of_z f) at a.ensures.1)) (
+    c.if-not-q.false) s.requires.0 (rw (to_z-of_z f) at a.ensures.0) (rw (to_z-of_z f) at a.ensures.1)) (
       then c.put_head-p.ensures.puts
           c.put_tail.ensures.puts,
       omega (
@@ -52,6 +52,6 @@ returns c = let told =
         c.put_head-p.ensures.upper_bound,
         c.put_tail.ensures.upper_bound,
         a.auto.1.1.1.1.0,
-        s.pre.0,
+        s.requires.0,
       ),
     ) in record { puts = told.0; upper_bound = told.1 }

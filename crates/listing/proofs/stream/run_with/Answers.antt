@@ -36,9 +36,6 @@ put_closing-made-requires c =
       omega (arith, g.fits, g.same, c.if-out-made-lt-MOST.false),
     )
 
-pub next-s-requires : goal.next-s-requires
-next-s-requires c = tt
-
 pub loop-i-preserved-then-b-eq10 : goal.loop-i-preserved-then-b-eq10
 loop-i-preserved-then-b-eq10 c =
     let t = c.loop-i in
@@ -50,9 +47,6 @@ loop-i-preserved-then-b-eq10 c =
           c.if-out-made-lt-MOST.false p.ensures.0 p.ensures.1),
       p.auto.1.1.1.0 ∙ t.invariant.1,
     )
-
-pub push-s-requires : goal.push-s-requires
-push-s-requires c = tt
 
 pub loop-i-preserved : goal.loop-i-preserved
 loop-i-preserved c =

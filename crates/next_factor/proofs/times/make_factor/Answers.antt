@@ -6,7 +6,7 @@ use Rattle.next_factor.proofs.times.make_factor.Goals as goal
 
 pub overflow_add-result : goal.overflow_add-result
 overflow_add-result c =
-    let p = c.before.before.before in
+    let p = c in
     record {
       fits = omega (
         arith,
@@ -16,6 +16,6 @@ overflow_add-result c =
 
 pub returns : goal.returns
 returns c =
-    let p = c.before.before.before in
+    let p = c in
     let made = c.polynomial-made in
     made_is p.args.n p.requires.0 p.args.scratch.now p.requires.1 made.ensures.0 made.ensures.1

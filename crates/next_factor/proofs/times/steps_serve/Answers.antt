@@ -15,7 +15,7 @@ returns-then-by_steps c =
 pub slice_bounds-weight_of-end-2 : goal.slice_bounds-weight_of-end-2
 slice_bounds-weight_of-end-2 c =
     let made = c.make_factor-size in
-    let p = c.before.before.before.before.before.before.before in
+    let p = c in
     sym (length-take-le _ _ (omega (arith, made.ensures.0, made.auto.0, p.requires.2)))
 
 pub by_steps-requires-2 : goal.by_steps-requires-2

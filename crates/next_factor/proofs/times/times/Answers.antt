@@ -16,18 +16,18 @@ times_lower-requires c =
 
 pub returns-then-not-times_lower : goal.returns-then-not-times_lower
 returns-then-not-times_lower c =
-    let p = c.before.before.before.before.before.before in
-    lower-over p.requires.0 p.requires.1 c.times_lower.ensures (not-true _ c.if-not-times_lower.true)
+    let p = c in
+    lower-over p.requires.0 p.requires.1 c.times_lower.ensures (c.if-not-times_lower.true)
 
 pub mirror-requires : goal.mirror-requires
 mirror-requires c =
-    let p = c.before.before.before.before.before.before.before in
+    let p = c in
     mirror_asks p.requires.0 p.requires.1 c.times_lower.ensures
-    (not-false _ c.if-not-times_lower.false)
+    (c.if-not-times_lower.false)
 
 pub returns : goal.returns
 returns c =
-    let t = c.before.before.before.before.before.before in
-    let p = t.before.before.before in
-    mirror_makes p.requires.0 p.requires.1 t.times_lower.ensures (not-false _ c.if-not-times_lower.false)
+    let t = c in
+    let p = c in
+    mirror_makes p.requires.0 p.requires.1 t.times_lower.ensures (c.if-not-times_lower.false)
     c.mirror.ensures

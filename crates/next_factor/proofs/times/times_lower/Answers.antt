@@ -19,14 +19,14 @@ module _ (e : Else-steps_serve) where
   start = e.before.before.before.before
 
   terms : start.args.parts.phi ≡ phi start.args.n
-  terms = parts_phi start.args.n start.args.parts start.pre.0.apart
+  terms = parts_phi start.args.n start.args.parts start.requires.0.apart
 
-  room : start.args.parts.phi + 1 ≤ length e.steps_serve.last.0
-  room = omega (arith, terms, e.steps_serve.kept.0, start.pre.1)
+  room : start.args.parts.phi + 1 ≤ length e.steps_serve.new.scratch
+  room = omega (arith, terms, e.steps_serve.kept.0, start.requires.1)
 
-  made : take (start.args.parts.phi + 1) e.steps_serve.last.0 ≡ factor start.args.n
+  made : take (start.args.parts.phi + 1) e.steps_serve.new.scratch ≡ factor start.args.n
   made =
-      ap (λ k. take k e.steps_serve.last.0)
+      ap (λ k. take k e.steps_serve.new.scratch)
       (ap (λ x. x + 1) terms ∙ add-one (phi start.args.n))
       ∙ e.steps_serve.ensures.1 e.if-steps_serve.left
 
@@ -37,7 +37,7 @@ times_factor-requires c =
 
 pub returns-then-steps_serve : goal.returns-then-steps_serve
 returns-then-steps_serve c =
-    let s = c.before.before.before.before.before in
+    let s = c in
     by_steps s.requires.0 (s.steps_serve.ensures.0 c.if-steps_serve.true).light _
     c.times_factor.ensures
 
@@ -51,13 +51,13 @@ slice_bounds-multiply-end c =
 
 pub slice_bounds-multiply-end-2 : goal.slice_bounds-multiply-end-2
 slice_bounds-multiply-end-2 c =
-    sym (length-take-le _ _ (room c.before.before))
+    sym (length-take-le _ _ (room c.before))
 
 pub multiply-requires : goal.multiply-requires
 multiply-requires c =
-    multiply_asks (start c.before.before).pre.0 (made c.before.before)
+    multiply_asks (start c.before).requires.0 (made c.before)
 
 pub returns : goal.returns
 returns c =
-    let e = c.before.before.before.before in
+    let e = c.before.before.before in
     multiplied_out (start e).requires.0 (made e) _ _ c.multiply.ensures.value c.multiply.ensures.b_after

@@ -34,10 +34,10 @@ module _ (q : After-over-walk) where
   n = start.args.n
 
   d_is : q.half_degree-d.result ≡ half_degree kind (r_of n)
-  d_is = Walked.half_is kind n start.args.parts start.pre _ q.half_degree-d.ensures
+  d_is = Walked.half_is kind n start.args.parts start.requires _ q.half_degree-d.ensures
 
   due_is : q.over-walk.result.due ≡ divisors_due (r_of n)
-  due_is = Walked.walk_due kind n start.args.parts start.pre q.over-walk.result q.over-walk.ensures
+  due_is = Walked.walk_due kind n start.args.parts start.requires q.over-walk.result q.over-walk.ensures
 
   abbrev D : ℕ
   D = q.half_degree-d.result
@@ -60,14 +60,8 @@ module _ (q : After-over-walk) {m : List ℤ} {h : RunOutcome} where
       → KeptHalfIs limit (kind q) (r_of (n q)) (start q).args.j m h
   walk_of_r = Walked.of_r (kind q) (n q) (start q).args.parts (start q).requires q.over-walk.result q.over-walk.ensures _
 
-pub half_degree-d-requires : goal.half_degree-d-requires
-half_degree-d-requires c = tt
-
 pub over-walk-requires : goal.over-walk-requires
-over-walk-requires c = let p = c.before in parts_few p.args.n p.args.parts p.requires.parts p.requires.good
-
-pub refused-requires : goal.refused-requires
-refused-requires c = tt
+over-walk-requires c = let p = c in parts_few p.args.n p.args.parts p.requires.parts p.requires.good
 
 pub returns-then-walk-j : goal.returns-then-walk-j
 returns-then-walk-j c = let q = c.before.before.before in
@@ -76,9 +70,6 @@ returns-then-walk-j c = let q = c.before.before.before in
       value = c.refused.ensures ∙ s.0;
       buf_after = s.1;
     }
-
-pub refused-requires-then-w-lt1 : goal.refused-requires-then-w-lt1
-refused-requires-then-w-lt1 c = tt
 
 pub returns-then-w-lt1 : goal.returns-then-w-lt1
 returns-then-w-lt1 c = let q = c.before.before.before.before in
@@ -97,18 +88,15 @@ module _ (e : Else-w-lt1) where
   w = (start walked).args.w
 
   good : below_one w ≡ false
-  good = below_one_lem w (start walked).fits.w e.if-w-lt1.left
+  good = below_one_lem w (start walked).ranges.w e.if-w-lt1.left
 
   limit : {m : ℕ} → m ≡ nat_abs (seen w) → (m ≡ nat_abs w) × (pos m ≡ w) × Workable m
-  limit = read_limit w (start walked).fits.w good
-
-pub refused-requires-then-buf-d : goal.refused-requires-then-buf-d
-refused-requires-then-buf-d c = tt
+  limit = read_limit w (start walked).ranges.w good
 
 pub returns-then-buf-d : goal.returns-then-buf-d
 returns-then-buf-d c = let e = c.before.before in
     let q = walked e in
-    let s = Stopping.too_short (kind q) (n q) (start q).args.j (w e) _ (start q).pre (old q) _ (d_is q)
+    let s = Stopping.too_short (kind q) (n q) (start q).args.j (w e) _ (start q).requires (old q) _ (d_is q)
     (few_due q (omega arith)) (good e) (omega arith) in record {
       value = c.refused-then-buf-d.ensures ∙ s.0;
       buf_after = s.1;
@@ -118,25 +106,19 @@ pub slice_bounds-make_kept_half-end-2 : goal.slice_bounds-make_kept_half-end-2
 slice_bounds-make_kept_half-end-2 c =
     let q = walked c.before.before in sym (part_length q (omega arith) (omega arith))
 
-pub magnitude-requires : goal.magnitude-requires
-magnitude-requires c = tt
-
 pub make_kept_half-outcome-requires : goal.make_kept_half-outcome-requires
 make_kept_half-outcome-requires c = let e = c.before.before.before in
     let q = walked e in record {
-      walk_at_start = Walked.fresh_half (kind q) (n q) _ (start q).pre q.over-walk.result q.over-walk.ensures _ _
+      walk_at_start = Walked.fresh_half (kind q) (n q) _ (start q).requires q.over-walk.result q.over-walk.ensures _ _
           (part_length q (omega arith) (omega arith) ∙ ap (λ k. k + 1) (d_is q)) (few_due q (omega arith));
       workable = (limit e c.magnitude.ensures).2;
     }
 
-pub refused-requires-then-outcome : goal.refused-requires-then-outcome
-refused-requires-then-outcome c = tt
-
 pub returns-then-outcome : goal.returns-then-outcome
-returns-then-outcome c = let m = c.before.before.before in
-    let e = m.before.before.before.before in
+returns-then-outcome c = let m = c in
+    let e = c.before.before.before.before.before.before.before in
     let q = walked e in
-    let s = Stopping.made_over_lem (kind q) (n q) (start q).args.j (w e) _ (start q).pre (old q) _ (d_is q)
+    let s = Stopping.made_over_lem (kind q) (n q) (start q).args.j (w e) _ (start q).requires (old q) _ (d_is q)
     (few_due q (omega arith)) (good e) (omega arith) _ _ (limit e m.magnitude.ensures).0
     (walk_of_r q m.make_kept_half-outcome.ensures) c.if-outcome.true in record {
       value = c.refused-then-outcome.ensures ∙ s.0;
@@ -145,9 +127,9 @@ returns-then-outcome c = let m = c.before.before.before in
 
 pub returns : goal.returns
 returns c = let told =
-    let m = c.before.before in
-    let e = m.before.before.before.before in
+    let m = c in
+    let e = c.before.before.before.before.before.before in
     let q = walked e in
-    Stopping.made_done (kind q) (n q) (start q).args.j (w e) _ (start q).pre (old q) _ (d_is q)
+    Stopping.made_done (kind q) (n q) (start q).args.j (w e) _ (start q).requires (old q) _ (d_is q)
     (few_due q (omega arith)) (good e) (omega arith) _ _ (limit e m.magnitude.ensures).0
     (walk_of_r q m.make_kept_half-outcome.ensures) c.if-outcome.false in record { value = told.0; buf_after = told.1 }

@@ -22,7 +22,7 @@ module _ (g : After-degree_from-degree) where
   start = g.before
 
   degree_is : g.degree_from-degree.result ≡ degree start.args.kind start.args.n
-  degree_is = parts_degree start.args.n _ start.pre.0 start.args.kind _ g.degree_from-degree.ensures
+  degree_is = parts_degree start.args.n _ start.requires.0 start.args.kind _ g.degree_from-degree.ensures
 
 -- a small number is what the machine reads back
 small : (z : ℤ) → nat_abs z ≤ 65535 → SFits w64 z
@@ -33,7 +33,7 @@ returns-then-buf-degree c = let g = c.before.before in
     let p = start g in
     let d = degree_is g in
     let s = at_short p.args.kind p.args.n _ _ p.args.buf.now
-    (ask_short _ _ p.args.h p.args.w _ p.pre.1 p.pre.2 p.pre.3 p.pre.4.0 (omega arith)) in record {
+    (ask_short _ _ p.args.h p.args.w _ p.requires.1 p.requires.2 p.requires.3 p.requires.4.0 (omega arith)) in record {
       value = c.refused.ensures ∙ ap (told-only SHORT) d ∙ s.0;
       buf_after = s.1;
     }
@@ -47,20 +47,20 @@ make-made-requires c =
     let g = c.before.before in
     let p = start g in (
       record {
-        parts = p.pre.0;
-        known = p.pre.1;
-        good = p.pre.2;
+        parts = p.requires.0;
+        known = p.requires.1;
+        good = p.requires.2;
         room = length-take-le _ p.args.buf.now (omega arith) ∙ ap (λ k. k + 1) (degree_is g);
       },
-      p.pre.3,
-      p.pre.4,
+      p.requires.3,
+      p.requires.4,
     )
 
 pub returns-then-made-ne-DONE : goal.returns-then-made-ne-DONE
 returns-then-made-ne-DONE c = let g = c.before.before.before.before.before.before.before in
     let p = start g in
-    let s = refuses p.args.kind p.args.n p.args.h p.args.w p.args.buf.now p.pre.1 p.pre.2
-    p.pre.3 p.pre.4.0 _ (degree_is g) (omega arith) _ _ c.make-made.ensures
+    let s = refuses p.args.kind p.args.n p.args.h p.args.w p.args.buf.now p.requires.1 p.requires.2
+    p.requires.3 p.requires.4.0 _ (degree_is g) (omega arith) _ _ c.make-made.ensures
     c.if-made-ne-DONE.true in record {
       value = c.refused-then-made-ne-DONE.ensures ∙ s.0;
       buf_after = s.1;
@@ -68,13 +68,13 @@ returns-then-made-ne-DONE c = let g = c.before.before.before.before.before.befor
 
 pub gain_of-gain-requires : goal.gain_of-gain-requires
 gain_of-gain-requires c =
-    let p = start c.before.before.before.before.before.before in (p.pre.0, p.pre.2)
+    let p = start c.before.before.before.before.before.before in (p.requires.0, p.requires.2)
 
 pub returns : goal.returns
 returns c = let told =
     let g = c.before.before.before.before.before.before.before in
     let p = start g in
-    delivers p.args.kind p.args.n p.args.h p.args.w p.args.buf.now p.pre.1 p.pre.2
-    p.pre.3 p.pre.4.0 _ (degree_is g) (omega arith) _ _ c.make-made.ensures
+    delivers p.args.kind p.args.n p.args.h p.args.w p.args.buf.now p.requires.1 p.requires.2
+    p.requires.3 p.requires.4.0 _ (degree_is g) (omega arith) _ _ c.make-made.ensures
     c.if-made-ne-DONE.false _
     (to_z-of_z (small _ c.gain_of-gain.ensures.1) ∙ c.gain_of-gain.ensures.0) in record { value = told.0; buf_after = told.1 }

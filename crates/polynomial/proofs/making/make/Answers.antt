@@ -7,7 +7,7 @@ use Rattle.polynomial.proofs.making.make.Goals as goal
 
 pub without_steps-requires : goal.without_steps-requires
 without_steps-requires c =
-    let p = c.before.before.before in (
+    let p = c in (
       p.requires.0,
       sym (r_is _ _ _ _ p.requires.0)
           ∙ c.if-parts-eq1.true,
@@ -15,7 +15,7 @@ without_steps-requires c =
 
 pub returns-then-parts-eq1 : goal.returns-then-parts-eq1
 returns-then-parts-eq1 c =
-    let p = c.before.before.before.before.before in
+    let p = c in
     laid_one p.args.kind p.args.n p.args.h p.args.w _
     (above_zero _ _ _ _ p.requires.0)
     (sym (r_is _ _ _ _ p.requires.0)
@@ -23,7 +23,7 @@ returns-then-parts-eq1 c =
 
 pub make_by_steps-requires : goal.make_by_steps-requires
 make_by_steps-requires c =
-    let p = c.before.before.before in (
+    let p = c in (
       p.requires.0,
       λ e. c.if-parts-eq1.false (r_is _ _ _ _ p.requires.0
           ∙ e),

@@ -26,10 +26,10 @@ module _ (q : After-half_degree-half) where
   old = start.args.b.now
 
   d_is : D ≡ half_degree start.args.kind (r_of start.args.n)
-  d_is = half_is _ _ _ (steps_due start.pre.0 start.pre.1) _ q.half_degree-half.ensures
+  d_is = half_is _ _ _ (steps_due start.requires.0 start.requires.1) _ q.half_degree-half.ensures
 
   room : D + 1 ≤ length old
-  room = half_room _ _ _ _ start.pre.0 start.pre.1 _ d_is
+  room = half_room _ _ _ _ start.requires.0 start.requires.1 _ d_is
 
   part_length : length (take (D + 1) old) ≡ D + 1
   part_length = length-take-le (D + 1) old room
@@ -41,13 +41,13 @@ module _ (c : After-all_steps-run) where
 
   mid : Halfway (start at_start_lem).args.w (start at_start_lem).args.kind (start at_start_lem).args.n
       (start at_start_lem).args.parts (old at_start_lem)
-      (D at_start_lem) c.all_steps-run.new.1.1.1.1.0 c.all_steps-run.result
+      (D at_start_lem) c.all_steps-run.new.a c.all_steps-run.result
   mid =
-      halfway _ _ _ _ (start at_start_lem).pre.0 (start at_start_lem).pre.1 _ (d_is at_start_lem) _
-      (start at_start_lem).pre.2.1 _ _
+      halfway _ _ _ _ (start at_start_lem).requires.0 (start at_start_lem).requires.1 _ (d_is at_start_lem) _
+      (start at_start_lem).requires.2.1 _ _
       c.all_steps-run.ensures
 
-  part_room : D at_start_lem + 1 ≤ length (c.all_steps-run.new.1.1.1.1.0 ++ drop (D at_start_lem + 1) (old at_start_lem))
+  part_room : D at_start_lem + 1 ≤ length (c.all_steps-run.new.a ++ drop (D at_start_lem + 1) (old at_start_lem))
   part_room = omega (arith, mid.rest-length, room at_start_lem)
 
 pub overflow_add-half : goal.overflow_add-half
@@ -78,13 +78,13 @@ lay_out-laid-requires c =
 
 pub returns-then-laid : goal.returns-then-laid
 returns-then-laid c =
-    let l = c.before.before.before in
-    let s = l.before.before.before.before in
+    let l = c in
+    let s = c.before.before.before.before.before.before.before in
     rw c.refused-then-laid.ensures
     ((mid s).tall l.if-run.false l.lay_out-laid.ensures c.if-laid.true)
 
 pub returns : goal.returns
 returns c =
-    let l = c.before.before in
-    let s = l.before.before.before.before in
+    let l = c in
+    let s = c.before.before.before.before.before.before in
     (mid s).done l.if-run.false l.lay_out-laid.ensures c.if-laid.false

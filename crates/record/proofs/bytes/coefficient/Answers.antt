@@ -8,7 +8,7 @@ use Rattle.record.proofs.bytes.coefficient.Goals as goal
 
 pub signed_of-requires : goal.signed_of-requires
 signed_of-requires c =
-    let start = c.before.before in
+    let start = c in
     let b = width_bounds start.args.w start.requires.0 in
     (b.0, b.1, c.get.ensures.1)
 

@@ -14,7 +14,7 @@ loop-left-init c = (refl, c.requires.1, omega arith, refl)
 
 pub coefficient-c-requires : goal.coefficient-c-requires
 coefficient-c-requires c =
-    let start = c.before.before.before in (
+    let start = c in (
       start.requires.0,
       omega (arith, one_less c.loop-left.left start.args.w c.loop-left-test.true),
     )
@@ -24,16 +24,16 @@ offset_bounds-coeffs-i c = omega (arith, c.before.before.before.before.well-form
 
 pub overflow_add-at : goal.overflow_add-at
 overflow_add-at c =
-    let loop = c.before.before in
+    let loop = c in
     omega (arith, one_less loop.loop-left.left loop.args.w c.loop-left-test.true)
 
 pub loop-left-preserved : goal.loop-left-preserved
 loop-left-preserved c =
-    let loop = c.before.before in
+    let loop = c in
     let a = loop.args in
     let w = a.w in
     let taken = c.loop-left-test.true in (
-      rw (passed c.coefficient-c.result c.coefficient-c.type-inv, c.coefficient-c.ensures)
+      rw (passed c.coefficient-c.result c.coefficient-c.type_inv, c.coefficient-c.ensures)
           (fill_turn w loop.loop-left.left loop.loop-left.at loop.loop-left.i a.bytes.now loop.loop-left.coeffs taken
           ∙ loop.loop-left.invariant.0),
       omega (arith, one_less loop.loop-left.left w taken),
@@ -46,7 +46,7 @@ shape_of-coeffs c = c.loop-left.invariant.3
 
 pub returns : goal.returns
 returns c =
-    let loop = c.before in
+    let loop = c in
     let a = loop.args in
     sym (fill_none a.w loop.loop-left.left loop.loop-left.at loop.loop-left.i a.bytes.now loop.loop-left.coeffs
     c.loop-left-test.false)

@@ -15,13 +15,13 @@ pub eight-requires : goal.eight-requires
 eight-requires c = omega (arith, last c)
 
 pub returns-in-1 : goal.returns-in-1
-returns-in-1 c = rw c.in-1.keys1 c.one.ensures
+returns-in-1 c = rw c.in-1.is c.one.ensures
 
 pub returns-in-2 : goal.returns-in-2
-returns-in-2 c = rw c.in-2.keys2 c.two.ensures
+returns-in-2 c = rw c.in-2.is c.two.ensures
 
 pub returns-in-4 : goal.returns-in-4
-returns-in-4 c = rw c.in-4.keys3 c.four.ensures
+returns-in-4 c = rw c.in-4.is c.four.ensures
 
 pub returns-in_default : goal.returns-in_default
 returns-in_default c = rw (last c.before) c.eight.ensures

@@ -17,8 +17,8 @@ loop-i-init c = (refl, c.requires.3, c.requires.2, refl, zero-le)
 
 pub twos_of-requires : goal.twos_of-requires
 twos_of-requires c =
-    let loop = c.before.before.before in
-    let start = loop.before.before in
+    let loop = c in
+    let start = c in
     let x = get_or start.args.coeffs.now loop.loop-i.i (pos 0) in (
       start.requires.0,
       start.requires.1,
@@ -31,13 +31,13 @@ twos_of-requires c =
 
 pub put-requires : goal.put-requires
 put-requires c =
-    let loop = c.before.before.before.before in
+    let loop = c in
     let a = loop.args in
     omega (arith, body-left a.w a.coeffs.now loop.loop-i.i c.loop-i-test.true)
 
 pub overflow_add-at : goal.overflow_add-at
 overflow_add-at c =
-    let loop = c.before.before.before.before.before.before.before in
+    let loop = c in
     let a = loop.args in
     omega (
       arith,
@@ -47,7 +47,7 @@ overflow_add-at c =
 
 pub loop-i-preserved : goal.loop-i-preserved
 loop-i-preserved c =
-    let loop = c.before.before.before.before.before.before.before in
+    let loop = c in
     let a = loop.args in
     let taken = c.loop-i-test.true in
     let x = get_or a.coeffs.now loop.loop-i.i (pos 0) in (
@@ -58,9 +58,9 @@ loop-i-preserved c =
       )
           (body-turn a.w a.coeffs.now loop.loop-i.bytes loop.loop-i.at loop.loop-i.i taken
           ∙ loop.loop-i.invariant.0),
-      omega (arith, body-left a.w a.coeffs.now loop.loop-i.i taken, c.put.auto.0),
+      omega (arith, body-left a.w a.coeffs.now loop.loop-i.i taken, c.put.auto.bytes),
       omega (arith, height-left a.coeffs.now loop.loop-i.i taken),
-      c.put.auto.0 ∙ loop.loop-i.invariant.3,
+      c.put.auto.bytes ∙ loop.loop-i.invariant.3,
       omega arith,
     )
 
@@ -69,7 +69,7 @@ shape_of-bytes c = c.loop-i.invariant.3
 
 pub returns : goal.returns
 returns c =
-    let loop = c.before in
+    let loop = c in
     let a = loop.args in
     sym (body-none a.w a.coeffs.now loop.loop-i.bytes loop.loop-i.at loop.loop-i.i c.loop-i-test.false)
     ∙ loop.loop-i.invariant.0

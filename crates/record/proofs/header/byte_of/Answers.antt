@@ -5,19 +5,19 @@ use Rattle.record.proofs.header.byte_of.Goals as goal
 
 pub returns-in-12 : goal.returns-in-12
 unfolding byte_of
-returns-in-12 c = rw c.in-12.keys1
+returns-in-12 c = rw c.in-12.is
 
 pub returns-in-13 : goal.returns-in-13
 unfolding byte_of
-returns-in-13 c = rw c.in-13.keys2
+returns-in-13 c = rw c.in-13.is
 
 pub returns-in-14 : goal.returns-in-14
 unfolding byte_of
-returns-in-14 c = rw c.in-14.keys3
+returns-in-14 c = rw c.in-14.is
 
 pub returns-in-15 : goal.returns-in-15
 unfolding byte_of
-returns-in-15 c = rw c.in-15.keys4
+returns-in-15 c = rw c.in-15.is
 
 pub returns-in_default : goal.returns-in_default
 unfolding byte_of

@@ -28,10 +28,10 @@ width-tested c = c.is_width-width_right.ensures ∙ ap (one_of widths) c.width_i
 
 -- what the tests showed
 kind_ok : (c : Else-not-kind_right) → known_kind (kind_in (bytes c.before)) ≡ true
-kind_ok c = sym (kind-tested c.before) ∙ not-false _ c.if-not-kind_right.false
+kind_ok c = sym (kind-tested c.before) ∙ c.if-not-kind_right.false
 
 width_ok : (c : Else-not-width_right) → one_of widths (width_in (bytes c.before.before)) ≡ true
-width_ok c = sym (width-tested c.before.before) ∙ not-false _ c.if-not-width_right.false
+width_ok c = sym (width-tested c.before.before) ∙ c.if-not-width_right.false
 
 index_ok : (c : Else-n-eq0) → index_in (bytes c.before.before.before.before) ≡ 0 → ⊥
 index_ok c z = c.if-n-eq0.false (c.index_in-n.ensures.0 ∙ z)
@@ -41,38 +41,38 @@ degree_is : (c : After-degree_of) →
     c.degree_of.result ≡ degree_in (bytes c.before.before.before.before.before.before)
 unfolding degree_in
 degree_is c =
-    let i = c.before.before.before in
+    let i = c in
     told-right _ _ _ c.degree_of.ensures i.index_in-n.ensures.1
     ∙ ap₂ degree i.kind_in-kind.ensures i.index_in-n.ensures.0
 
 pub returns-then-not-kind_right : goal.returns-then-not-kind_right
-returns-then-not-kind_right c = sym (field_kind _ (sym (kind-tested c.before) ∙ not-true _ c.if-not-kind_right.true))
+returns-then-not-kind_right c = sym (field_kind _ (sym (kind-tested c.before) ∙ c.if-not-kind_right.true))
 
 pub returns-then-not-width_right : goal.returns-then-not-width_right
 returns-then-not-width_right c =
-    sym (field_width _ (kind_ok c.before) (sym (width-tested c.before.before) ∙ not-true _ c.if-not-width_right.true))
+    sym (field_width _ (kind_ok c.before) (sym (width-tested c.before.before) ∙ c.if-not-width_right.true))
 
 pub returns-then-n-eq0 : goal.returns-then-n-eq0
 returns-then-n-eq0 c =
     let e = c.before.before in
-    sym (field_zero _ (kind_ok e.before) (width_ok e) (sym c.index_in-n.ensures.0 ∙ c.if-n-eq0.true))
+    sym (field_zero _ (kind_ok c.before.before.before) (width_ok e) (sym c.index_in-n.ensures.0 ∙ c.if-n-eq0.true))
 
 pub overflow_add-degree_of : goal.overflow_add-degree_of
 overflow_add-degree_of c =
-    let i = c.before.before.before in
+    let i = c in
     let kind = i.kind_in-kind.result in
     omega (arith, told_small kind i.index_in-n.result _ c.degree_of.ensures)
 
 pub returns-then-count_in-degree_of : goal.returns-then-count_in-degree_of
 returns-then-count_in-degree_of c =
-    let counted = c.before.before in
-    let e = counted.before.before.before in
-    sym (field_count _ (kind_ok e.before) (width_ok e) (index_ok counted.before)
+    let counted = c in
+    let e = c.before.before.before.before.before in
+    sym (field_count _ (kind_ok c.before.before.before.before.before.before) (width_ok e) (index_ok c.before.before.before)
     (λ m. c.if-count_in-degree_of.true (counted.count_in.ensures ∙ m ∙ ap (λ (d : ℕ). d + 1) (sym (degree_is c.before)))))
 
 pub returns : goal.returns
 returns c =
-    let counted = c.before.before in
-    let e = counted.before.before.before in
-    sym (fields-right _ (kind_ok e.before) (width_ok e) (index_ok counted.before)
+    let counted = c in
+    let e = c.before.before.before.before.before in
+    sym (fields-right _ (kind_ok c.before.before.before.before.before.before) (width_ok e) (index_ok c.before.before.before)
     (sym counted.count_in.ensures ∙ c.if-count_in-degree_of.false ∙ ap (λ (d : ℕ). d + 1) (degree_is c.before)))

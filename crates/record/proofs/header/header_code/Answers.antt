@@ -11,10 +11,10 @@ returns-then-bytes-lt10 c = sym (header_short _ _ c.if-bytes-lt10.true)
 pub returns-then-not-is_marked : goal.returns-then-not-is_marked
 returns-then-not-is_marked c =
     sym (header_unmarked _ _ c.if-bytes-lt10.false (sym c.is_marked.ensures
-    ∙ not-true _ c.if-not-is_marked.true))
+    ∙ c.if-not-is_marked.true))
 
 pub returns : goal.returns
 returns c =
-    let e = c.before in
+    let e = c in
     c.field_code.ensures ∙ sym (header_fields _ _ e.if-bytes-lt10.false (sym e.is_marked.ensures
-    ∙ not-false _ e.if-not-is_marked.false))
+    ∙ e.if-not-is_marked.false))

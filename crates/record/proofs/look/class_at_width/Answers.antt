@@ -10,25 +10,25 @@ last c =
     width_last c.args.w c.requires.0 r.0.0.1 r.0.1 r.1
 
 pub class_in-requires : goal.class_in-requires
-class_in-requires c = rw c.in-1.keys1 at c.requires
+class_in-requires c = rw c.in-1.is at c.requires
 
 pub class_in-requires-in-2 : goal.class_in-requires-in-2
-class_in-requires-in-2 c = rw c.in-2.keys2 at c.requires
+class_in-requires-in-2 c = rw c.in-2.is at c.requires
 
 pub class_in-requires-in-4 : goal.class_in-requires-in-4
-class_in-requires-in-4 c = rw c.in-4.keys3 at c.requires
+class_in-requires-in-4 c = rw c.in-4.is at c.requires
 
 pub class_in-requires-in_default : goal.class_in-requires-in_default
 class_in-requires-in_default c = rw (last c) at c.requires
 
 pub returns-in-1 : goal.returns-in-1
-returns-in-1 c = rw c.in-1.keys1 c.class_in.ensures
+returns-in-1 c = rw c.in-1.is c.class_in.ensures
 
 pub returns-in-2 : goal.returns-in-2
-returns-in-2 c = rw c.in-2.keys2 c.class_in-in-2.ensures
+returns-in-2 c = rw c.in-2.is c.class_in-in-2.ensures
 
 pub returns-in-4 : goal.returns-in-4
-returns-in-4 c = rw c.in-4.keys3 c.class_in-in-4.ensures
+returns-in-4 c = rw c.in-4.is c.class_in-in-4.ensures
 
 pub returns-in_default : goal.returns-in_default
 returns-in_default c = rw (last c.before) c.class_in-in_default.ensures

@@ -10,7 +10,7 @@ loop-left-init c = (look_none _ _ c.args.bytes.now, c.requires.1)
 
 pub get-requires : goal.get-requires
 get-requires c =
-    let start = c.before.before.before in (
+    let start = c in (
       start.requires.0,
       omega (arith, one_less c.loop-left.left start.args.w c.loop-left-test.true),
     )
@@ -20,7 +20,7 @@ class_of-all-requires c = (c.requires.0, c.get.ensures.1)
 
 pub overflow_add-at : goal.overflow_add-at
 overflow_add-at c =
-    let loop = c.before.before.before in
+    let loop = c in
     omega (
       arith,
       one_less loop.loop-left.left loop.args.w c.loop-left-test.true,
@@ -28,8 +28,8 @@ overflow_add-at c =
 
 pub loop-left-preserved : goal.loop-left-preserved
 loop-left-preserved c =
-    let loop = c.before.before.before in
-    let start = loop.before.before in
+    let loop = c in
+    let start = c in
     let taken = c.loop-left-test.true in (
       look_turn start.args.w start.args.k loop.loop-left.left loop.loop-left.at loop.loop-left.all _ _
           start.args.bytes.now start.requires.0 taken c.get.ensures.0 c.class_of-all.ensures
@@ -39,5 +39,5 @@ loop-left-preserved c =
 
 pub returns : goal.returns
 returns c =
-    let loop = c.before in
+    let loop = c in
     look_all _ _ _ loop.loop-left.at _ loop.args.bytes.now c.loop-left-test.false loop.loop-left.invariant.0

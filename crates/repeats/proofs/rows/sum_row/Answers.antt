@@ -27,10 +27,10 @@ read_entry-before-requires c = omega (arith, c.loop-k.invariant.2.len)
 -- both entries that were read lie below `from`
 module _ (c : After-read_entry-before) where
   abbrev at : At-loop-k
-  at = c.before.before.before.before.before
+  at = c.before.before.before
 
   abbrev p : Start
-  p = at.before
+  p = c.before.before.before.before
 
   abbrev k : ℕ
   k = at.loop-k.k
@@ -49,7 +49,7 @@ module _ (c : After-read_entry-before) where
 
   sum_fits : SFits w64 (sum_at_lem k)
   unfolding sum_at_lem
-  sum_fits = p.pre.1 k at.loop-k.inv.0 (omega arith)
+  sum_fits = p.requires.by_index k at.loop-k.inv.0 (omega arith)
 
 pub new_value-v-requires : goal.new_value-v-requires
 new_value-v-requires c = rw (sum_is c) (sum_fits c)
@@ -60,8 +60,8 @@ put-requires c = omega (arith, c.loop-k.invariant.2.len)
 pub loop-k-preserved : goal.loop-k-preserved
 unfolding entries sum_at_lem
 loop-k-preserved c =
-    let v = c.before.before.before in
-    let q = v.before in
+    let v = c in
+    let q = c.before.before.before.before in
     let so_far = (at q).loop-k.invariant.2 in
     let m = c.put.ensures in (
       omega arith,

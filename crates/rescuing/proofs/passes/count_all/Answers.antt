@@ -29,7 +29,7 @@ within n = omega arith
 is : (n : After-next_from-next) → NextIs (room n) (shelf n) (turn n).loop-at.at n.next_from-next.result
 is n = rw (turn n).loop-at.invariant.1 at n.next_from-next.ensures.next_is
 
-long : (n : After-next_from-next) → length n.next_from-next.new.1.1.0 ≡ room n
+long : (n : After-next_from-next) → length n.next_from-next.new.coeffs ≡ room n
 long n = n.next_from-next.ensures.coeffs_len_unchanged ∙ (turn n).loop-at.invariant.1
 
 -- where it is not for want of room that it ended
@@ -63,9 +63,6 @@ returns-then-next c = let n = c.before.before in record {
   };
   coeffs_len_unchanged = long n;
 }
-
-pub slots_for-slots-requires : goal.slots_for-slots-requires
-slots_for-slots-requires c = tt
 
 pub overflow_add-slots : goal.overflow_add-slots
 overflow_add-slots c =

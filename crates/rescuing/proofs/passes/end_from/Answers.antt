@@ -20,7 +20,7 @@ returns-then-shelf-start c =
 -- before the end
 found : (c : Else-shelf-start) → Stands (drop c.args.start c.args.shelf.now)
 found c =
-    let s = c.before.before in
+    let s = c in
     stands s.args.shelf.now s.args.at s.args.start s.requires (omega arith)
 
 pub size_in-requires : goal.size_in-requires

@@ -10,7 +10,7 @@ use Rattle.rescuing.proofs.Codes.{by_tests}
 use Rattle.rescuing.proofs.passes.is_short.Goals as goal
 
 pub returns-then-is_roomy : goal.returns-then-is_roomy
-returns-then-is_roomy c = let start = c.before.before.before in
+returns-then-is_roomy c = let start = c in
     let b = bytes_each start.args.shelf.now (λ i. (c.type_inv.shelf i).fits) in
     let roomy = c.is_roomy.ensures c.if-is_roomy.true in record {
       value = rw (roomy_done _ b _ _ _ roomy.0 roomy.2 roomy.1) refl;

@@ -10,7 +10,7 @@ use Rattle.rescuing.proofs.Turns.{part-stored}
 use Rattle.rescuing.proofs.passes.put_record.Goals as goal
 
 pub returns : goal.returns
-returns c = let start = c.before.before.before.before.before.before.before in
+returns c = let start = c in
     let a = start.args in
     let size = a.end - a.start in
     let stored = take size (drop a.start a.shelf.now) in

@@ -34,11 +34,11 @@ module _ (n : After-next_from-next) where
   is : NextIs (room n) (shelf n) (turn n).loop-at.at n.next_from-next.result
   is = rw (turn n).loop-at.inv.2 at n.next_from-next.ensures.next_is
 
-  long : length n.next_from-next.last.1.1.0 ≡ room n
+  long : length n.next_from-next.new.coeffs ≡ room n
   long = n.next_from-next.ensures.coeffs_len_unchanged ∙ (turn n).loop-at.inv.2
 
   roomy : Fits (shelf n) (length (start n).args.out.now) (length (start n).args.list.now) (room n)
-  roomy = fits _ _ _ _ (start n).pre
+  roomy = fits _ _ _ _ (start n).requires
 
   -- it is not for want of room that it ended
   free : n.next_from-next.result.cramped ≡ false

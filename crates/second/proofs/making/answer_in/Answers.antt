@@ -23,7 +23,7 @@ module _ (g : After-degree_from-degree) where
   start = g.before
 
   degree_is : g.degree_from-degree.result ≡ degree start.args.kind start.args.n
-  degree_is = parts_degree start.args.n _ start.pre.0 start.args.kind _ g.degree_from-degree.ensures
+  degree_is = parts_degree start.args.n _ start.requires.0 start.args.kind _ g.degree_from-degree.ensures
 
 -- a small number is what the machine reads back
 small : (z : ℤ) → nat_abs z ≤ 65535 → SFits w64 z
@@ -34,21 +34,21 @@ returns-then-buf-degree c = let told =
     let g = c.before.before in
     let p = start g in
     let s = at_short p.args.kind p.args.n _ p.args.buf.now p.args.scratch.now
-    (ask_short _ _ p.args.h _ _ p.pre.1 p.pre.2 p.pre.3 (omega (arith, degree_is g))) in
+    (ask_short _ _ p.args.h _ _ p.requires.1 p.requires.2 p.requires.3 (omega (arith, degree_is g))) in
     (c.refused.ensures ∙ ap (told-only SHORT) (degree_is g) ∙ s.0, s.1) in record { value = told.0; buf_after = told.1; scratch_after = told.2 }
 
 pub overflow_mul-n : goal.overflow_mul-n
-overflow_mul-n c = omega (arith, (index_good _ (start c.before).pre.2).1)
+overflow_mul-n c = omega (arith, (index_good _ (start c.before).requires.2).1)
 
 pub overflow_add-n : goal.overflow_add-n
-overflow_add-n c = omega (arith, (index_good _ (start c.before).pre.2).1)
+overflow_add-n c = omega (arith, (index_good _ (start c.before).requires.2).1)
 
 pub returns-then-scratch-n : goal.returns-then-scratch-n
 returns-then-scratch-n c = let told =
     let g = c.before.before.before in
     let p = start g in
     let s = at_short p.args.kind p.args.n _ p.args.buf.now p.args.scratch.now
-    (ask_scratch _ _ p.args.h _ _ p.pre.1 p.pre.2 p.pre.3 (omega (arith, degree_is g)) (omega arith)) in
+    (ask_scratch _ _ p.args.h _ _ p.requires.1 p.requires.2 p.requires.3 (omega (arith, degree_is g)) (omega arith)) in
     (c.refused-then-scratch-n.ensures ∙ ap (told-only SHORT) (degree_is g) ∙ s.0, s.1) in record { value = told.0; buf_after = told.1; scratch_after = told.2 }
 
 pub slice_bounds-make-end-2 : goal.slice_bounds-make-end-2
@@ -60,33 +60,33 @@ make-made-requires c =
     let g = c.before.before.before.before in
     let p = start g in (
       record {
-        parts = p.pre.0;
-        known = p.pre.1;
-        good = p.pre.2;
+        parts = p.requires.0;
+        known = p.requires.1;
+        good = p.requires.2;
         room = length-take-le _ p.args.buf.now (omega arith) ∙ ap (λ k. k + 1) (degree_is g);
       },
-      p.pre.3,
+      p.requires.3,
       omega arith,
     )
 
 pub returns-then-made : goal.returns-then-made
 returns-then-made c = let told =
-    let m = c.before.before.before.before.before.before.before in
-    let g = m.before.before.before.before.before in
+    let m = c in
+    let g = c.before.before.before.before.before.before.before.before.before.before.before.before in
     let p = start g in
     let k = c.clear in
-    let s = refuses p.args.kind p.args.n p.args.h p.args.buf.now p.args.scratch.now p.pre.1
-    p.pre.2 p.pre.3 _ (degree_is g) (omega arith) (omega arith) _ k.new.0 _ m.make-made.ensures
-    (k.ensures ∙ ap zeros m.make-made.auto.1.0) c.if-made.true in
+    let s = refuses p.args.kind p.args.n p.args.h p.args.buf.now p.args.scratch.now p.requires.1
+    p.requires.2 p.requires.3 _ (degree_is g) (omega arith) (omega arith) _ k.new.0 _ m.make-made.ensures
+    (k.ensures ∙ ap zeros m.make-made.auto.scratch) c.if-made.true in
     (c.refused-then-made.ensures ∙ s.0, s.1) in record { value = told.0; buf_after = told.1; scratch_after = told.2 }
 
 pub returns : goal.returns
 returns c = let told =
-    let m = c.before.before.before.before.before.before.before in
-    let g = m.before.before.before.before.before in
+    let m = c in
+    let g = c.before.before.before.before.before.before.before.before.before.before.before.before in
     let p = start g in
     let k = c.clear in
-    delivers p.args.kind p.args.n p.args.h p.args.buf.now p.args.scratch.now p.pre.1
-    p.pre.2 p.pre.3 _ (degree_is g) (omega arith) (omega arith) _ k.new.0 _ m.make-made.ensures
-    (k.ensures ∙ ap zeros m.make-made.auto.1.0) c.if-made.false _
+    delivers p.args.kind p.args.n p.args.h p.args.buf.now p.args.scratch.now p.requires.1
+    p.requires.2 p.requires.3 _ (degree_is g) (omega arith) (omega arith) _ k.new.0 _ m.make-made.ensures
+    (k.ensures ∙ ap zeros m.make-made.auto.scratch) c.if-made.false _
     (to_z-of_z (small _ c.gain_of-gain.ensures.1) ∙ c.gain_of-gain.ensures.0) in record { value = told.0; buf_after = told.1; scratch_after = told.2 }

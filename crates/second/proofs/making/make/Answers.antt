@@ -9,25 +9,25 @@ use Rattle.second.proofs.making.make.Goals as goal
 
 pub without_steps-requires : goal.without_steps-requires
 without_steps-requires c =
-    let p = c.before.before.before in
+    let p = c in
     (p.requires.0, sym (r_is _ _ _ _ p.requires.0) ∙ c.if-parts-eq1.true)
 
 pub returns-then-parts-eq1 : goal.returns-then-parts-eq1
 returns-then-parts-eq1 c =
-    let p = c.before.before.before.before.before in
+    let p = c in
     laid_one p.args.kind p.args.n p.args.h _ (above_zero _ _ _ _ p.requires.0)
     (sym (r_is _ _ _ _ p.requires.0) ∙ c.if-parts-eq1.true) p.requires.1
     c.without_steps.ensures
 
 pub lower_half-requires : goal.lower_half-requires
 lower_half-requires c =
-    let p = c.before.before.before.before.before in
+    let p = c in
     (asked _ _ _ _ p.requires.0 _ p.requires.2, p.requires.0.known)
 
 pub lay_out-requires : goal.lay_out-requires
 lay_out-requires c =
-    let e = c.before.before.before.before.before.before.before.before in
-    let p = e.before.before in
+    let e = c in
+    let p = c in
     let l = c.lower_half in
     let above : r_of p.args.n ≢ 1 = λ q. e.if-parts-eq1.false (r_is _ _ _ _ p.requires.0 ∙ q) in (
       still_ready p.requires.0 l.auto.0,

@@ -5,6 +5,6 @@ use Rattle.second_engine.proofs.joining.divided_parts.Goals as goal
 
 pub returns : goal.returns
 returns c =
-    let q = c.before.before.before.before.before.before in
+    let q = c in
     λ f g F G. made-quotient q.args.m q.requires.4
     (c.times_parts.ensures f g F G) c.divide.ensures

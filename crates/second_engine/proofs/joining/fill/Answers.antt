@@ -5,14 +5,14 @@ use Rattle.second_engine.proofs.joining.fill.Goals as goal
 
 pub mirror-requires : goal.mirror-requires
 mirror-requires c =
-    let q = c.before.before in
+    let q = c in
     let (pos, small, size, room) = q.requires.m_nonzero in
     part_inside q.args.kind q.args.m q.args.from q.args.to q.args.b.now pos small size room
     q.requires.half_from
 
 pub returns : goal.returns
 returns c =
-    let q = c.before.before.before.before in
+    let q = c in
     let (pos, small, size, room) = q.requires.m_nonzero in
     filled q.args.kind q.args.m q.args.from q.args.to q.args.b.now pos small size room q.requires.half_from
     c.negates.ensures c.mirror.ensures

@@ -40,22 +40,22 @@ slice_bounds-divided_parts-end c =
 
 pub slice_bounds-divided_parts-end-2 : goal.slice_bounds-divided_parts-end-2
 slice_bounds-divided_parts-end-2 c =
-    let q = c.before.before.before.before in
+    let q = c in
     sym (length-take-le _ q.args.a.now (rw (size-first q.requires) q.requires.room))
 
 pub divided_parts-requires : goal.divided_parts-requires
 divided_parts-requires c =
-    let q = c.before.before.before.before.before in
+    let q = c in
     let J = q.requires in
-    let n = c.fill.auto.0 in
+    let n = c.fill.auto.b in
     (omega (arith, below_le _ J.is_below), omega (arith, n, J.both), p-pos J, p_small J, J.pos)
 
 pub returns : goal.returns
 unfolding other_kind
 returns c =
-    let f = c.before.before.before.before.before in
+    let f = c in
     let J = f.requires in
     made-half 1 _ (r-pos J) J.small _
     (c.divided_parts.ensures _ _ f.fill.ensures.whole
     (still f.fill.ensures (rw (first-whole _ J.is_below) J.other))) (is_first J)
-    (c.divided_parts.auto.0 ∙ length-take-le _ _ (rw (size-first J) J.room) ∙ size-first J)
+    (c.divided_parts.auto.a ∙ length-take-le _ _ (rw (size-first J) J.room) ∙ size-first J)

@@ -42,22 +42,22 @@ slice_bounds-times_parts-end c =
 
 pub slice_bounds-times_parts-end-2 : goal.slice_bounds-times_parts-end-2
 slice_bounds-times_parts-end-2 c =
-    let q = c.before.before.before.before in
+    let q = c in
     sym (length-take-le _ q.args.a.now (rw (size_inverse q.requires) q.requires.room))
 
 pub times_parts-requires : goal.times_parts-requires
 times_parts-requires c =
-    let q = c.before.before.before.before.before in
+    let q = c in
     let J = q.requires in
-    let n = c.fill.auto.0 in
+    let n = c.fill.auto.b in
     (omega (arith, below_le _ J.is_below), omega (arith, n, J.both), p-pos J, p_small J)
 
 pub returns : goal.returns
 unfolding other_kind
 returns c =
-    let f = c.before.before.before.before.before in
+    let f = c in
     let J = f.requires in
     made-half 2 _ (r-pos J) J.small _
     (c.times_parts.ensures _ _ f.fill.ensures.whole
     (still f.fill.ensures (rw (inverse_whole _ J.is_below) J.other))) (is_inverse J)
-    (c.times_parts.auto.0 ∙ length-take-le _ _ (rw (size_inverse J) J.room) ∙ size_inverse J)
+    (c.times_parts.auto.a ∙ length-take-le _ _ (rw (size_inverse J) J.room) ∙ size_inverse J)

@@ -8,11 +8,11 @@ use Rattle.second_engine.proofs.joining.times_parts.Goals as goal
 
 pub slice_bounds-times_spread-end-2 : goal.slice_bounds-times_spread-end-2
 slice_bounds-times_spread-end-2 c =
-    let q = c.before.before.before in
+    let q = c in
     sym (length-take-le q.args.whole q.args.b.now (omega arith))
 
 pub returns : goal.returns
 returns c =
-    let q = c.before.before.before.before.before in
+    let q = c in
     λ f g F G.
     rw (sym (part_series F), sym (front_series G)) c.times_spread.ensures

@@ -18,7 +18,7 @@ signed_entry-v2-requires c = (omega arith, c.requires.in_range _ (omega arith))
 
 pub signed_entry-v3-requires : goal.signed_entry-v3-requires
 signed_entry-v3-requires c =
-    let q = c.before.before.before.before.before.before.before in
+    let q = c in
     (omega arith, q.requires.in_range _ (omega arith))
 
 pub returns : goal.returns
@@ -26,8 +26,8 @@ returns c =
     let e₃ = c.signed_entry-v3.ensures in
     let e₂ = c.signed_entry-v2.ensures in
     let e₁ = c.signed_entry-v1.ensures in
-    let r = c.before.before.before.before.before.before.before.before.before in
+    let r = c in
     let e₀ = r.signed_entry-v0.ensures in
-    let q = r.before.before in
+    let q = c in
     mirrored_four q.args.negate q.args.a.now q.args.i _ (omega arith) refl c.put_four.ensures
     (handed e₀.1 e₀.0) (handed e₁.1 e₁.0) (handed e₂.1 e₂.0) (handed e₃.1 e₃.0)

@@ -11,7 +11,7 @@ pub loop-i-init : goal.loop-i-init
 loop-i-init c = (omega arith, mirror-start c.args.negate c.args.a.now _ (omega arith))
 
 pub mirror_four-requires : goal.mirror_four-requires
-mirror_four-requires c = let q = c.before.before in
+mirror_four-requires c = let q = c in
     let p = q.loop-i.invariant.1 in record {
       a_bound = (omega arith, omega arith);
       in_range = mirror_range p q.requires;

@@ -5,12 +5,12 @@ use Rattle.shelves.proofs.Found.by.Goals as goal
 
 pub returns-in-Match : goal.returns-in-Match
 unfolding found_by
-returns-in-Match c = rw (c.walked-1.given.1, c.between.ensures)
+returns-in-Match c = rw (c.in-Match.is, c.between.ensures)
 
 pub returns-in-Stopped : goal.returns-in-Stopped
 unfolding found_by
-returns-in-Stopped c = rw c.walked-in-Stopped-1.given.1 c.refused.ensures
+returns-in-Stopped c = rw c.in-Stopped.is c.refused.ensures
 
 pub returns-in-Ended : goal.returns-in-Ended
 unfolding found_by
-returns-in-Ended c = rw c.enum_told-1.given.1 c.refused-in-Ended.ensures
+returns-in-Ended c = rw c.in-Ended.is c.refused-in-Ended.ensures

@@ -15,7 +15,7 @@ use Rattle.spread_products.proofs.division.divide.Goals.{At-loop-i, Start}
 
 pub returns-then-m-eq1 : goal.returns-then-m-eq1
 returns-then-m-eq1 c =
-    let s = c.before.before.before.before in
+    let s = c in
     rw c.if-m-eq1.true c.divide_running.ensures
 
 pub divide_low-low-requires : goal.divide_low-low-requires
@@ -23,7 +23,7 @@ divide_low-low-requires c = c.requires
 
 pub divide_fours-i-requires : goal.divide_fours-i-requires
 divide_fours-i-requires c =
-    let s = c.before.before.before.before.before in
+    let s = c in
     (s.requires, record { before = s.args.a.now; done = c.divide_low-low.ensures })
 
 pub loop-i-init : goal.loop-i-init
@@ -41,16 +41,16 @@ known c =
 
 pub next_quotient-v-requires : goal.next_quotient-v-requires
 next_quotient-v-requires c =
-    let k = known c.before.before in
+    let k = known c.before in
     (k.reach (omega (arith, k.split.len)), omega arith)
 
 pub overflow_add-i : goal.overflow_add-i
-overflow_add-i c = omega (arith, (known c.before.before.before.before.before.before).split.len)
+overflow_add-i c = omega (arith, (known c.before.before.before.before.before).split.len)
 
 pub loop-i-preserved : goal.loop-i-preserved
 loop-i-preserved c =
     λ l p.
-    let s = c.before.before.before.before.before.before in
+    let s = c.before.before.before.before.before in
     let d = s.loop-i.invariant l p in
     next_one _ (begin s).requires l d (omega (arith, d.split.len))
     (c.put.ensures

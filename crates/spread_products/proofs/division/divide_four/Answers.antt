@@ -8,9 +8,9 @@ use Rattle.spread_products.proofs.division.divide_four.Goals as goal
 
 pub returns : goal.returns
 returns c =
-    let v = c.before.before.before in
-    let w = v.before.before.before.before in
-    let q = w.before.before.before.before in
+    let v = c in
+    let w = c in
+    let q = c in
     four_is q.args.a.now q.args.i (next_quotient q.args.m q.args.a.now)
     c.put_four.ensures
     (handed (wrap_fits _) w.next_quotient-v0.ensures)

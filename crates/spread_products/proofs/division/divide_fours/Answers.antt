@@ -35,7 +35,7 @@ overflow_add-i-in-loop-i c = omega (arith, (known c.before.before.before.before)
 pub loop-i-preserved : goal.loop-i-preserved
 loop-i-preserved c =
     λ l p.
-    let s = c.before.before.before.before in
+    let s = c in
     let d = s.loop-i.invariant l p in
     next_four _ s.requires.0 l d (omega arith) (omega (arith, d.split.len))
     c.divide_four.ensures

@@ -22,8 +22,8 @@ loop-i-init c = (low-start c.args.m c.requires c.args.a.now, omega arith)
 pub loop-i-preserved : goal.loop-i-preserved
 unfolding entries
 loop-i-preserved c =
-    let p = c.before.before.before.before.before.before in
-    let b = p.before.before in
+    let p = c in
+    let b = c in
     let n = p.loop-i.invariant.0.len in
     let f : SFits w64 (entries p.loop-i.a p.loop-i.i) = record {
       sfits =
@@ -41,7 +41,7 @@ shape_of-a c = c.loop-i.invariant.0.len
 
 pub returns : goal.returns
 returns c =
-    let p = c.before in
-    let b = p.before.before in
+    let p = c in
+    let b = c in
     low_ends b.args.m b.requires b.args.a.now p.loop-i.invariant.0
     (omega (arith, p.loop-i.invariant.1, p.smaller-end.ensures)) (omega (arith, p.smaller-end.ensures))

@@ -27,12 +27,12 @@ pub loop-i-init : goal.loop-i-init
 loop-i-init c = (low-start 1 (omega arith) c.args.a.now, carried_first (entries c.args.a.now))
 
 pub loop-i-smaller : goal.loop-i-smaller
-loop-i-smaller c = omega (arith, c.put.auto.0)
+loop-i-smaller c = omega (arith, c.put.auto.a)
 
 pub loop-i-preserved : goal.loop-i-preserved
 unfolding entries
 loop-i-preserved c =
-    let s = c.before.before.before.before.before.before in
+    let s = c in
     let f : SFits w64 (entries s.loop-i.a s.loop-i.i) = record {
       sfits =
           c.minus-arg-1.given;

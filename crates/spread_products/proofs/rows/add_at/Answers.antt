@@ -12,7 +12,7 @@ use Rattle.spread_products.proofs.rows.add_at.Goals as goal
 
 pub returns : goal.returns
 returns c =
-    let s = c.before.before.before.before.before.before in
+    let s = c in
     let r = c.read_entry-x.ensures in
     c.put.ensures ∙ ap (set s.args.a.now s.args.i)
     (handed (wrap_fits _) (c.signed_sum-v.ensures

@@ -19,7 +19,7 @@ loop-j-init c =
 
 pub loop-j-preserved : goal.loop-j-preserved
 loop-j-preserved c =
-    let s = c.before.before.before.before.before in
+    let s = c in
     let p = s.args in
     let n = s.loop-j.invariant.0.split.len in
     let r = c.read_entry-y.ensures in (
@@ -36,6 +36,6 @@ shape_of-a c = c.loop-j.invariant.0.split.len
 
 pub returns : goal.returns
 returns c =
-    let s = c.before in
+    let s = c in
     let p = s.args in
     row_ends p.away p.at p.g.now p.a-1.now s.loop-j.invariant.0 (omega (arith, s.smaller-end.ensures))

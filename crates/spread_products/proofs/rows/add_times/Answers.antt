@@ -26,7 +26,7 @@ shape_of-a c = c.loop-q.invariant.0.rows.len
 
 pub returns : goal.returns
 returns c =
-    let s = c.before.before.before in
+    let s = c in
     let e = to_z-of_z s.ranges.c in
     all_rows s.args.c (rw e at c.loop-q.invariant.0) (omega
     (arith, c.loop-q.invariant.1, c.magnitude-times.ensures, ap nat_abs e))

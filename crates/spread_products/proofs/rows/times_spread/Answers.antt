@@ -10,15 +10,9 @@ use Rattle.spread_products.proofs.Spreading.{ProductTo, product-start, product-n
 use Rattle.spread_products.proofs.rows.times_spread.Goals as goal
 use Rattle.spread_products.proofs.rows.times_spread.Goals.{At-loop-i}
 
-pub clear-requires : goal.clear-requires
-clear-requires c = tt
-
-pub smaller-terms-requires : goal.smaller-terms-requires
-smaller-terms-requires c = tt
-
 pub loop-i-init : goal.loop-i-init
 loop-i-init c =
-    let s = c.before.before.before.before in (
+    let s = c in (
       product-start s.args.p s.requires.0 s.args.f.now s.args.g.now _ c.clear.ensures,
       omega arith,
       omega arith,
@@ -30,7 +24,7 @@ taken : (c : At-loop-i) → c.loop-i.i < c.smaller-terms.result
     → (c.loop-i.i < length c.args.f.now)
     × (c.loop-i.i * c.args.p < length c.loop-i.a)
 taken c b =
-    let s = c.before.before.before.before.before in
+    let s = c in
     rw c.loop-i.invariant.3 (within _ _ _ _ s.requires.0 c.smaller-terms.ensures c.loop-i.i b)
 
 pub read_entry-c-requires : goal.read_entry-c-requires
@@ -54,8 +48,8 @@ overflow_add-at c =
 
 pub loop-i-preserved : goal.loop-i-preserved
 loop-i-preserved c =
-    let at = c.before.before.before.before.before in
-    let s = at.before.before.before.before.before in
+    let at = c in
+    let s = c in
     let (p, e, few, n) = at.loop-i.invariant in
     let r = c.read_entry-c.ensures in (
       product-next s.args.p s.requires.0 s.args.f.now s.args.g.now p e (handed r.1 r.0)
@@ -66,12 +60,12 @@ loop-i-preserved c =
     )
 
 pub shape_of-a : goal.shape_of-a
-shape_of-a c = c.loop-i.invariant.3 ∙ c.clear.auto.0
+shape_of-a c = c.loop-i.invariant.3 ∙ c.clear.auto.a
 
 pub returns : goal.returns
 returns c =
-    let at = c.before in
-    let s = at.before.before.before.before.before in
+    let at = c in
+    let s = c in
     let (p, e, few, n) = at.loop-i.invariant in
     product_ends s.args.p s.requires.0 s.args.f.now s.args.g.now p
     (rw n (beyond _ _ _ _ s.requires.0 at.smaller-terms.ensures at.loop-i.i (omega arith)))

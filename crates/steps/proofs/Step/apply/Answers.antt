@@ -39,20 +39,20 @@ module _ (w : ℤ) {s : Sort} {d b : ℕ} {l m : List ℤ} {r : StepOutcome} {li
 
 pub returns-then-size-eq0 : goal.returns-then-size-eq0
 returns-then-size-eq0 c = let told =
-    let q = c.before.before in
+    let q = c in
     rw c.refused.ensures
     (clauses (told-zero q.args.w _ q.args.self.size q.args.a.now c.if-size-eq0.true)) in record { code_value = told.0; count_value = told.1; a_after = told.2 }
 
 pub returns-then-size-gt65535 : goal.returns-then-size-gt65535
 returns-then-size-gt65535 c = let told =
-    let q = c.before.before.before in
+    let q = c in
     rw c.refused-then-size-gt65535.ensures
     (clauses (told_large q.args.w _ q.args.self.size q.args.a.now c.if-size-gt65535.true)) in record { code_value = told.0; count_value = told.1; a_after = told.2 }
 
 pub returns-then-w-lt1 : goal.returns-then-w-lt1
 returns-then-w-lt1 c = let told =
-    let t = c.before in
-    let q = t.before.before.before in
+    let t = c in
+    let q = c in
     rw c.refused-then-w-lt1.ensures
     (clauses (told_limit q.args.w _ q.args.self.size q.args.a.now (omega arith) t.if-size-gt65535.false
     (below_one_lem q.args.w q.ranges.w t.if-w-lt1.true))) in record { code_value = told.0; count_value = told.1; a_after = told.2 }
@@ -69,11 +69,11 @@ module _ (q : Else-w-lt1) where
   most = q.if-size-gt65535.left
 
   good : below_one start.args.w ≡ false
-  good = below_one_lem start.args.w start.fits.w q.if-w-lt1.left
+  good = below_one_lem start.args.w start.ranges.w q.if-w-lt1.left
 
   limit : {m : ℕ} → m ≡ nat_abs (seen start.args.w)
       → (m ≡ nat_abs start.args.w) × (pos m ≡ start.args.w) × Workable m
-  limit = read_limit start.args.w start.fits.w good
+  limit = read_limit start.args.w start.ranges.w good
 
 pub returns-then-n-size : goal.returns-then-n-size
 returns-then-n-size c = let told =
@@ -83,13 +83,13 @@ returns-then-n-size c = let told =
 
 pub take_bounded-outcome-requires : goal.take_bounded-outcome-requires
 take_bounded-outcome-requires c =
-    let q = c.before.before.before.before.before in
+    let q = c.before.before.before.before in
     (one q, c.look.ensures, (limit q c.magnitude.ensures).2)
 
 -- the step was taken or not
 module _ (t : After-take_bounded-outcome) where
   abbrev asked : Else-w-lt1
-  asked = t.before.before.before.before.before.before
+  asked = t.before.before.before.before.before
 
   is_limit : t.magnitude.result ≡ nat_abs (start asked).args.w
   is_limit = (limit asked t.magnitude.ensures).0

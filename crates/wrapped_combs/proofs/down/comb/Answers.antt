@@ -4,5 +4,5 @@ use Rattle.wrapped_combs.proofs.down.comb.Goals as goal
 
 pub returns : goal.returns
 returns c =
-    let t = c.before.before.before.before in
+    let t = c in
     c.ones_down.ensures t.args.a.now t.fours_down-t.ensures

@@ -9,9 +9,9 @@ use Rattle.wrapped_combs.proofs.value.step_four.Goals as goal
 
 pub returns : goal.returns
 returns c =
-    let v = c.before.before.before in
-    let w = v.before.before.before.before in
-    let q = w.before.before.before.before in
+    let v = c in
+    let w = c in
+    let q = c in
     four_is q.args.a.now q.args.k (wrap_entry (sort_means q.args.sort) q.args.d q.args.a.now)
     c.put_four.ensures
     (handed (wrap_fits _) w.wrapped_entry-v0.ensures)

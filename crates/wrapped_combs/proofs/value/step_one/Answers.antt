@@ -8,6 +8,6 @@ use Rattle.wrapped_combs.proofs.value.step_one.Goals as goal
 
 pub returns : goal.returns
 returns c =
-    let q = c.before.before.before.before.before in
+    let q = c in
     c.put.ensures
     ∙ ap (set q.args.a.now q.args.i) (handed (wrap_fits _) c.wrapped_entry-v.ensures)

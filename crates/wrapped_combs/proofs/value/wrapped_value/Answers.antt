@@ -9,12 +9,12 @@ use Rattle.wrapped_combs.proofs.value.wrapped_value.Goals as goal
 
 pub returns-in-Comb : goal.returns-in-Comb
 returns-in-Comb c =
-    let q = c.before.before.before in
-    rw c.enum_told-1.given.1
+    let q = c in
+    rw c.in-Comb.is
     (handed (wrap_fits _) (c.minus.ensures ∙ ap wrap (seen_both q.ranges.x q.ranges.y ◌⊝◌)))
 
 pub returns-in-Accumulate : goal.returns-in-Accumulate
 returns-in-Accumulate c =
-    let q = c.before.before.before in
-    rw c.enum_told-in-Accumulate-1.given.1
+    let q = c in
+    rw c.in-Accumulate.is
     (handed (wrap_fits _) (c.plus.ensures ∙ ap wrap (seen_both q.ranges.x q.ranges.y ◌⊕◌)))

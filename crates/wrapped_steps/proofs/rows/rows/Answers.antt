@@ -15,7 +15,7 @@ first_row-requires c = (omega arith, omega arith)
 
 pub loop-a-init : goal.loop-a-init
 loop-a-init c =
-    let p = c.before.before.before.before in (
+    let p = c in (
       refl,
       start_up p.args.d p.args.a.now p.requires.2,
       carried_first (omega arith) c.first_row.ensures,

@@ -13,7 +13,7 @@ use Rattle.wrapped_steps.proofs.rows.take_entry.Goals as goal
 
 pub returns : goal.returns
 returns c =
-    let v = c.before.before.before.before.before.before in
+    let v = c in
     let p = v.args in
     let r = v.wrapped_value-arg-1.given in
     let f : SFits w64 (get_or p.a-1.now (p.k + p.q) 0ℤ) = record { sfits = r } in

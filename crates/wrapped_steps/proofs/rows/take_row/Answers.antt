@@ -21,7 +21,7 @@ take_entry-requires c = (omega arith, omega arith)
 pub loop-q-preserved : goal.loop-q-preserved
 loop-q-preserved c =
     let t = c.take_entry in
-    let g = c.before.before.before.before.before.before in
+    let g = c in
     let i = g.loop-q.invariant in
     let n = entry_taken i.3 (omega arith) g.requires.0 (omega arith) t.ensures.0 t.ensures.1 in
     (omega arith, omega arith, omega arith, n.0, λ l u. n.1 l (i.4 l u))

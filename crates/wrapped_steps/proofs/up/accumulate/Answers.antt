@@ -4,5 +4,5 @@ use Rattle.wrapped_steps.proofs.up.accumulate.Goals as goal
 
 pub returns : goal.returns
 returns c =
-    let t = c.before.before.before.before in
+    let t = c in
     c.ones_up.ensures t.args.a.now t.most_up-t.ensures

@@ -34,7 +34,7 @@ loop-i-smaller c =
 
 pub loop-i-preserved : goal.loop-i-preserved
 loop-i-preserved c = λ l p.
-    let g = c.before.before.before.before in
+    let g = c in
     let q = g.loop-i.invariant l p in
     rw c.step_one.ensures (next_up q g.requires.0 (omega arith))
 
