@@ -40,7 +40,7 @@ module _ (c : Else-stop-a) where
 
 pub undo-requires : goal.undo-requires
 undo-requires c =
-    let e = c.before in
+    let e = (goal.at.undo-requires c).Else-stop-a in
     let t = e.take_second_row-stop.ensures in (
       (p e).requires.0,
       omega arith,
@@ -53,7 +53,7 @@ undo-requires c =
 pub returns : goal.returns
 unfolding stepped
 returns c =
-    let e = c.before.before.before in
+    let e = (goal.at.returns c).Else-stop-a in
     let t = e.take_second_row-stop.ensures in
     let short : stop e < length (p e).args.a.now = omega (arith, t.most, (found e).len) in
     undone (stop e) t.first short (t.over short).1 (c.undo.ensures (p e).args.a.now (found e))

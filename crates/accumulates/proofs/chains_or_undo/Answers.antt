@@ -15,7 +15,7 @@ use Rattle.accumulates.proofs.chains_or_undo.Goals as goal
 use Rattle.accumulates.proofs.chains_or_undo.Goals.{Then-stop-a}
 
 pub loop-c-init : goal.loop-c-init
-loop-c-init c = let p = c.args in (omega arith, none-tested p.w p.d p.a-1.now)
+loop-c-init c = let p = c.args in (omega arith, none-tested p.w p.d p.a.now)
 
 pub take_next-stop-requires : goal.take_next-stop-requires
 take_next-stop-requires c =
@@ -61,7 +61,7 @@ undo-requires c =
       omega (arith, w.1, n.smaller-to.ensures),
       at.first,
       omega (arith, at.most),
-      record { before = p.args.a.now; stopped = put_back c.before },
+      record { before = p.args.a.now; stopped = put_back (goal.at.undo-requires c).Then-stop-a },
     )
 
 pub shape_of-a-then-stop-a : goal.shape_of-a-then-stop-a
@@ -72,7 +72,7 @@ shape_of-a-then-stop-a c =
 pub returns-then-stop-a : goal.returns-then-stop-a
 unfolding stepped
 returns-then-stop-a c =
-    let i = c.before.before.before in
+    let i = (goal.at.returns-then-stop-a c).Then-stop-a in
     let t = i.take_next-stop in
     let g = c in
     let p = c in

@@ -23,17 +23,20 @@ put-requires c =
 
 pub returns-then-code-eq-DONE : goal.returns-then-code-eq-DONE
 unfolding tail_of
-returns-then-code-eq-DONE c = let told =
+returns-then-code-eq-DONE c =
     let h = c.requires.degree_in_bounds
     c.if-code-eq-DONE.true in
     let last = c.put.ensures in
-    rw (eq-eqb _ _ c.if-code-eq-DONE.true) (
-      then c.put_coefficients-p.ensures.puts last,
-      omega (arith, c.put_coefficients-p.ensures.upper_bound, last.place),
-    ) in record { puts = told.0; upper_bound = told.1 }
+    record {
+      puts = rw (eq-eqb _ _ c.if-code-eq-DONE.true) (then c.put_coefficients-p.ensures.puts last);
+      upper_bound = rw (eq-eqb _ _ c.if-code-eq-DONE.true) (omega (arith, c.put_coefficients-p.ensures.upper_bound, last.place));
+    }
 
 pub returns : goal.returns
 unfolding tail_of spaced
-returns c = let told =
+returns c =
     let last = c.put-2.ensures in
-    rw (ne_eqb _ _ c.if-code-eq-DONE.false) (last, omega (arith, last.place)) in record { puts = told.0; upper_bound = told.1 }
+    record {
+      puts = rw (ne_eqb _ _ c.if-code-eq-DONE.false) (last);
+      upper_bound = rw (ne_eqb _ _ c.if-code-eq-DONE.false) (omega (arith, last.place));
+    }

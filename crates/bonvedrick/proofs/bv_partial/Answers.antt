@@ -13,6 +13,6 @@ returns c = let p = c in
     let a = p.args in
     let told = c.partial.ensures in
     let w = to_z-of_z p.ranges.w in record {
-      answer = told.value ∙ ap (λ (x : ℤ). answer a.kind a.n a.j x (length a.buf-1.now)) w;
-      leaves = told.buf_after ∙ ap (λ (x : ℤ). leaves a.kind a.n a.j x a.buf-1.now) w;
+      answer = told.value ∙ ap (λ (x : ℤ). answer a.kind a.n a.j x (length a.buf.now)) w;
+      leaves = told.buf_after ∙ ap (λ (x : ℤ). leaves a.kind a.n a.j x a.buf.now) w;
     }

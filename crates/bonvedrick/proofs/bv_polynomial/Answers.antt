@@ -14,6 +14,6 @@ returns c = let p = c in
     let told = c.polynomial.ensures in
     let h = to_z-of_z p.ranges.h in
     let w = to_z-of_z p.ranges.w in record {
-      answer = told.value ∙ ap₂ (λ (x y : ℤ). answer a.kind a.n x y (length a.buf-1.now)) h w;
-      leaves = told.buf_after ∙ ap₂ (λ (x y : ℤ). leaves a.kind a.n x y a.buf-1.now) h w;
+      answer = told.value ∙ ap₂ (λ (x y : ℤ). answer a.kind a.n x y (length a.buf.now)) h w;
+      leaves = told.buf_after ∙ ap₂ (λ (x y : ℤ). leaves a.kind a.n x y a.buf.now) h w;
     }

@@ -38,20 +38,20 @@ module _ (c : Then-stays_within) where
       start.requires.1 (c.times_added-times.ensures.1 start.args.bound) start.args.w most
 
 pub overflow_mul-grown : goal.overflow_mul-grown
-overflow_mul-grown c = omega (arith, most c, (start c).requires.2.1)
+overflow_mul-grown c = omega (arith, most (goal.at.overflow_mul-grown c).Then-stays_within, (start (goal.at.overflow_mul-grown c).Then-stays_within).requires.2.1)
 
 pub overflow_add-grown : goal.overflow_add-grown
-overflow_add-grown c = omega (arith, most c, (start c).requires.2.1)
+overflow_add-grown c = omega (arith, most (goal.at.overflow_add-grown c).Then-stays_within, (start (goal.at.overflow_add-grown c).Then-stays_within).requires.2.1)
 
 pub step_or_undo-requires : goal.step_or_undo-requires
 step_or_undo-requires c =
-    let q = c.before in
+    let q = (goal.at.step_or_undo-requires c).Then-stays_within in
     let p = start q in
     (p.requires.0, omega arith, p.requires.2, (none q).0)
 
 pub returns-then-stays_within : goal.returns-then-stays_within
 returns-then-stays_within c =
-    let q = c.before.before.before in
+    let q = (goal.at.returns-then-stays_within c).Then-stays_within in
     let p = start q in
     under p.args.w (sort_means p.args.sort) p.args.d p.args.bound p.args.a.now
     (none q) (known c.step_or_undo.result c.step_or_undo.ensures (none q).0) (λ _. most q)

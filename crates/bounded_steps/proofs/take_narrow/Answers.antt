@@ -52,7 +52,7 @@ module _ (c : Else-w-le-ADDABLE) where
 
 pub take_wide-requires : goal.take_wide-requires
 take_wide-requires c =
-    rw (again c.before) (start c.before).requires.le_d
+    rw (again (goal.at.take_wide-requires c).Else-w-le-ADDABLE) (start (goal.at.take_wide-requires c).Else-w-le-ADDABLE).requires.le_d
 
 pub returns : goal.returns
-returns c = rw (again c.before.before.before) at c.take_wide.ensures
+returns c = rw (again (goal.at.returns c).Else-w-le-ADDABLE) at c.take_wide.ensures

@@ -26,22 +26,22 @@ overflow_add-result c =
     omega (arith, c.size_in.ensures, size_looked start.args.bytes.now start.requires.0)
 
 pub kind_in-requires : goal.kind_in-requires
-kind_in-requires c = long c.before.before
+kind_in-requires c = long (goal.at.kind_in-requires c).Start
 
 pub index_in-requires : goal.index_in-requires
-index_in-requires c = long c.before.before.before
+index_in-requires c = long (goal.at.index_in-requires c).Start
 
 pub count_in-requires : goal.count_in-requires
-count_in-requires c = long c.before.before.before.before
+count_in-requires c = long (goal.at.count_in-requires c).Start
 
 pub overflow_sub-result : goal.overflow_sub-result
 overflow_sub-result c =
-    let start = c.before.before.before.before.before in
+    let start = (goal.at.overflow_sub-result c).Start in
     omega (arith, c.count_in.ensures, (header start).count)
 
 pub returns : goal.returns
 returns c =
-    let start = c.before.before.before.before.before in
+    let start = (goal.at.returns c).Start in
     sym (shown_record _ _ start.requires.0 _ _ _ _ c.size_in.ensures
     c.kind_in.ensures c.index_in.ensures.0
     (omega (arith, c.count_in.ensures, (header start).count)))

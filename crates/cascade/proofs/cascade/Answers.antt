@@ -63,14 +63,14 @@ returns-then-indices-gt8 c = let told =
 
 pub returns-then-not-sizes : goal.returns-then-not-sizes
 returns-then-not-sizes c = let told =
-    let s = c.before.before.before in
+    let s = (goal.at.returns-then-not-sizes c).After-sizes_of-sizes in
     let p = start s in
     at_index _ _ p.args.buf.now p.args.scratch.now c.refused-then-not-sizes.ensures
     (ask_index _ _ _ _ (few s) (sym s.sizes_of-sizes.ensures.good ∙ c.if-not-sizes.true)) in record { value = told.0; buf_after = told.1; scratch_after = told.2 }
 
 pub returns-then-sizes-gt65535 : goal.returns-then-sizes-gt65535
 returns-then-sizes-gt65535 c = let told =
-    let e = c.before.before.before in
+    let e = (goal.at.returns-then-sizes-gt65535 c).Else-not-sizes in
     let s = sized e in
     let p = start s in
     at_list _ _ p.args.buf.now p.args.scratch.now c.refused-then-sizes-gt65535.ensures
@@ -79,7 +79,7 @@ returns-then-sizes-gt65535 c = let told =
 
 pub returns-then-h-lt1 : goal.returns-then-h-lt1
 returns-then-h-lt1 c = let told =
-    let f = c.before.before in
+    let f = (goal.at.returns-then-h-lt1 c).Else-sizes-gt65535 in
     let e = good_list f in
     let s = sized e in
     let p = start s in
@@ -89,7 +89,7 @@ returns-then-h-lt1 c = let told =
 pub answer_in-requires : goal.answer_in-requires
 answer_in-requires c =
     let g = c in
-    let f = c.before.before.before.before in
+    let f = (goal.at.answer_in-requires c).Else-sizes-gt65535 in
     let e = good_list f in
     let s = sized e in
     let p = start s in (
@@ -106,7 +106,7 @@ answer_in-requires c =
 pub returns : goal.returns
 returns c = let told =
     let g = c in
-    let p = start (sized (good_list c.before.before.before.before.before.before.before)) in
+    let p = start (sized (good_list (goal.at.returns c).Else-sizes-gt65535)) in
     let h = read_limit p.args.h p.ranges.h (below_one_lem p.args.h p.ranges.h g.if-h-lt1.false)
     c.magnitude.ensures in
     rw h.1 at c.answer_in.ensures in record { value = told.0; buf_after = told.1; scratch_after = told.2 }

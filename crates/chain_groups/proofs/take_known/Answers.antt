@@ -25,11 +25,11 @@ module _ (c : Then-d-eq1) where
 
 pub take_group-requires : goal.take_group-requires
 take_group-requires c =
-    let i = c.before.before in rw (i.if-d-eq1.true, first i, single i) at i.requires.0
+    let i = (goal.at.take_group-requires c).Then-d-eq1 in rw (i.if-d-eq1.true, first i, single i) at i.requires.0
 
 pub returns-then-d-eq1 : goal.returns-then-d-eq1
 returns-then-d-eq1 c =
-    let i = c.before.before.before.before.before in
+    let i = (goal.at.returns-then-d-eq1 c).Then-d-eq1 in
     rw (i.if-d-eq1.true, first i, single i) c.take_group.ensures
 
 -- none of the others is one
@@ -42,31 +42,31 @@ one c =
     r.0.0.0.0.0.1 r.0.0.0.0.1 r.0.0.0.1 r.0.0.1 r.0.1 r.1)
 
 pub take_group-requires-in-16 : goal.take_group-requires-in-16
-take_group-requires-in-16 c = asked c.before.before.before.before (omega arith)
+take_group-requires-in-16 c = asked (goal.at.take_group-requires-in-16 c).Start (omega arith)
 
 pub take_group-requires-in-8 : goal.take_group-requires-in-8
-take_group-requires-in-8 c = asked c.before.before.before.before (omega arith)
+take_group-requires-in-8 c = asked (goal.at.take_group-requires-in-8 c).Start (omega arith)
 
 pub take_group-requires-in-7 : goal.take_group-requires-in-7
-take_group-requires-in-7 c = asked c.before.before.before.before (omega arith)
+take_group-requires-in-7 c = asked (goal.at.take_group-requires-in-7 c).Start (omega arith)
 
 pub take_group-requires-in-6 : goal.take_group-requires-in-6
-take_group-requires-in-6 c = asked c.before.before.before.before (omega arith)
+take_group-requires-in-6 c = asked (goal.at.take_group-requires-in-6 c).Start (omega arith)
 
 pub take_group-requires-in-5 : goal.take_group-requires-in-5
-take_group-requires-in-5 c = asked c.before.before.before.before (omega arith)
+take_group-requires-in-5 c = asked (goal.at.take_group-requires-in-5 c).Start (omega arith)
 
 pub take_group-requires-in-4 : goal.take_group-requires-in-4
-take_group-requires-in-4 c = asked c.before.before.before.before (omega arith)
+take_group-requires-in-4 c = asked (goal.at.take_group-requires-in-4 c).Start (omega arith)
 
 pub take_group-requires-in-3 : goal.take_group-requires-in-3
-take_group-requires-in-3 c = asked c.before.before.before.before (omega arith)
+take_group-requires-in-3 c = asked (goal.at.take_group-requires-in-3 c).Start (omega arith)
 
 pub take_group-requires-in-2 : goal.take_group-requires-in-2
-take_group-requires-in-2 c = asked c.before.before.before.before (omega arith)
+take_group-requires-in-2 c = asked (goal.at.take_group-requires-in-2 c).Start (omega arith)
 
 pub take_group-requires-in_default : goal.take_group-requires-in_default
-take_group-requires-in_default c = asked c.before.before.before.before (one c.before.before)
+take_group-requires-in_default c = asked (goal.at.take_group-requires-in_default c).Start (one (goal.at.take_group-requires-in_default c).In_default)
 
 pub returns-in-16 : goal.returns-in-16
 returns-in-16 c = settled (omega arith) refl c.take_group-in-16.ensures
@@ -94,5 +94,5 @@ returns-in-2 c = settled (omega arith) refl c.take_group-in-2.ensures
 
 pub returns-in_default : goal.returns-in_default
 returns-in_default c =
-    let e = c.before.before.before.before.before in
+    let e = (goal.at.returns-in_default c).In_default in
     settled (ap (λ x. e.args.c + x) (sym (one e))) refl c.take_group-in_default.ensures

@@ -15,22 +15,22 @@ asked : (p : Start) {n : ℕ} → p.args.g ≡ n
 asked p e = so_many e p.requires.0
 
 pub take_group-requires : goal.take_group-requires
-take_group-requires c = asked c.before.before.before (omega arith)
+take_group-requires c = asked (goal.at.take_group-requires c).Start (omega arith)
 
 pub take_group-requires-in-5 : goal.take_group-requires-in-5
-take_group-requires-in-5 c = asked c.before.before.before (omega arith)
+take_group-requires-in-5 c = asked (goal.at.take_group-requires-in-5 c).Start (omega arith)
 
 pub take_group-requires-in-4 : goal.take_group-requires-in-4
-take_group-requires-in-4 c = asked c.before.before.before (omega arith)
+take_group-requires-in-4 c = asked (goal.at.take_group-requires-in-4 c).Start (omega arith)
 
 pub take_group-requires-in-3 : goal.take_group-requires-in-3
-take_group-requires-in-3 c = asked c.before.before.before (omega arith)
+take_group-requires-in-3 c = asked (goal.at.take_group-requires-in-3 c).Start (omega arith)
 
 pub take_group-requires-in-2 : goal.take_group-requires-in-2
-take_group-requires-in-2 c = asked c.before.before.before (omega arith)
+take_group-requires-in-2 c = asked (goal.at.take_group-requires-in-2 c).Start (omega arith)
 
 pub take_group-requires-in_default : goal.take_group-requires-in_default
-take_group-requires-in_default c = asked c.before.before.before (omega arith)
+take_group-requires-in_default c = asked (goal.at.take_group-requires-in_default c).Start (omega arith)
 
 pub returns-in-6 : goal.returns-in-6
 returns-in-6 c = settled (omega arith) refl c.take_group.ensures

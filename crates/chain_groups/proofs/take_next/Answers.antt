@@ -19,7 +19,7 @@ one c = one_wide c.args.test c.if-test-eq-KNOWN.false c.if-test-eq-NARROW.false 
 
 pub take_group-requires : goal.take_group-requires
 take_group-requires c =
-    let e = one c.before.before in
+    let e = one (goal.at.take_group-requires c).Else-test-eq-NARROW in
     let p = c.requires.0 in
     record {
       some = omega arith;
@@ -31,5 +31,5 @@ take_group-requires c =
 
 pub returns : goal.returns
 returns c =
-    let e = c.before.before.before.before.before in
+    let e = (goal.at.returns c).Else-test-eq-NARROW in
     settled (ap (λ x. e.args.c + x) (sym (one e))) refl c.take_group.ensures

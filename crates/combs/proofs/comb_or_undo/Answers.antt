@@ -22,7 +22,7 @@ comb-requires c = c.requires.1
 
 pub returns-then-test-eq-KNOWN : goal.returns-then-test-eq-KNOWN
 returns-then-test-eq-KNOWN c =
-    let t = c.before.before.before in
+    let t = (goal.at.returns-then-test-eq-KNOWN c).Then-test-eq-KNOWN in
     let p = c in
     record {
       over = none t;

@@ -31,11 +31,11 @@ refused c =
     let s = c.step_entry_within in rw (c.if-not-step_entry_within.true) at s.ensures.1
 
 pub shape_of-a-then-not-step_entry_within : goal.shape_of-a-then-not-step_entry_within
-shape_of-a-then-not-step_entry_within c = ap length (refused c) ∙ c.loop-t.invariant.read.done.split.len
+shape_of-a-then-not-step_entry_within c = ap length (refused (goal.at.shape_of-a-then-not-step_entry_within c).Then-not-step_entry_within) ∙ c.loop-t.invariant.read.done.split.len
 
 pub returns-then-not-step_entry_within : goal.returns-then-not-step_entry_within
 returns-then-not-step_entry_within c = let g = c in record {
-  tested_to = rw (refused c) g.loop-t.invariant;
+  tested_to = rw (refused (goal.at.returns-then-not-step_entry_within c).Then-not-step_entry_within) g.loop-t.invariant;
   result_value = λ _.
       rw (
         ← new_is g.loop-t.invariant.read.done (g.loop-t.t - 1) (omega arith) (omega arith),

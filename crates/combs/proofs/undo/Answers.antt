@@ -22,15 +22,15 @@ known c = c.loop-i.invariant c.requires.1.before c.requires.1.read
 
 pub step_entry-requires : goal.step_entry-requires
 step_entry-requires c =
-    let g = c.before.before in
+    let g = (goal.at.step_entry-requires c).At-loop-i in
     let p = known g in
     (p.done.from, omega arith, back_fits p g.requires.0 (omega arith))
 
 pub overflow_add-i : goal.overflow_add-i
-overflow_add-i c = omega (arith, (known c.before.before.before.before).done.split.len)
+overflow_add-i c = omega (arith, (known (goal.at.overflow_add-i c).At-loop-i).done.split.len)
 
 pub loop-i-smaller : goal.loop-i-smaller
-loop-i-smaller c = omega (arith, (known c.before.before.before.before).done.split.len)
+loop-i-smaller c = omega (arith, (known (goal.at.loop-i-smaller c).At-loop-i).done.split.len)
 
 pub loop-i-preserved : goal.loop-i-preserved
 loop-i-preserved c = λ l p.
@@ -39,7 +39,7 @@ loop-i-preserved c = λ l p.
     rw c.step_entry.ensures (read_back q g.requires.0 (omega arith))
 
 pub shape_of-a : goal.shape_of-a
-shape_of-a c = (known c.before).done.split.len ∙ sym c.requires.1.read.done.split.len
+shape_of-a c = (known (goal.at.shape_of-a c).At-loop-i).done.split.len ∙ sym c.requires.1.read.done.split.len
 
 pub returns : goal.returns
 returns c = λ l p.

@@ -12,7 +12,7 @@ use Rattle.combs.proofs.TestedTo.{read_back, back_fits}
 use Rattle.combs.proofs.undo.Given as goal
 
 abbrev pub invariant-loop-i : goal.invariant-loop-i
-invariant-loop-i l = (l : List ℤ) → ReadTo l.d l l.initial.a l.from → ReadTo l.d l l.a l.i
+invariant-loop-i v = (l : List ℤ) → ReadTo v.d l v.initial.a v.from → ReadTo v.d l v.a v.i
 
 abbrev pub decreases-loop-i : goal.decreases-loop-i
 decreases-loop-i l = length l.initial.a - l.i

@@ -26,9 +26,9 @@ good e = sym e.good_range.ensures ∙ e.if-not-good_range.false
 
 pub returns-then-work-lt-USED : goal.returns-then-work-lt-USED
 returns-then-work-lt-USED c = let told =
-    let e = c.before.before in
+    let e = (goal.at.returns-then-work-lt-USED c).Else-not-good_range in
     let a = e.args in
-    let r = too_short a.a a.b a.rows-1.now a.work-1.now (good e) (omega arith) in
+    let r = too_short a.a a.b a.rows.now a.work.now (good e) (omega arith) in
     (c.refused-then-work-lt-USED.ensures ∙ sym r.0, (sym r.1, sym r.2)) in record { answer = told.0; leaves = told.1; clears = told.2 }
 
 pub slice_bounds-census_in-end-2 : goal.slice_bounds-census_in-end-2
@@ -37,20 +37,20 @@ slice_bounds-census_in-end-2 c =
 
 pub census_in-requires : goal.census_in-requires
 census_in-requires c =
-    let e = c.before.before.before in
+    let e = (goal.at.census_in-requires c).Else-not-good_range in
     (good e, length-take-le 4096 e.args.work.now (omega arith))
 
 pub returns : goal.returns
 returns c = let told =
     let m = c in
-    let e = c.before.before.before.before.before.before.before in
+    let e = (goal.at.returns c).Else-not-good_range in
     let a = e.args in
     let g = good e in
-    let enough : 4096 ≤ length a.work-1.now = omega arith in (
-      m.census_in.ensures.value ∙ sym (same_answer a.a a.b a.rows-1.now a.work-1.now g enough),
+    let enough : 4096 ≤ length a.work.now = omega arith in (
+      m.census_in.ensures.value ∙ sym (same_answer a.a a.b a.rows.now a.work.now g enough),
       (
-        m.census_in.ensures.rows_after.0 ∙ sym (same_leaves a.a a.b a.rows-1.now a.work-1.now g enough),
-        ap (λ l. l ++ drop 4096 a.work-1.now) m.census_in.ensures.rows_after.1
-            ∙ sym (all_clear a.a a.b a.rows-1.now a.work-1.now g enough),
+        m.census_in.ensures.rows_after.0 ∙ sym (same_leaves a.a a.b a.rows.now a.work.now g enough),
+        ap (λ l. l ++ drop 4096 a.work.now) m.census_in.ensures.rows_after.1
+            ∙ sym (all_clear a.a a.b a.rows.now a.work.now g enough),
       ),
     ) in record { answer = told.0; leaves = told.1; clears = told.2 }

@@ -36,6 +36,20 @@ slice_bounds-lay_rows-count c =
     let s = c in
     omega (arith, (range_good _ _ s.requires.0).1)
 
+pub slice_bounds-lay_rows-start : goal.slice_bounds-lay_rows-start
+slice_bounds-lay_rows-start c =
+    let f = c.before.before in
+    let s = f.before.before.before in
+    let g = range_good _ _ s.requires.0 in
+    search (rules, g.0, g.1, g.2, s.requires.1, f.fill-additions.ensures.work_len_unchanged.0)
+
+pub slice_bounds-lay_rows-end : goal.slice_bounds-lay_rows-end
+slice_bounds-lay_rows-end c =
+    let f = c.before.before in
+    let s = f.before.before.before in
+    let g = range_good _ _ s.requires.0 in
+    search (rules, g.0, g.1, g.2, s.requires.1, f.fill-additions.ensures.work_len_unchanged.0)
+
 pub lay_rows-laid-requires : goal.lay_rows-laid-requires
 lay_rows-laid-requires c =
     let f = c in
@@ -64,14 +78,14 @@ module _ (y : After-lay_rows-laid) where
 
 pub returns-then-not-laid : goal.returns-then-not-laid
 returns-then-not-laid c = let told =
-    let y = c.before.before.before.before.before.before.before.before in
+    let y = (goal.at.returns-then-not-laid c).After-lay_rows-laid in
     let l = laid y in
     let r = not_fit _ _ (start y).requires.0 _ _ _ l (c.if-not-laid.true) in
     (c.refused.ensures ∙ sym r.0, (r.1, c.clear.ensures ∙ zeroed y)) in record { value = told.0; rows_after = told.1; work_after = told.2 }
 
 pub returns : goal.returns
 returns c = let told =
-    let y = c.before.before.before.before.before.before.before in
+    let y = (goal.at.returns c).After-lay_rows-laid in
     let l = laid y in
     let r = fits_all _ _ (start y).requires.0 _ _ _ l (c.if-not-laid.false) in
     let told = ap {B = Counted} (λ n. record { code = DONE; rows = y.lay_rows-laid.result.count; additions = n })

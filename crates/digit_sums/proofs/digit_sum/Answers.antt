@@ -58,14 +58,14 @@ module _ (c : After-digit-y) where
       (c.digit-y.ensures ∙ ap (digit_of at.args.c) (handed y_fits c.read_entry-in-loop-j.ensures.0))
 
   next : SFits w64 p × SFits w64 (to_z w64 at.loop-j.s ⊕ p)
-  next = more_asks at.loop-j.inv.2 x_fits y_fits (omega (arith, at.requires.0.few, at.requires.1))
+  next = more_asks at.loop-j.invariant.2 x_fits y_fits (omega (arith, at.requires.0.few, at.requires.1))
 
 pub add_product-s-requires : goal.add_product-s-requires
-add_product-s-requires c = rw (x-seen c, y-seen c) (next c)
+add_product-s-requires c = rw (x-seen (goal.at.add_product-s-requires c).After-digit-y, y-seen (goal.at.add_product-s-requires c).After-digit-y) (next (goal.at.add_product-s-requires c).After-digit-y)
 
 pub loop-j-preserved : goal.loop-j-preserved
 loop-j-preserved c =
-    let q = c.before in
+    let q = (goal.at.loop-j-preserved c).After-digit-y in
     let is : seen c.add_product-s.result ≡ to_z w64 (at q).loop-j.s ⊕ p q =
     handed (next q).1
     (c.add_product-s.ensures ∙ ap₂ (λ s t. to_z w64 (at q).loop-j.s ⊕ s ⊗ t) (x-seen q) (y-seen q)) in

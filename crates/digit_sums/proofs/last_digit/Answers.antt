@@ -15,10 +15,10 @@ above c = c.above_digit.ensures ∙ ap (λ n. shr_z n base) (to_z-of_z c.ranges.
 pub less_product-requires : goal.less_product-requires
 less_product-requires c =
     let p = c in
-    rest_asks base 2199023255552 refl (omega arith) p.args.v c.above_digit.result p.ranges.v (above c)
+    rest_asks base 2199023255552 refl (omega arith) p.args.v c.above_digit.result p.ranges.v (above (goal.at.less_product-requires c).After-above_digit)
 
 pub returns : goal.returns
 returns c =
     let p = c in
     rest-seen base 2199023255552 refl (omega arith) p.args.v c.above_digit.result p.ranges.v
-    (above c.before) c.less_product.result c.less_product.ensures
+    (above (goal.at.returns c).After-above_digit) c.less_product.result c.less_product.ensures

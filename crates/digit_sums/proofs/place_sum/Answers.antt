@@ -41,17 +41,17 @@ module _ (c : After-digit_sum) where
   one_seen = handed (small_fits one (omega (arith, one_small))) c.digit_sum.ensures.0
 
   both_small : nat_abs (to_z w64 at.loop-a.s ⊕ one) ≤ (at.loop-a.a + 1) * 1152921504606846976
-  both_small = omega (arith, abs_⊕ (to_z w64 at.loop-a.s) one, at.loop-a.inv.2, one_small)
+  both_small = omega (arith, abs_⊕ (to_z w64 at.loop-a.s) one, at.loop-a.invariant.2, one_small)
 
   next : SFits w64 (to_z w64 at.loop-a.s ⊕ one)
   next = small_fits _ (omega (arith, both_small, at.requires.2, c.loop-a-test.true))
 
 pub plus-s-requires : goal.plus-s-requires
-plus-s-requires c = rw (one_seen c) (next c)
+plus-s-requires c = rw (one_seen (goal.at.plus-s-requires c).After-digit_sum) (next (goal.at.plus-s-requires c).After-digit_sum)
 
 pub loop-a-preserved : goal.loop-a-preserved
 loop-a-preserved c =
-    let q = c.before in
+    let q = (goal.at.loop-a-preserved c).After-digit_sum in
     let a = (at q).args in
     let is : seen c.plus-s.result ≡ to_z w64 (at q).loop-a.s ⊕ one q =
     handed (next q) (c.plus-s.ensures ∙ ap (λ n. to_z w64 (at q).loop-a.s ⊕ n) (one_seen q)) in (

@@ -32,12 +32,12 @@ module _ (p : Start) where
 
 pub returns-then-v-ltminus2199023255552 : goal.returns-then-v-ltminus2199023255552
 returns-then-v-ltminus2199023255552 c =
-    let p = c.before in
+    let p = (goal.at.returns-then-v-ltminus2199023255552 c).Start in
     far p (test_low 2199023255551 p.args.v (rw (to_z-of_z p.ranges.v) at c.if-v-ltminus2199023255552.true))
 
 pub returns-then-v-gt2199023255551 : goal.returns-then-v-gt2199023255551
 returns-then-v-gt2199023255551 c =
-    let p = c.before.before in
+    let p = (goal.at.returns-then-v-gt2199023255551 c).Start in
     far p (test_high 2199023255551 p.args.v (rw (to_z-of_z p.ranges.v) at c.if-v-gt2199023255551.true))
 
 between : (c : Else-v-gt2199023255551) → mag c.args.v < 2199023255552
@@ -51,14 +51,14 @@ last_is c = c.last_digit.ensures ∙ ap (λ n. pos (rest base n)) (to_z-of_z c.r
 
 pub add_product-requires : goal.add_product-requires
 add_product-requires c =
-    let p = c.before.before.before in
-    rw (last_is c)
+    let p = (goal.at.add_product-requires c).Start in
+    rw (last_is (goal.at.add_product-requires c).After-last_digit)
     (joined_asks base 2199023255552 refl (omega arith) p.args.v (pos (rest base p.args.c)) p.ranges.v
-    (last_fits p) (last_rest p) (between c.before))
+    (last_fits p) (last_rest p) (between (goal.at.add_product-requires c).Else-v-gt2199023255551))
 
 pub returns : goal.returns
 returns c =
-    let p = c.before.before.before.before in
+    let p = (goal.at.returns c).Start in
     joined_seen base 2199023255552 refl (omega arith) p.args.v (pos (rest base p.args.c)) p.ranges.v
-    (last_fits p) (last_rest p) (between c.before.before) c.add_product.result
-    (c.add_product.ensures ∙ ap (λ d. seen d ⊕ seen p.args.v ⊗ pos base) (last_is c.before))
+    (last_fits p) (last_rest p) (between (goal.at.returns c).Else-v-gt2199023255551) c.add_product.result
+    (c.add_product.ensures ∙ ap (λ d. seen d ⊕ seen p.args.v ⊗ pos base) (last_is (goal.at.returns c).After-last_digit))

@@ -31,25 +31,25 @@ unfolding number_at value_of
 loop-i-init c = rw (add-zero c.args.place) (refl, omega (arith, c.requires.0), omega arith)
 
 pub overflow_mul-v : goal.overflow_mul-v
-overflow_mul-v c = omega (arith, below c)
+overflow_mul-v c = omega (arith, below (goal.at.overflow_mul-v c).In-loop-i)
 
 pub overflow_add-v : goal.overflow_add-v
 overflow_add-v c = omega (
   arith,
-  inside c.args.line.now (c.args.place + c.loop-i.i) (here c),
+  inside c.args.line.now (c.args.place + c.loop-i.i) (here (goal.at.overflow_add-v c).In-loop-i),
 )
 
 pub bounds-line-place : goal.bounds-line-place
-bounds-line-place c = inside _ _ (here c.before)
+bounds-line-place c = inside _ _ (here (goal.at.bounds-line-place c).In-loop-i)
 
 pub overflow_sub-v : goal.overflow_sub-v
-overflow_sub-v c = (range c.before).0
+overflow_sub-v c = (range (goal.at.overflow_sub-v c).In-loop-i).0
 
 pub overflow_cast-v : goal.overflow_cast-v
-overflow_cast-v c = omega (arith, (range c.before).1)
+overflow_cast-v c = omega (arith, (range (goal.at.overflow_cast-v c).In-loop-i).1)
 
 pub overflow_add-v-in-loop-i : goal.overflow_add-v-in-loop-i
-overflow_add-v-in-loop-i c = omega (arith, (range c.before).1, below c.before)
+overflow_add-v-in-loop-i c = omega (arith, (range (goal.at.overflow_add-v-in-loop-i c).In-loop-i).1, below (goal.at.overflow_add-v-in-loop-i c).In-loop-i)
 
 pub loop-i-preserved : goal.loop-i-preserved
 loop-i-preserved c =
@@ -57,11 +57,11 @@ loop-i-preserved c =
     let l = t.args.line.now in
     let k = t.args.place + t.loop-i.i in
     let next : t.args.place + (t.loop-i.i + 1) ≡ k + 1 = omega arith in
-    let e = one_here l k (inside l k (here c.before)) (is_digit_here l k (here c.before)) in
+    let e = one_here l k (inside l k (here (goal.at.loop-i-preserved c).In-loop-i)) (is_digit_here l k (here (goal.at.loop-i-preserved c).In-loop-i)) in
     rw next (
-      t.loop-i.invariant.0 ∙ value-one l k t.loop-i.v (here c.before),
+      t.loop-i.invariant.0 ∙ value-one l k t.loop-i.v (here (goal.at.loop-i-preserved c).In-loop-i),
       omega arith,
-      digit_more t.loop-i.v t.loop-i.i _ t.loop-i.invariant.2 (omega (arith, (range c.before).1)),
+      digit_more t.loop-i.v t.loop-i.i _ t.loop-i.invariant.2 (omega (arith, (range (goal.at.loop-i-preserved c).In-loop-i).1)),
     )
 
 pub returns : goal.returns

@@ -30,7 +30,7 @@ below c =
     omega (arith, c.loop-mask-test.true, c.loop-mask.invariant.0)
 
 pub overflow_add-mask : goal.overflow_add-mask
-overflow_add-mask c = omega (arith, (below c.before.before).1)
+overflow_add-mask c = omega (arith, (below (goal.at.overflow_add-mask c).In-loop-mask).1)
 
 pub loop-mask-smaller : goal.loop-mask-smaller
 loop-mask-smaller c = omega (arith, c.loop-mask-test.true)
@@ -40,7 +40,7 @@ loop-mask-preserved c = (
   c.loop-mask.invariant.0,
   omega (arith, c.loop-mask-test.true),
   rw c.or-best.ensures
-      (least_step _ _ c.requires.0 _ _ _ _ (below c.before.before).0
+      (least_step _ _ c.requires.0 _ _ _ _ (below (goal.at.loop-mask-preserved c).In-loop-mask).0
       c.product-size.ensures c.loop-mask.invariant.2),
 )
 

@@ -32,7 +32,7 @@ turn c =
     c.loop-i.invariant.1 c.chosen-size.ensures
 
 pub overflow_mul-size : goal.overflow_mul-size
-overflow_mul-size c = omega (arith, (turn c).1)
+overflow_mul-size c = omega (arith, (turn (goal.at.overflow_mul-size c).After-chosen-size).1)
 
 pub overflow_add-i : goal.overflow_add-i
 overflow_add-i c = omega (arith, c.loop-i-test.true, c.requires.few)
@@ -41,7 +41,7 @@ pub loop-i-smaller : goal.loop-i-smaller
 loop-i-smaller c = omega (arith, c.loop-i-test.true)
 
 pub loop-i-preserved : goal.loop-i-preserved
-loop-i-preserved c = (omega (arith, c.loop-i-test.true), (turn c).0)
+loop-i-preserved c = (omega (arith, c.loop-i-test.true), (turn (goal.at.loop-i-preserved c).After-chosen-size).0)
 
 pub returns : goal.returns
 returns c =

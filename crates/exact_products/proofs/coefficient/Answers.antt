@@ -16,7 +16,7 @@ taken c =
 pub light_sum-requires : goal.light_sum-requires
 light_sum-requires c =
     let p = c in
-    (taken c.before, p.requires.1 c.if-light.true)
+    (taken (goal.at.light_sum-requires c).After-past_terms-to, p.requires.1 c.if-light.true)
 
 pub heavy_sum-requires : goal.heavy_sum-requires
-heavy_sum-requires c = (taken c.before, c.requires.0.few)
+heavy_sum-requires c = (taken (goal.at.heavy_sum-requires c).After-past_terms-to, c.requires.0.few)

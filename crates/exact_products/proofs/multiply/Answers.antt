@@ -44,7 +44,7 @@ module _ (c : After-coefficient-v) where
   some = c.loop-i-test.true
 
   so_far : Made f old at.loop-i.b at.loop-i.i
-  so_far = at.loop-i.inv
+  so_far = at.loop-i.invariant
 
   abbrev coefficient_of : ℤ
   coefficient_of = (entries f · entries old) (at.loop-i.i - 1)
@@ -59,7 +59,7 @@ pub shape_of-b-then-v : goal.shape_of-b-then-v
 shape_of-b-then-v c = c.loop-i.invariant.stands.len
 
 pub returns-then-v : goal.returns-then-v
-returns-then-v c = let q = c.before in record {
+returns-then-v c = let q = (goal.at.returns-then-v c).After-coefficient-v in record {
   value = ap not (sym (made_out (so_far q) (some q)
       (told-taken (coefficient_of q) q.coefficient-v.result (is q) (seen_is q) c.if-v.true)));
   b_after = ((λ e. absurd (false≢true e)), (so_far q).stands.len);
@@ -67,12 +67,12 @@ returns-then-v c = let q = c.before in record {
 
 pub put-requires : goal.put-requires
 put-requires c =
-    let q = c.before.before in
+    let q = (goal.at.put-requires c).After-coefficient-v in
     omega (arith, (so_far q).stands.len, (so_far q).most, some q)
 
 pub loop-i-preserved : goal.loop-i-preserved
 loop-i-preserved c =
-    let q = c.before.before.before.before in
+    let q = (goal.at.loop-i-preserved c).After-coefficient-v in
     subst (λ l. Made (f q) (old q) l ((at q).loop-i.i - 1)) (sym c.put.ensures)
     (made-next (so_far q) (some q) (seen q.coefficient-v.result) (seen_is q)
     (told-left (coefficient_of q) q.coefficient-v.result (is q) c.if-v.false))

@@ -30,12 +30,12 @@ pub returns-then-w-m : goal.returns-then-w-m
 returns-then-w-m c =
     let l = c.loop-i in
     let f = c.args.f.now in
-    omega (arith, upto c.before, l.invariant.1, weight_to-most f (l.i + 1), c.if-w-m.true)
+    omega (arith, upto (goal.at.returns-then-w-m c).After-magnitude-m, l.invariant.1, weight_to-most f (l.i + 1), c.if-w-m.true)
 
 pub loop-i-preserved : goal.loop-i-preserved
 loop-i-preserved c =
     let l = c.loop-i in
-    (omega arith, omega (arith, upto c.before, l.invariant.1), omega arith)
+    (omega arith, omega (arith, upto (goal.at.loop-i-preserved c).After-magnitude-m, l.invariant.1), omega arith)
 
 pub returns : goal.returns
 returns c =

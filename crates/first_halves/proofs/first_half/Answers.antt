@@ -36,14 +36,14 @@ module _ (q : After-half_degree-d) where
       omega (arith, long, NatL.le-mul_of_pos_right q.half_degree-d.result t)
 
 pub slice_bounds-half_for_m-end : goal.slice_bounds-half_for_m-end
-slice_bounds-half_for_m-end c = room c
+slice_bounds-half_for_m-end c = room (goal.at.slice_bounds-half_for_m-end c).After-half_degree-d
 
 pub slice_bounds-half_for_m-end-2 : goal.slice_bounds-half_for_m-end-2
-slice_bounds-half_for_m-end-2 c = sym (length-take-le _ _ (room c.before))
+slice_bounds-half_for_m-end-2 c = sym (length-take-le _ _ (room (goal.at.slice_bounds-half_for_m-end-2 c).After-half_degree-d))
 
 pub half_for_m-height-requires : goal.half_for_m-height-requires
 half_for_m-height-requires c =
-    let q = c.before in
+    let q = (goal.at.half_for_m-height-requires c).After-half_degree-d in
     let p = (start q).requires in
     (p.0, p.1, p.2, length-take-le _ _ (room q) ∙ ap (λ (d : ℕ). d + 1) (half q))
 
@@ -73,12 +73,12 @@ module _ (g : After-half_for_m-height) where
 
 pub spread_by-requires : goal.spread_by-requires
 spread_by-requires c =
-    let g = c.before.before in
+    let g = (goal.at.spread_by-requires c).After-half_for_m-height in
     let p = start (at g) in
     (t_some p.args.n p.args.parts p.requires.0 p.requires.1 p.requires.2, spaced g)
 
 pub returns : goal.returns
-returns c = let g = c.before.before.before.before in
+returns c = let g = (goal.at.returns c).After-half_for_m-height in
     let p = start (at g) in record {
       value = g.half_for_m-height.ensures.value;
       b_after = half_is p.args.n p.args.parts p.requires.0 p.requires.1 p.requires.2 (first g) (rest g) _

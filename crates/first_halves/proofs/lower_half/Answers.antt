@@ -14,7 +14,7 @@ unfolding known_kind
 due s = record { parts = s.requires.0; known = refl; good = s.requires.1; above = s.requires.2 }
 
 pub all_steps-run-requires : goal.all_steps-run-requires
-all_steps-run-requires c = (due c.before, c.requires.3, omega arith)
+all_steps-run-requires c = (due (goal.at.all_steps-run-requires c).Start, c.requires.3, omega arith)
 
 pub peak_within-top-requires : goal.peak_within-top-requires
 peak_within-top-requires c =

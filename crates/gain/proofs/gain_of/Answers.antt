@@ -53,14 +53,14 @@ pub returns-then-n-eq1 : goal.returns-then-n-eq1
 returns-then-n-eq1 c = (rw (c.if-kind-eq1.true, c.if-n-eq1.true) (sym gains.F_at_one), omega arith)
 
 pub overflow_sub-m : goal.overflow_sub-m
-overflow_sub-m c = omega (arith, (m_small c.before.before).0)
+overflow_sub-m c = omega (arith, (m_small (goal.at.overflow_sub-m c).Start).0)
 
 pub overflow_cast-result : goal.overflow_cast-result
-overflow_cast-result c = let h = m_small c.before.before.before.before in omega (arith, h.1, h.2)
+overflow_cast-result c = let h = m_small (goal.at.overflow_cast-result c).Start in omega (arith, h.1, h.2)
 
 pub returns-then-parts-m : goal.returns-then-parts-m
 returns-then-parts-m c =
-    let s = c.before.before.before.before in
+    let s = (goal.at.returns-then-parts-m c).Start in
     let h = m_small s in
     let back = to_z-of_z {w = w64} {z = pos s.args.parts.m} (record { sfits = omega (arith, h.1, h.2) }) in (
       rw c.if-kind-eq1.true
@@ -71,7 +71,7 @@ returns-then-parts-m c =
 
 pub returns-then-kind-eq1 : goal.returns-then-kind-eq1
 returns-then-kind-eq1 c =
-    let s = c.before.before.before.before in (
+    let s = (goal.at.returns-then-kind-eq1 c).Start in (
       rw c.if-kind-eq1.true
           (sym (one_where s.args.n _ _ (is_m s) (is_free s) (above s c.if-n-eq1.false)
           c.if-parts-m.false)),
@@ -83,7 +83,7 @@ returns-then-n-eq1-2 c = (rw (gain_else _ _ c.if-kind-eq1.false, c.if-n-eq1-2.tr
 
 pub returns-else-n-eq1-2 : goal.returns-else-n-eq1-2
 returns-else-n-eq1-2 c =
-    let s = c.before.before in (
+    let s = (goal.at.returns-else-n-eq1-2 c).Start in (
       rw (gain_else _ s.args.n c.if-kind-eq1.false)
           (sym (gains.I_elsewhere s.args.n (above s c.if-n-eq1-2.false))),
       omega arith,

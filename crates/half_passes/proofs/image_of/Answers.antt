@@ -19,22 +19,22 @@ module _ (start : Start) (u r : ℕ) (at : start.args.w ≡ u) (negated : start.
 
 pub returns-in-1 : goal.returns-in-1
 returns-in-1 c =
-    negative c.before.before.before 1 _ c.in-1.is c.if-negate.true
+    negative (goal.at.returns-in-1 c).Start 1 _ c.in-1.is c.if-negate.true
     (λ small. (λ z. omega arith, λ p. omega arith))
 
 pub returns-in-2 : goal.returns-in-2
 returns-in-2 c =
-    negative c.before.before.before 2 _ c.in-2.is c.if-negate.true
+    negative (goal.at.returns-in-2 c).Start 2 _ c.in-2.is c.if-negate.true
     (λ small. (λ z. omega arith, λ p. omega arith))
 
 pub returns-in-4 : goal.returns-in-4
 returns-in-4 c =
-    negative c.before.before.before 4 _ c.in-4.is c.if-negate.true
+    negative (goal.at.returns-in-4 c).Start 4 _ c.in-4.is c.if-negate.true
     (λ small. (λ z. omega arith, λ p. omega arith))
 
 pub returns-in_default : goal.returns-in_default
 returns-in_default c =
-    let start = c.before.before.before in
+    let start = (goal.at.returns-in_default c).Start in
     let r = c.in_default.rest in
     negative start 8 _ (width_last start.args.w start.requires.0 r.0.0.1 r.0.1 r.1)
     c.if-negate.true

@@ -10,13 +10,13 @@ inside : (start : Start) → start.args.i * start.args.w + start.args.w ≤ star
 inside start = room start.args.w start.args.k start.args.i start.requires.2
 
 pub overflow_mul-i : goal.overflow_mul-i
-overflow_mul-i c = omega (arith, inside c.before)
+overflow_mul-i c = omega (arith, inside (goal.at.overflow_mul-i c).Start)
 
 pub overflow_add-i : goal.overflow_add-i
-overflow_add-i c = omega (arith, inside c.before)
+overflow_add-i c = omega (arith, inside (goal.at.overflow_add-i c).Start)
 
 pub get-requires : goal.get-requires
-get-requires c = (c.requires.0, omega (arith, inside c.before))
+get-requires c = (c.requires.0, omega (arith, inside (goal.at.get-requires c).Start))
 
 pub returns : goal.returns
 returns c =

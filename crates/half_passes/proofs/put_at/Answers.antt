@@ -33,16 +33,16 @@ number_of-v-requires c =
     (start.requires.0, start.requires.1, omega arith)
 
 pub overflow_mul-i : goal.overflow_mul-i
-overflow_mul-i c = omega (arith, inside c.before.before)
+overflow_mul-i c = omega (arith, inside (goal.at.overflow_mul-i c).In-loop-i)
 
 pub overflow_add-i : goal.overflow_add-i
-overflow_add-i c = omega (arith, inside c.before.before)
+overflow_add-i c = omega (arith, inside (goal.at.overflow_add-i c).In-loop-i)
 
 pub image_of-requires : goal.image_of-requires
 image_of-requires c = (c.requires.0, c.number_of-v.ensures.1)
 
 pub put-requires : goal.put-requires
-put-requires c = omega (arith, inside c.before.before.before)
+put-requires c = omega (arith, inside (goal.at.put-requires c).In-loop-i)
 
 pub loop-i-preserved : goal.loop-i-preserved
 loop-i-preserved c =

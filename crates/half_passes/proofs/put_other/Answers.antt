@@ -20,7 +20,7 @@ pub put_at-requires-in-4 : goal.put_at-requires-in-4
 put_at-requires-in-4 c = rw c.in-4.is at c.requires
 
 pub put_at-requires-in_default : goal.put_at-requires-in_default
-put_at-requires-in_default c = rw (last c.before) at c.requires
+put_at-requires-in_default c = rw (last (goal.at.put_at-requires-in_default c).In_default) at c.requires
 
 pub returns-in-1 : goal.returns-in-1
 returns-in-1 c = rw c.in-1.is c.put_at.ensures
@@ -32,4 +32,4 @@ pub returns-in-4 : goal.returns-in-4
 returns-in-4 c = rw c.in-4.is c.put_at-in-4.ensures
 
 pub returns-in_default : goal.returns-in_default
-returns-in_default c = rw (last c.before.before.before.before) c.put_at-in_default.ensures
+returns-in_default c = rw (last (goal.at.returns-in_default c).In_default) c.put_at-in_default.ensures

@@ -19,7 +19,7 @@ pub uneven_at-requires-in-4 : goal.uneven_at-requires-in-4
 uneven_at-requires-in-4 c = rw c.in-4.is at c.requires
 
 pub uneven_at-requires-in_default : goal.uneven_at-requires-in_default
-uneven_at-requires-in_default c = rw (last c) at c.requires
+uneven_at-requires-in_default c = rw (last (goal.at.uneven_at-requires-in_default c).In_default) at c.requires
 
 pub returns-in-1 : goal.returns-in-1
 returns-in-1 c = rw c.in-1.is c.uneven_at.ensures
@@ -31,4 +31,4 @@ pub returns-in-4 : goal.returns-in-4
 returns-in-4 c = rw c.in-4.is c.uneven_at-in-4.ensures
 
 pub returns-in_default : goal.returns-in_default
-returns-in_default c = rw (last c.before) c.uneven_at-in_default.ensures
+returns-in_default c = rw (last (goal.at.returns-in_default c).In_default) c.uneven_at-in_default.ensures

@@ -35,22 +35,22 @@ module _ (start : Start) (k : ℕ) (l : k < length start.args.coeffs.now)
 
 pub twos_of-other-requires : goal.twos_of-other-requires
 twos_of-other-requires c =
-    (omega arith, omega arith, read_small c.before _ (omega arith) c.twos_of-arg-1.given)
+    (omega arith, omega arith, read_small (goal.at.twos_of-other-requires c).Start _ (omega arith) c.twos_of-arg-1.given)
 
 pub twos_of-requires : goal.twos_of-requires
 twos_of-requires c =
-    let start = c.before.before.before in
+    let start = (goal.at.twos_of-requires c).Start in
     (omega arith, omega arith, read_small start start.args.i start.requires.1 c.twos_of-arg-2-1.given)
 
 pub image_of-requires : goal.image_of-requires
 unfolding one_of
 image_of-requires c =
-    let start = c.before.before.before.before in
+    let start = (goal.at.image_of-requires c).Start in
     (refl, (stands start start.args.i start.requires.1 c.twos_of-arg-2-1.given c.twos_of.ensures).1)
 
 pub returns : goal.returns
 returns c =
-    let start = c.before.before.before.before.before in
+    let start = (goal.at.returns c).Start in
     let a = start.args in
     let here = stands start a.i start.requires.1 c.twos_of-arg-2-1.given
     c.twos_of.ensures in

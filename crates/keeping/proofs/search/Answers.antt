@@ -33,17 +33,17 @@ pub loop-at-init : goal.loop-at-init
 loop-at-init c = (begun _ _ _ c.requires, refl, refl)
 
 pub next_mark-at-requires : goal.next_mark-at-requires
-next_mark-at-requires c = omega (arith, left c.before.before.before)
+next_mark-at-requires c = omega (arith, left (goal.at.next_mark-at-requires c).After-try_at-how)
 
 pub loop-at-smaller : goal.loop-at-smaller
 loop-at-smaller c =
     let n = c.next_mark-at.ensures in
-    omega (arith, n.0, n.1, left c.before.before.before.before)
+    omega (arith, n.0, n.1, left (goal.at.loop-at-smaller c).After-try_at-how)
 
 pub loop-at-preserved : goal.loop-at-preserved
 loop-at-preserved c =
     let told = c in
-    let a = c.before.before.before.before in
+    let a = (goal.at.loop-at-preserved c).After-try_at-how in
     let n = c.next_mark-at.ensures in (
       passes_to _ _ _ _ _
           (goes_on _ _ _ _ (before a).loop-at.invariant.0 (left a) (sym told.in-Passed.is ∙ how a)) n.0 n.1
@@ -61,19 +61,19 @@ returns-then-shelf-at c = let told =
     rw c.loop-at.invariant.1 (e.0, (e.1, c.loop-at.invariant.2)) in record { cramped_value = told.0; place_value = told.1; coeffs_len_unchanged = told.2 }
 
 pub shape_of-coeffs-in-Kept : goal.shape_of-coeffs-in-Kept
-shape_of-coeffs-in-Kept c = kept-long c.before.before.before
+shape_of-coeffs-in-Kept c = kept-long (goal.at.shape_of-coeffs-in-Kept c).After-try_at-how
 
 pub returns-in-Kept : goal.returns-in-Kept
 returns-in-Kept c = let told =
-    let a = c.before.before.before in
+    let a = (goal.at.returns-in-Kept c).After-try_at-how in
     let e = at_kept _ _ _ _ (before a).loop-at.invariant.0 (left a) (sym c.in-Kept.is ∙ how a) in
     rw (before a).loop-at.invariant.1 (e.0, (e.1, kept-long a)) in record { cramped_value = told.0; place_value = told.1; coeffs_len_unchanged = told.2 }
 
 pub shape_of-coeffs-in-Cramped : goal.shape_of-coeffs-in-Cramped
-shape_of-coeffs-in-Cramped c = kept-long c.before.before.before
+shape_of-coeffs-in-Cramped c = kept-long (goal.at.shape_of-coeffs-in-Cramped c).After-try_at-how
 
 pub returns-in-Cramped : goal.returns-in-Cramped
 returns-in-Cramped c = let told =
-    let a = c.before.before.before in
+    let a = (goal.at.returns-in-Cramped c).After-try_at-how in
     let e = at_cramped _ _ _ _ (before a).loop-at.invariant.0 (left a) (sym c.in-Cramped.is ∙ how a) in
     (e.0, (e.1, kept-long a)) in record { cramped_value = told.0; place_value = told.1; coeffs_len_unchanged = told.2 }

@@ -19,7 +19,7 @@ returns-then-shelf-at c = let a = c.args in record {
 pub returns : goal.returns
 returns c = let start = c in
     let a = start.args in record {
-      value = c.try_one.ensures.value ∙ ap (tried_of (length a.coeffs-1.now))
+      value = c.try_one.ensures.value ∙ ap (tried_of (length a.coeffs.now))
           (tail a.shelf.now a.at);
       coeffs_len_unchanged = c.try_one.ensures.coeffs_len_unchanged;
     }

@@ -21,18 +21,18 @@ returns-then-look-ne-DONE c = record {
 }
 
 pub count_in-requires : goal.count_in-requires
-count_in-requires c = (header _ (read c)).long
+count_in-requires c = (header _ (read (goal.at.count_in-requires c).Else-look-ne-DONE)).long
 
 pub returns-then-coeffs-count_in : goal.returns-then-coeffs-count_in
 returns-then-coeffs-count_in c = record {
-  value = tried_cramped _ _ (read c.before.before) (omega (arith, c.if-coeffs-count_in.true, c.count_in.ensures));
+  value = tried_cramped _ _ (read (goal.at.returns-then-coeffs-count_in c).Else-look-ne-DONE) (omega (arith, c.if-coeffs-count_in.true, c.count_in.ensures));
   coeffs_len_unchanged = refl;
 }
 
 pub is_same-requires : goal.is_same-requires
 is_same-requires c =
     let else = c in
-    (read c.before.before.before, omega (arith, else.if-coeffs-count_in.false, else.count_in.ensures))
+    (read (goal.at.is_same-requires c).Else-look-ne-DONE, omega (arith, else.if-coeffs-count_in.false, else.count_in.ensures))
 
 pub returns-then-is_same : goal.returns-then-is_same
 returns-then-is_same c = let same = c in

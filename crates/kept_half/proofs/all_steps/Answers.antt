@@ -42,13 +42,13 @@ module _ (c : After-make_kept_half-run) where
 
 pub returns-then-all-eq3 : goal.returns-then-all-eq3
 returns-then-all-eq3 c =
-    let m = c.before.before.before in
+    let m = (goal.at.returns-then-all-eq3 c).After-make_kept_half-run in
     two_primes _ _ _ _ _ (ran m) (r_odd_squarefree _) c.if-kind-eq1.true
     (sym (walk_due (p m).args.kind (p m).args.n (p m).args.parts (p m).requires.0 (q m).over-walk.result
     (q m).over-walk.ensures) ∙ c.if-all-eq3.true)
 
 pub returns-else-all-eq3 : goal.returns-else-all-eq3
-returns-else-all-eq3 c = ran c.before.before.before
+returns-else-all-eq3 c = ran (goal.at.returns-else-all-eq3 c).After-make_kept_half-run
 
 pub returns-else-kind-eq1 : goal.returns-else-kind-eq1
-returns-else-kind-eq1 c = ran c.before.before
+returns-else-kind-eq1 c = ran (goal.at.returns-else-kind-eq1 c).After-make_kept_half-run

@@ -45,37 +45,37 @@ module _ (t : After-peak_within-top) where
   told = ap (ltb begin.args.h) high.0
 
 pub overflow_add-half : goal.overflow_add-half
-overflow_add-half c = omega (arith, room c)
+overflow_add-half c = omega (arith, room (goal.at.overflow_add-half c).After-half_degree-half)
 
 pub slice_bounds-peak_within-end : goal.slice_bounds-peak_within-end
-slice_bounds-peak_within-end c = room c
+slice_bounds-peak_within-end c = room (goal.at.slice_bounds-peak_within-end c).After-half_degree-half
 
 pub slice_bounds-peak_within-end-2 : goal.slice_bounds-peak_within-end-2
-slice_bounds-peak_within-end-2 c = sym (part c)
+slice_bounds-peak_within-end-2 c = sym (part (goal.at.slice_bounds-peak_within-end-2 c).After-half_degree-half)
 
 pub peak_within-top-requires : goal.peak_within-top-requires
 peak_within-top-requires c =
-    let q = c in
+    let q = (goal.at.peak_within-top-requires c).After-half_degree-half in
     rw (d_is q) q.requires.2
 
 pub returns-then-h-height : goal.returns-then-h-height
 returns-then-h-height c =
-    let t = c.before.before.before.before in
+    let t = (goal.at.returns-then-h-height c).After-peak_within-top in
     let s = begin t in
     laid_tall s.args.kind s.args.n s.args.parts s.args.b.now s.requires.0 _ _
     (sym (told t) ∙ lt-ltb _ _ c.if-h-height.true) c.clear.ensures
 
 pub from_lower_half-requires : goal.from_lower_half-requires
-from_lower_half-requires c = let s = begin c.before.before in (s.requires.0, s.requires.1)
+from_lower_half-requires c = let s = begin (goal.at.from_lower_half-requires c).After-peak_within-top in (s.requires.0, s.requires.1)
 
 pub overflow_mul-peak : goal.overflow_mul-peak
 overflow_mul-peak c =
-    let t = c.before.before.before.before.before in
+    let t = (goal.at.overflow_mul-peak c).After-peak_within-top in
     omega (arith, (high t).1, peak-room _ _ _ _ (begin t).requires.0)
 
 pub returns : goal.returns
 returns c =
-    let t = c.before.before.before.before.before in
+    let t = (goal.at.returns c).After-peak_within-top in
     let s = begin t in
     laid_done s.args.kind s.args.n s.args.parts s.args.b.now s.requires.0 _ _ _ _
     (sym (told t) ∙ le-ltb _ _ c.if-h-height.false)

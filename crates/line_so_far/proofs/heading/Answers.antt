@@ -5,10 +5,16 @@ use Rattle.text.proofs.Putting.{nothing_put}
 use Rattle.line_so_far.proofs.heading.Goals as goal
 
 pub returns-then-out-lt12 : goal.returns-then-out-lt12
-returns-then-out-lt12 c = let told = rw (lt-ltb _ 12 c.if-out-lt12.true) (nothing_put 0 c.args.out.now, omega arith) in record { puts = told.0; upper_bound = told.1 }
+returns-then-out-lt12 c = record {
+  puts = rw (lt-ltb _ 12 c.if-out-lt12.true) (nothing_put 0 c.args.out.now);
+  upper_bound = rw (lt-ltb _ 12 c.if-out-lt12.true) (omega arith);
+}
 
 pub returns : goal.returns
 unfolding heading
-returns c = let told =
+returns c =
     let put = c.put_text.ensures in
-    rw (le-ltb _ 12 c.if-out-lt12.false) (put, omega (arith, put.place)) in record { puts = told.0; upper_bound = told.1 }
+    record {
+      puts = rw (le-ltb _ 12 c.if-out-lt12.false) (put);
+      upper_bound = rw (le-ltb _ 12 c.if-out-lt12.false) (omega (arith, put.place));
+    }

@@ -9,5 +9,5 @@ returns c = λ i. record {
   bytes = c.args.line.bytes;
   length = 0;
   number =
-      c.wrapping_add_u64.ensures i;
+      c.wrapping_add_u64.ensures.value i;
 }

@@ -32,20 +32,20 @@ module _ (c : After-list_read-g) where
       ∙ c.loop-turns.invariant.1
 
 pub shape_of-chunk-then-not-g : goal.shape_of-chunk-then-not-g
-shape_of-chunk-then-not-g c = chunk_kept c.before.before.before.before.before
+shape_of-chunk-then-not-g c = chunk_kept (goal.at.shape_of-chunk-then-not-g c).After-list_read-g
 
 pub shape_of-out-then-not-g : goal.shape_of-out-then-not-g
-shape_of-out-then-not-g c = out_kept c.before.before.before.before.before
+shape_of-out-then-not-g c = out_kept (goal.at.shape_of-out-then-not-g c).After-list_read-g
 
 pub overflow_sub-turns : goal.overflow_sub-turns
-overflow_sub-turns c = omega (arith, more c.before.before.before.before.before)
+overflow_sub-turns c = omega (arith, more (goal.at.overflow_sub-turns c).After-list_read-g)
 
 pub loop-turns-smaller : goal.loop-turns-smaller
-loop-turns-smaller c = omega (arith, more c.before.before.before.before.before)
+loop-turns-smaller c = omega (arith, more (goal.at.loop-turns-smaller c).After-list_read-g)
 
 pub loop-turns-preserved : goal.loop-turns-preserved
 loop-turns-preserved c =
-    let turn = c.before.before.before.before.before in
+    let turn = (goal.at.loop-turns-preserved c).After-list_read-g in
     (chunk_kept turn, out_kept turn)
 
 pub shape_of-chunk : goal.shape_of-chunk

@@ -21,7 +21,7 @@ long c =
     omega (arith, length-take (length l - from) (drop from l), length-drop from l)
 
 pub list_some-g-requires : goal.list_some-g-requires
-list_some-g-requires c = let turn = c.before.before in record {
+list_some-g-requires c = let turn = (goal.at.list_some-g-requires c).In-loop-from in record {
   in_bounds = omega (arith, turn.loop-from.invariant.1.1, turn.requires);
   piece_nonzero = omega (arith, long turn, turn.loop-from-test.true);
 }
@@ -46,25 +46,25 @@ module _ (c : After-list_some-g) where
       ∙ after-part _ _ _ _ _ _ c.loop-from.invariant.1.0 within
 
 pub overflow_add-from : goal.overflow_add-from
-overflow_add-from c = omega (arith, within c.before.before.before.before)
+overflow_add-from c = omega (arith, within (goal.at.overflow_add-from c).After-list_some-g)
 
 pub shape_of-out-then-not-g : goal.shape_of-out-then-not-g
-shape_of-out-then-not-g c = kept c.before.before.before.before.before.before
+shape_of-out-then-not-g c = kept (goal.at.shape_of-out-then-not-g c).After-list_some-g
 
 pub returns-then-not-g : goal.returns-then-not-g
-returns-then-not-g c = let g = c.before.before.before.before.before.before in record {
+returns-then-not-g c = let g = (goal.at.returns-then-not-g c).After-list_some-g in record {
   took = record { within = omega (arith, within g); left = further g };
   taken_value = λ e. cc;
 }
 
 pub loop-from-smaller : goal.loop-from-smaller
 loop-from-smaller c =
-    let g = c.before.before.before.before.before.before in
+    let g = (goal.at.loop-from-smaller c).After-list_some-g in
     omega (arith, within g, g.list_some-g.ensures.taken_nonzero)
 
 pub loop-from-preserved : goal.loop-from-preserved
 loop-from-preserved c =
-    let g = c.before.before.before.before.before.before in
+    let g = (goal.at.loop-from-preserved c).After-list_some-g in
     (omega (arith, within g), (further g, kept g))
 
 pub shape_of-out : goal.shape_of-out

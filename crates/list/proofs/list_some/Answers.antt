@@ -28,15 +28,15 @@ pub slice_bounds-write_made-end : goal.slice_bounds-write_made-end
 slice_bounds-write_made-end c = sym (length-take-le _ _ c.run-p.ensures.within)
 
 pub slice_bounds-write_made-end-2 : goal.slice_bounds-write_made-end-2
-slice_bounds-write_made-end-2 c = omega (arith, fits c.before.before.before)
+slice_bounds-write_made-end-2 c = omega (arith, fits (goal.at.slice_bounds-write_made-end-2 c).After-run-p)
 
 pub slice_bounds-write_made-end-3 : goal.slice_bounds-write_made-end-3
 slice_bounds-write_made-end-3 c =
-    let r = c.before.before.before in
+    let r = (goal.at.slice_bounds-write_made-end-3 c).After-run-p in
     omega (arith, length-take-le r.run-p.result.made r.run-p.new.out (fits r))
 
 pub write_made-on-requires : goal.write_made-on-requires
-write_made-on-requires c = let r = c.before.before.before in
+write_made-on-requires c = let r = (goal.at.write_made-on-requires c).After-run-p in
     let ran = r.run-p.ensures in record {
       text_value = flushed ran ∙ no_heading _ _ (rw (length-take-le _ _ ran.within) (some r));
       next_value = ran.left;
@@ -46,7 +46,7 @@ pub shape_of-out : goal.shape_of-out
 shape_of-out c = c.run-p.auto.1.1.0
 
 pub returns : goal.returns
-returns c = let r = c.before.before.before.before in
+returns c = let r = (goal.at.returns c).After-run-p in
     let ran = r.run-p.ensures in record {
       took = record { within = omega (arith, ran.within); left = ran.left };
       taken_nonzero = omega (arith, some r, ran.within);

@@ -35,7 +35,7 @@ slice_bounds-list_all-end c =
     c.large_buffer-chunk.ensures
 
 pub slice_bounds-list_all-end-then-write_made : goal.slice_bounds-list_all-end-then-write_made
-slice_bounds-list_all-end-then-write_made c = still c.before.before.before.before.before.before.before.before.before
+slice_bounds-list_all-end-then-write_made c = still (goal.at.slice_bounds-list_all-end-then-write_made c).After-heading-n
 
 pub list_all-requires : goal.list_all-requires
-list_all-requires c = omega (arith, still c.before.before.before.before.before.before.before.before.before)
+list_all-requires c = omega (arith, still (goal.at.list_all-requires c).After-heading-n)

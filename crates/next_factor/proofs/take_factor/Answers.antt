@@ -38,7 +38,7 @@ size_of-size-requires c =
     let p = c in (p.requires.1.good, c.take_apart-parts.ensures ∙ taken_good _ p.requires.1.good)
 
 pub returns-then-not-product_fits : goal.returns-then-not-product_fits
-returns-then-not-product_fits c = let g = c.before.before.before in
+returns-then-not-product_fits c = let g = (goal.at.returns-then-not-product_fits c).After-size_of-size in
     let p = start g in record {
       taken = rw (sym c.out_of_range.ensures)
           at (gain-over p.requires.0 p.requires.1 g.size_of-size.ensures c.product_fits.ensures
@@ -48,11 +48,11 @@ returns-then-not-product_fits c = let g = c.before.before.before in
 
 pub slice_bounds-times-end-2 : goal.slice_bounds-times-end-2
 slice_bounds-times-end-2 c =
-    sym (length-take-le _ _ (room c.before.before.before.before.before))
+    sym (length-take-le _ _ (room (goal.at.slice_bounds-times-end-2 c).After-size_of-size))
 
 pub times-requires : goal.times-requires
 times-requires c =
-    let g = c.before.before.before.before.before.before in
+    let g = (goal.at.times-requires c).After-size_of-size in
     let p = start g in (
       factor-asked p.requires.0 p.requires.1 g.size_of-size.ensures
           (g.take_apart-parts.ensures ∙ taken_good _ p.requires.1.good),
@@ -61,7 +61,7 @@ times-requires c =
     )
 
 pub returns-then-not-times : goal.returns-then-not-times
-returns-then-not-times c = let t = c.before.before.before.before in
+returns-then-not-times c = let t = (goal.at.returns-then-not-times c).After-times in
     let g = sized t in
     let p = start g in record {
       taken = rw (sym c.out_of_range-then-not-times.ensures)
@@ -72,18 +72,18 @@ returns-then-not-times c = let t = c.before.before.before.before in
 
 pub slice_bounds-peak-end-2 : goal.slice_bounds-peak-end-2
 slice_bounds-peak-end-2 c =
-    sym (length-take-le _ _ (kept c.before.before.before))
+    sym (length-take-le _ _ (kept (goal.at.slice_bounds-peak-end-2 c).After-times))
 
 pub overflow_mul-result : goal.overflow_mul-result
 overflow_mul-result c =
     let e = c in
-    let g = c.before.before.before.before.before.before.before.before.before.before.before.before in
+    let g = (goal.at.overflow_mul-result c).After-size_of-size in
     let small : (start g).args.so.gain * g.size_of-size.result.gain ≤ largest
     = leb-true _ _ (sym e.product_fits.ensures ∙ e.if-not-product_fits.false) in
     record { fits = omega arith }
 
 pub returns : goal.returns
-returns c = let t = c.before.before.before.before.before in
+returns c = let t = (goal.at.returns c).After-times in
     let g = sized t in
     let p = start g in
     let e = c in record {

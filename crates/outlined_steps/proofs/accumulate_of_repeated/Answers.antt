@@ -37,13 +37,13 @@ module _ (c : Then-stays_within) where
       ∙ c.times_added-times.ensures.1 p.args.bound)
 
 pub overflow_mul-grown : goal.overflow_mul-grown
-overflow_mul-grown c = omega (arith, inside c, (p c).requires.0.good.1)
+overflow_mul-grown c = omega (arith, inside (goal.at.overflow_mul-grown c).Then-stays_within, (p (goal.at.overflow_mul-grown c).Then-stays_within).requires.0.good.1)
 
 pub overflow_add-grown : goal.overflow_add-grown
-overflow_add-grown c = omega (arith, inside c, (p c).requires.0.good.1)
+overflow_add-grown c = omega (arith, inside (goal.at.overflow_add-grown c).Then-stays_within, (p (goal.at.overflow_add-grown c).Then-stays_within).requires.0.good.1)
 
 pub accumulate_repeated-requires : goal.accumulate_repeated-requires
-accumulate_repeated-requires c = let q = c.before in
+accumulate_repeated-requires c = let q = (goal.at.accumulate_repeated-requires c).Then-stays_within in
     let p = p q in record {
       le_t = (p.requires.0.told.some, p.requires.3, omega arith);
       a_value = rw (repeats_all p.args.o p.args.a.now p.requires.1)
@@ -52,7 +52,7 @@ accumulate_repeated-requires c = let q = c.before in
 
 pub returns-then-stays_within : goal.returns-then-stays_within
 returns-then-stays_within c =
-    let q = c.before.before.before in
+    let q = (goal.at.returns-then-stays_within c).Then-stays_within in
     let p = p q in
     whole-step p.requires.0
     (under p.args.w accumulate p.args.d p.args.bound (all q) (none q p.args.w (inside q))

@@ -41,13 +41,13 @@ pub returns-then-not-good_index : goal.returns-then-not-good_index
 returns-then-not-good_index c = let p = c in
     let g = sym c.good_index.ensures ∙ c.if-not-good_index.true in
     let s = at_index p.args.kind p.args.n p.args.j p.args.w p.args.buf.now
-    (stop-index _ _ _ _ _ (known c.before.before.before) g) in record {
+    (stop-index _ _ _ _ _ (known (goal.at.returns-then-not-good_index c).Else-not-known_kind) g) in record {
       value = c.refused-then-not-good_index.ensures ∙ s.0;
       buf_after = s.1;
     }
 
 pub returns-then-parts-eq1 : goal.returns-then-parts-eq1
-returns-then-parts-eq1 c = let t = c.before.before.before in
+returns-then-parts-eq1 c = let t = (goal.at.returns-then-parts-eq1 c).After-take_apart-parts in
     let p = start t in
     let s = at_index p.args.kind p.args.n p.args.j p.args.w p.args.buf.now
     (stop-one _ _ _ _ _ (kind_known t) (good t) (sym (parts_r _ _ (apart t)) ∙ c.if-parts-eq1.true)) in record {
@@ -57,7 +57,7 @@ returns-then-parts-eq1 c = let t = c.before.before.before in
 
 pub stop_at-requires : goal.stop_at-requires
 stop_at-requires c =
-    let t = c.before.before.before in
+    let t = (goal.at.stop_at-requires c).After-take_apart-parts in
     record {
       parts = apart t;
       known = kind_known t;

@@ -34,10 +34,10 @@ module _ (c : After-x-1) where
   small = p.requires.2 (p.args.i + c.loop-q.q)
 
 pub overflow_sub-gathered : goal.overflow_sub-gathered
-overflow_sub-gathered c = difference_fits (p c).args.h (x c) (p c).requires.1 (small c)
+overflow_sub-gathered c = difference_fits (p (goal.at.overflow_sub-gathered c).After-x-1).args.h (x (goal.at.overflow_sub-gathered c).After-x-1) (p (goal.at.overflow_sub-gathered c).After-x-1).requires.1 (small (goal.at.overflow_sub-gathered c).After-x-1)
 
 pub overflow_add-gathered : goal.overflow_add-gathered
-overflow_add-gathered c = sum_fits (p c).args.h (x c) (p c).requires.1 (small c)
+overflow_add-gathered c = sum_fits (p (goal.at.overflow_add-gathered c).After-x-1).args.h (x (goal.at.overflow_add-gathered c).After-x-1) (p (goal.at.overflow_add-gathered c).After-x-1).requires.1 (small (goal.at.overflow_add-gathered c).After-x-1)
 
 pub loop-q-preserved : goal.loop-q-preserved
 loop-q-preserved c = (
@@ -45,9 +45,9 @@ loop-q-preserved c = (
   λ u.
       let (others, above) = unsigned_both _ _ u in
       let (before, below) = unsigned_both _ _ others in
-      subst (NoneAbove (p c).args.h (p c).args.coeffs.now (p c).args.i) (omega arith)
+      subst (NoneAbove (p (goal.at.loop-q-preserved c).After-x-1).args.h (p (goal.at.loop-q-preserved c).After-x-1).args.coeffs.now (p (goal.at.loop-q-preserved c).After-x-1).args.i) (omega arith)
       (none_more (c.loop-q.invariant.1 before)
-      (both_unsigned (p c).args.h (x c) (p c).requires.1 (small c) below above)),
+      (both_unsigned (p (goal.at.loop-q-preserved c).After-x-1).args.h (x (goal.at.loop-q-preserved c).After-x-1) (p (goal.at.loop-q-preserved c).After-x-1).requires.1 (small (goal.at.loop-q-preserved c).After-x-1) below above)),
 )
 
 pub returns : goal.returns

@@ -15,7 +15,7 @@ use Rattle.peaks.proofs.Gathers.{difference_fits, sum_fits}
 use Rattle.peaks.proofs.none_in_block.Given as goal
 
 abbrev pub invariant-loop-q : goal.invariant-loop-q
-invariant-loop-q l = (l.q ≤ 16) × (Unsigned l.gathered → NoneAbove l.h l.coeffs l.i (l.i + l.q))
+invariant-loop-q l = (l.q ≤ 16) × (Unsigned (of_z w64 l.gathered) → NoneAbove l.h l.coeffs l.i (l.i + l.q))
 
 abbrev pub decreases-loop-q : goal.decreases-loop-q
 decreases-loop-q l = 16 - l.q

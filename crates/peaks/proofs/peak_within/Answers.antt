@@ -41,13 +41,13 @@ module _ (c : After-magnitude-h) where
 pub next_above-i-requires-in-loop-i : goal.next_above-i-requires-in-loop-i
 unfolding entries
 next_above-i-requires-in-loop-i c = record {
-  from_in_bounds = (omega arith, omega (arith, found c, (p c).requires (at c).loop-i.i), omega arith);
-  bounded = (p c).requires;
+  from_in_bounds = (omega arith, omega (arith, found (goal.at.next_above-i-requires-in-loop-i c).After-magnitude-h, (p (goal.at.next_above-i-requires-in-loop-i c).After-magnitude-h).requires (at (goal.at.next_above-i-requires-in-loop-i c).After-magnitude-h).loop-i.i), omega arith);
+  bounded = (p (goal.at.next_above-i-requires-in-loop-i c).After-magnitude-h).requires;
 }
 
 pub loop-i-preserved : goal.loop-i-preserved
 loop-i-preserved c =
-    reached_next (at c.before).loop-i.invariant c.loop-i-test.true (found c.before)
+    reached_next (at (goal.at.loop-i-preserved c).After-magnitude-h).loop-i.invariant c.loop-i-test.true (found (goal.at.loop-i-preserved c).After-magnitude-h)
     c.next_above-i-in-loop-i.ensures
 
 pub returns : goal.returns

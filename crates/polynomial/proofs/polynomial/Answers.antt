@@ -38,13 +38,13 @@ pub returns-then-not-good_index : goal.returns-then-not-good_index
 returns-then-not-good_index c = let p = c in
     let g = sym c.good_index.ensures ∙ c.if-not-good_index.true in
     let s = at_index p.args.kind p.args.n p.args.h p.args.w p.args.buf.now
-    (ask_index _ _ _ _ _ (known c.before.before.before) g) in record {
+    (ask_index _ _ _ _ _ (known (goal.at.returns-then-not-good_index c).Else-not-known_kind) g) in record {
       value = c.refused-then-not-good_index.ensures ∙ s.0;
       buf_after = s.1;
     }
 
 pub returns-then-h-lt1 : goal.returns-then-h-lt1
-returns-then-h-lt1 c = let t = c.before.before in
+returns-then-h-lt1 c = let t = (goal.at.returns-then-h-lt1 c).Else-not-good_index in
     let p = start t in
     let s = at_limit p.args.kind p.args.n p.args.h p.args.w p.args.buf.now
     (ask_limit _ _ _ _ _ (kind_known t) (good t) (rw (below_one_lem p.args.h p.ranges.h
@@ -54,7 +54,7 @@ returns-then-h-lt1 c = let t = c.before.before in
     }
 
 pub returns-then-w-lt1 : goal.returns-then-w-lt1
-returns-then-w-lt1 c = let t = c.before.before.before in
+returns-then-w-lt1 c = let t = (goal.at.returns-then-w-lt1 c).Else-not-good_index in
     let p = start t in
     let s = at_limit p.args.kind p.args.n p.args.h p.args.w p.args.buf.now
     (ask_limit _ _ _ _ _ (kind_known t) (good t)
@@ -76,8 +76,8 @@ module _ (c : Else-w-lt1) where
 
 pub answer_in-requires : goal.answer_in-requires
 answer_in-requires c =
-    let e = c.before.before.before.before in
-    let t = c.before.before.before.before.before.before in
+    let e = (goal.at.answer_in-requires c).Else-w-lt1 in
+    let t = (goal.at.answer_in-requires c).Else-not-good_index in
     let w = read_limit (asked e).args.w (asked e).ranges.w (good_w e) c.magnitude-2.ensures in (
       c.take_apart-parts.ensures ∙ taken_good _ (good t),
       kind_known t,
@@ -88,7 +88,7 @@ answer_in-requires c =
 
 pub returns : goal.returns
 returns c = let told =
-    let e = c.before.before.before.before.before.before in
+    let e = (goal.at.returns c).Else-w-lt1 in
     let h = read_limit (asked e).args.h (asked e).ranges.h (good_h e)
     c.magnitude.ensures in
     let w = read_limit (asked e).args.w (asked e).ranges.w (good_w e)

@@ -16,7 +16,7 @@ header_is c =
     ∙ ap (λ (m : ℕ). header_code m c.args.bytes.now) c.mark_of.ensures
 
 pub returns-then-code-ne-DONE : goal.returns-then-code-ne-DONE
-returns-then-code-ne-DONE c = sym (code_header _ _ _ _ (header_is c.before) c.if-code-ne-DONE.true)
+returns-then-code-ne-DONE c = sym (code_header _ _ _ _ (header_is (goal.at.returns-then-code-ne-DONE c).After-header_code-code) c.if-code-ne-DONE.true)
 
 pub code_with-requires : goal.code_with-requires
-code_with-requires c = sym (header_is c.before) ∙ c.if-code-ne-DONE.false
+code_with-requires c = sym (header_is (goal.at.code_with-requires c).After-header_code-code) ∙ c.if-code-ne-DONE.false

@@ -38,22 +38,22 @@ count_in-requires c = (right _ _ c.requires).long
 
 pub returns-then-room-count_in : goal.returns-then-room-count_in
 returns-then-room-count_in c =
-    let long = c.before.before in
+    let long = (goal.at.returns-then-room-count_in c).Else-bytes-size_in in
     sym (code-short _ _ _ (from long).requires (whole long) (omega (arith, c.count_in.ensures)))
 
 pub right_in-right-requires : goal.right_in-right-requires
-right_in-right-requires c = ((from c.before.before).requires, whole c.before.before)
+right_in-right-requires c = ((from (goal.at.right_in-right-requires c).Else-bytes-size_in).requires, whole (goal.at.right_in-right-requires c).Else-bytes-size_in)
 
 pub uneven_in-uneven-requires : goal.uneven_in-uneven-requires
 uneven_in-uneven-requires c =
-    let long = c.before.before.before in
+    let long = (goal.at.uneven_in-uneven-requires c).Else-bytes-size_in in
     ((from long).requires, whole long)
 
 pub returns-then-not-right : goal.returns-then-not-right
 returns-then-not-right c =
     let looked = c in
-    let roomy = c.before.before.before in
-    let long = c.before.before.before.before.before in
+    let roomy = (goal.at.returns-then-not-right c).Else-room-count_in in
+    let long = (goal.at.returns-then-not-right c).Else-bytes-size_in in
     sym (code_wide _ _ _ (from long).requires (whole long) (room roomy)
     (sym looked.right_in-right.ensures ∙ c.if-not-right.true))
 
@@ -64,16 +64,16 @@ wide c = sym c.right_in-right.ensures ∙ c.if-not-right.false
 
 pub returns-then-uneven : goal.returns-then-uneven
 returns-then-uneven c =
-    let e = c.before in
-    let roomy = c.before.before.before.before in
-    let long = c.before.before.before.before.before.before in
+    let e = (goal.at.returns-then-uneven c).Else-not-right in
+    let roomy = (goal.at.returns-then-uneven c).Else-room-count_in in
+    let long = (goal.at.returns-then-uneven c).Else-bytes-size_in in
     sym (code-uneven _ _ _ (from long).requires (whole long) (room roomy) (wide e)
     (sym e.uneven_in-uneven.ensures ∙ c.if-uneven.true))
 
 pub returns : goal.returns
 returns c =
-    let e = c.before in
-    let roomy = c.before.before.before.before in
-    let long = c.before.before.before.before.before.before in
+    let e = (goal.at.returns c).Else-not-right in
+    let roomy = (goal.at.returns c).Else-room-count_in in
+    let long = (goal.at.returns c).Else-bytes-size_in in
     sym (code_done _ _ _ (from long).requires (whole long) (room roomy) (wide e)
     (sym e.uneven_in-uneven.ensures ∙ c.if-uneven.false))

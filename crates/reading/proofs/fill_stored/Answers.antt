@@ -13,15 +13,15 @@ good : (s : Start) → Read_right s.args.form s.args.bytes.now (length s.args.co
 good s = read_right _ _ _ s.requires
 
 pub width_in-requires : goal.width_in-requires
-width_in-requires c = (right _ _ (good c.before).header).long
+width_in-requires c = (right _ _ (good (goal.at.width_in-requires c).Start).header).long
 
 pub stored_in-requires : goal.stored_in-requires
-stored_in-requires c = (_, (good c.before.before).header)
+stored_in-requires c = (_, (good (goal.at.stored_in-requires c).Start).header)
 
 pub fill-requires : goal.fill-requires
 fill-requires c =
     let stored = c in
-    let start = c.before.before.before.before in
+    let start = (goal.at.fill-requires c).Start in
     let wide = stored.width_in.ensures in
     let g = good start in
     let k = stored.stored_in.ensures.0 in (
@@ -33,7 +33,7 @@ fill-requires c =
 pub returns : goal.returns
 returns c =
     let stored = c in
-    let start = c.before.before.before.before.before.before in
+    let start = (goal.at.returns c).Start in
     let k = stored.stored_in.ensures.0 in
     filled_in _ _ _ _ stored.width_in.ensures k start.args.coeffs.now _
     (omega (arith, (good start).ranges, k, stored-le start.args.form (count_in start.args.bytes.now)))

@@ -31,12 +31,12 @@ negates_in-requires c = (right _ _ c.requires.0).long
 
 pub returns-then-not-negates_in : goal.returns-then-not-negates_in
 returns-then-not-negates_in c =
-    middle_plain (from c.before.before).args.bytes.now
+    middle_plain (from (goal.at.returns-then-not-negates_in c).After-count_in-count).args.bytes.now
     (sym c.negates_in.ensures ∙ c.if-not-negates_in.true)
 
 pub returns-then-count-eq0 : goal.returns-then-count-eq0
 returns-then-count-eq0 c =
-    let counted = c.before.before.before in
+    let counted = (goal.at.returns-then-count-eq0 c).After-count_in-count in
     middle_none (from counted).args.bytes.now
     (ap (λ (k : ℕ). k % 2) (sym counted.count_in-count.ensures) ∙ c.if-count-eq0.true)
 
@@ -64,20 +64,20 @@ stored c =
     )
 
 pub overflow_mul-count : goal.overflow_mul-count
-overflow_mul-count c = omega (arith, (stored c).1)
+overflow_mul-count c = omega (arith, (stored (goal.at.overflow_mul-count c).Else-count-eq0).1)
 
 pub overflow_add-count : goal.overflow_add-count
-overflow_add-count c = omega (arith, (stored c).1)
+overflow_add-count c = omega (arith, (stored (goal.at.overflow_add-count c).Else-count-eq0).1)
 
 pub get-requires : goal.get-requires
 get-requires c =
-    let counted = c.before.before.before in
-    (rw counted.width_in-w.ensures (right _ _ (from counted).requires.0).wide, (stored c).0)
+    let counted = (goal.at.get-requires c).After-count_in-count in
+    (rw counted.width_in-w.ensures (right _ _ (from counted).requires.0).wide, (stored (goal.at.get-requires c).Else-count-eq0).0)
 
 pub returns : goal.returns
 returns c =
     let e = c in
-    let counted = c.before.before.before.before in
+    let counted = (goal.at.returns c).After-count_in-count in
     let there = counted.count_in-count.ensures in
     middle_is (from counted).args.bytes.now _ _ counted.width_in-w.ensures
     (c.get.ensures.0

@@ -31,7 +31,7 @@ low : (s : Start) → height_of (stored_in Half s.args.bytes.now) ≤ largest
 low s = ltb-false largest _ (stored_fits Half s.args.bytes.now _ (good s)).within
 
 pub count_in-count-requires : goal.count_in-count-requires
-count_in-count-requires c = (right _ _ (good c.before.before.before.before).header).long
+count_in-count-requires c = (right _ _ (good (goal.at.count_in-count-requires c).Start).header).long
 
 -- what stands in the buffer, from the place past the reading of the count
 abbrev from : After-count_in-count → Start
@@ -47,29 +47,29 @@ pub slice_bounds-mirror-end : goal.slice_bounds-mirror-end
 slice_bounds-mirror-end c =
     omega (
       arith,
-      fits c,
-      length_filled _ (stored_in Half (from c).args.bytes.now) (from c).args.coeffs.now _ (half_is c) (fits c)
+      fits (goal.at.slice_bounds-mirror-end c).After-count_in-count,
+      length_filled _ (stored_in Half (from (goal.at.slice_bounds-mirror-end c).After-count_in-count).args.bytes.now) (from (goal.at.slice_bounds-mirror-end c).After-count_in-count).args.coeffs.now _ (half_is (goal.at.slice_bounds-mirror-end c).After-count_in-count) (fits (goal.at.slice_bounds-mirror-end c).After-count_in-count)
           c.fill_stored.ensures,
     )
 
 pub slice_bounds-mirror-end-2 : goal.slice_bounds-mirror-end-2
 slice_bounds-mirror-end-2 c =
-    let k = c.before in
+    let k = (goal.at.slice_bounds-mirror-end-2 c).After-count_in-count in
     sym (length_part _ (stored_in Half (from k).args.bytes.now) (from k).args.coeffs.now _ (half_is k) (fits k)
     k.fill_stored.ensures)
 
 pub negates_in-requires : goal.negates_in-requires
-negates_in-requires c = (right _ _ (good (from c.before)).header).long
+negates_in-requires c = (right _ _ (good (from (goal.at.negates_in-requires c).After-count_in-count)).header).long
 
 pub mirror-requires : goal.mirror-requires
 mirror-requires c =
-    let k = c.before.before in
+    let k = (goal.at.mirror-requires c).After-count_in-count in
     part_inside _ _ _ _ (half_is k) (fits k) k.fill_stored.ensures (low (from k))
 
 pub returns : goal.returns
 unfolding coefficients_in
 returns c =
-    let k = c.before.before.before.before in
+    let k = (goal.at.returns c).After-count_in-count in
     let bs = (from k).args.bytes.now in
     whole-made k.count_in-count.result (stored_in Half bs) (from k).args.coeffs.now _ (half_is k) (fits k)
     k.fill_stored.ensures c.negates_in.result c.mirror.new.a

@@ -18,10 +18,10 @@ small c =
     (in_bounds _ _ _ wide.width_in-w.ensures wide.requires.1).1
 
 pub overflow_mul-result : goal.overflow_mul-result
-overflow_mul-result c = omega (arith, small c)
+overflow_mul-result c = omega (arith, small (goal.at.overflow_mul-result c).After-stored_in)
 
 pub overflow_add-result : goal.overflow_add-result
-overflow_add-result c = omega (arith, small c)
+overflow_add-result c = omega (arith, small (goal.at.overflow_add-result c).After-stored_in)
 
 pub returns : goal.returns
 returns c = size_in_lem _ _ _ _ c.width_in-w.ensures c.stored_in.ensures.0

@@ -23,10 +23,10 @@ small c =
     )
 
 pub stored_of-requires : goal.stored_of-requires
-stored_of-requires c = small c
+stored_of-requires c = small (goal.at.stored_of-requires c).After-count_in
 
 pub returns : goal.returns
 returns c = (
   c.Stored-of.ensures.0 ∙ ap (stored c.args.form) c.count_in.ensures,
-  omega (arith, small c.before),
+  omega (arith, small (goal.at.returns c).After-count_in),
 )

@@ -60,7 +60,7 @@ module _ (at : At-loop-x) where
 
   same : length at.loop-x.a ≡ length l
   same =
-      at.loop-x.inv.0
+      at.loop-x.invariant.0
       ∙ written-length p.args.t p.args.d l p.requires.le_t.0 p.requires.le_t.1 p.requires.le_t.2
       at.repeat.ensures
 
@@ -70,12 +70,12 @@ module _ (at : At-loop-x) where
   so_far : (k : ℕ) → k < at.loop-x.x + p.args.d % p.args.t → k < length l
       → entries at.loop-x.a k ≡ accumulated p.args.d f k
   so_far k h below =
-      at.loop-x.inv.7 f comes
+      at.loop-x.invariant.7 f comes
       (written p.args.t p.args.d l p.requires.le_t.0 p.requires.le_t.1 p.requires.le_t.2
-      at.repeat.ensures) k h (omega (arith, same, at.loop-x.inv.0))
+      at.repeat.ensures) k h (omega (arith, same, at.loop-x.invariant.0))
 
 pub sum_row-requires : goal.sum_row-requires
-sum_row-requires c = let at = c.before.before.before in
+sum_row-requires c = let at = (goal.at.sum_row-requires c).At-loop-x in
     let p = p at in
     let to = c.smaller-to.ensures in
     let inv = at.loop-x.invariant in record {
@@ -99,7 +99,7 @@ sum_row-requires c = let at = c.before.before.before in
 
 pub loop-x-preserved : goal.loop-x-preserved
 loop-x-preserved c =
-    let at = c.before.before.before.before.before in
+    let at = (goal.at.loop-x-preserved c).At-loop-x in
     let p = p at in
     let to = c.smaller-to.ensures in
     let inv = at.loop-x.invariant in
@@ -120,11 +120,11 @@ loop-x-preserved c =
     )
 
 pub shape_of-a : goal.shape_of-a
-shape_of-a c = same c.before
+shape_of-a c = same (goal.at.shape_of-a c).At-loop-x
 
 pub returns : goal.returns
 returns c =
-    let at = c.before in
+    let at = (goal.at.returns c).At-loop-x in
     let p = p at in
     all_summed p.args.t p.args.d (l at) p.requires.le_t.0 p.requires.le_t.1 p.requires.le_t.2 at.loop-x.a (same at)
     (λ k below. so_far at k (omega (arith, same at, at.loop-x.invariant.0)) below)

@@ -32,7 +32,7 @@ pub returns-then-is_good_with : goal.returns-then-is_good_with
 returns-then-is_good_with c =
     let l = c.args.line.now in
     let a = c.digits_at-a in (
-      reads_good l _ _ _ (sym (as_good c.before.before.before) ∙ c.if-is_good_with.true)
+      reads_good l _ _ _ (sym (as_good (goal.at.returns-then-is_good_with c).After-is_good_with) ∙ c.if-is_good_with.true)
           (c.kind_of-kind.ensures
           ∙ ap kind_of c.byte_at.ensures)
           c.number_at.ensures.0 (c.number_at-then-is_good_with.ensures.0 ∙ limit l a.result a.ensures),
@@ -40,7 +40,7 @@ returns-then-is_good_with c =
     )
 
 pub returns-else-is_good_with : goal.returns-else-is_good_with
-returns-else-is_good_with c = (reads_wrong _ (sym (as_good c.before) ∙ c.if-is_good_with.false), lit< tt)
+returns-else-is_good_with c = (reads_wrong _ (sym (as_good (goal.at.returns-else-is_good_with c).After-is_good_with) ∙ c.if-is_good_with.false), lit< tt)
 
 pub returns-else-a-lt10 : goal.returns-else-a-lt10
 returns-else-a-lt10 c = (

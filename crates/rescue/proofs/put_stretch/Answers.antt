@@ -16,20 +16,20 @@ short c =
 
 pub put_item-p-requires : goal.put_item-p-requires
 put_item-p-requires c =
-    let first = c.before.before.before in
+    let first = (goal.at.put_item-p-requires c).After-put_number-p in
     omega (arith, short first, first.put_number-p.auto.out)
 
 pub put_text-requires : goal.put_text-requires
 put_text-requires c =
     let second = c in
-    let first = c.before.before.before.before.before.before.before.before.before in
+    let first = (goal.at.put_text-requires c).After-put_number-p in
     omega (arith, short first, first.put_number-p.auto.out, second.put_item-p.ensures.upper_bound, second.put_item-p.auto.out)
 
 pub returns : goal.returns
 unfolding line_of
 returns c = let last = c in
     let second = c in
-    let first = c.before.before.before.before.before.before.before.before.before.before.before.before in record {
+    let first = (goal.at.returns c).After-put_number-p in record {
       puts = then first.put_number-p.ensures (then second.put_item-p.ensures.puts last.put_text.ensures);
       upper_bound = omega (arith, short first, second.put_item-p.ensures.upper_bound, last.put_text.ensures.place);
     }

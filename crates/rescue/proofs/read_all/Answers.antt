@@ -23,15 +23,15 @@ module _ (c : After-read_more-got) where
   within = omega (arith, c.read_more-got.ensures.count_in_bounds)
 
 pub shape_of-shelf-then-n-eq0 : goal.shape_of-shelf-then-n-eq0
-shape_of-shelf-then-n-eq0 c = kept c.before.before.before
+shape_of-shelf-then-n-eq0 c = kept (goal.at.shape_of-shelf-then-n-eq0 c).After-read_more-got
 
 pub returns-then-n-eq0 : goal.returns-then-n-eq0
 returns-then-n-eq0 c =
-    let h = within c.before.before.before in
+    let h = within (goal.at.returns-then-n-eq0 c).After-read_more-got in
     (h, sym (length-take-le _ _ h))
 
 pub overflow_add-at : goal.overflow_add-at
-overflow_add-at c = omega (arith, c.read_more-got.ensures.count_in_bounds, kept c.before.before.before)
+overflow_add-at c = omega (arith, c.read_more-got.ensures.count_in_bounds, kept (goal.at.overflow_add-at c).After-read_more-got)
 
 pub loop-at-smaller : goal.loop-at-smaller
 loop-at-smaller c =
@@ -40,7 +40,7 @@ loop-at-smaller c =
 
 pub loop-at-preserved : goal.loop-at-preserved
 loop-at-preserved c =
-    let read = c.before.before.before in
+    let read = (goal.at.loop-at-preserved c).After-read_more-got in
     (read.read_more-got.ensures.count_in_bounds, kept read)
 
 pub shape_of-shelf : goal.shape_of-shelf

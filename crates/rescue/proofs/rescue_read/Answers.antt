@@ -57,18 +57,18 @@ all c =
     delivered shelf _ _ _ _ _ _ done e.answer e.leaves.0 e.leaves.1.0
 
 pub slice_bounds-out-end : goal.slice_bounds-out-end
-slice_bounds-out-end c = omega (arith, (all c.before.before.before).kept_in_lem)
+slice_bounds-out-end c = omega (arith, (all (goal.at.slice_bounds-out-end c).After-rescue-rescued).kept_in_lem)
 
 pub slice_bounds-write_kept-end : goal.slice_bounds-write_kept-end
 slice_bounds-write_kept-end c =
-    let r = c.before.before.before.before in
+    let r = (goal.at.slice_bounds-write_kept-end c).After-rescue-rescued in
     omega (arith, length-take-le r.rescue-rescued.result.kept r.rescue-rescued.new.out (all r).kept_in_lem)
 
 pub write_kept-requires : goal.write_kept-requires
-write_kept-requires c = (all c.before.before.before.before).keeps
+write_kept-requires c = (all (goal.at.write_kept-requires c).After-rescue-rescued).keeps
 
 pub say_stretches-requires : goal.say_stretches-requires
-say_stretches-requires c = let d = all c.before.before.before.before.before.before.before in record {
+say_stretches-requires c = let d = all (goal.at.say_stretches-requires c).After-rescue-rescued in record {
   count_in_bounds = d.listed_in_lem;
   list_value = d.lists;
 }

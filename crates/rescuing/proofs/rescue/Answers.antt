@@ -13,31 +13,31 @@ use Rattle.rescuing.proofs.rescue.Goals.{After-is_short}
 -- it is not SHORT, so the code is 0
 done : (asked : After-is_short) → asked.is_short.result ≡ false →
     let a = asked.args in
-    rescue_code a.shelf.now (length a.out-1.now) (length a.list-1.now) (length a.coeffs-1.now) ≡ DONE
+    rescue_code a.shelf.now (length a.out.now) (length a.list.now) (length a.coeffs.now) ≡ DONE
 done asked e =
     let a = asked.args in
-    done_code a.shelf.now a.out-1.now a.list-1.now (length a.coeffs-1.now)
+    done_code a.shelf.now a.out.now a.list.now (length a.coeffs.now)
     (sym e ∙ asked.is_short.ensures.value)
 
 pub returns-then-is_short : goal.returns-then-is_short
 returns-then-is_short c = let told =
     let asked = c in
     let a = asked.args in
-    let r = refused a.shelf.now a.out-1.now a.list-1.now (length a.coeffs-1.now)
+    let r = refused a.shelf.now a.out.now a.list.now (length a.coeffs.now)
     (sym c.if-is_short.true ∙ asked.is_short.ensures.value) in
     (r.0, (r.1, (r.2, c.clear.ensures ∙ ap zeros asked.is_short.ensures.coeffs_len_unchanged))) in record { answer = told.0; leaves = told.1; lists = told.2; clears = told.3 }
 
 pub write_all-written-requires : goal.write_all-written-requires
 write_all-written-requires c =
-    let asked = c.before.before.before.before.before in
+    let asked = (goal.at.write_all-written-requires c).After-is_short in
     rw asked.is_short.ensures.coeffs_len_unchanged (done asked c.if-is_short.false)
 
 pub returns : goal.returns
 returns c = let told =
     let w = c in
-    let asked = c.before.before.before.before.before.before.before.before.before.before.before.before.before.before.before in
+    let asked = (goal.at.returns c).After-is_short in
     let a = asked.args in
     let e = w.write_all-written.ensures in
-    let r = delivered a.shelf.now a.out-1.now a.list-1.now (length a.coeffs-1.now)
+    let r = delivered a.shelf.now a.out.now a.list.now (length a.coeffs.now)
     (done asked w.if-is_short.false) _ _ _ _ e.kept_value.0 e.kept_value.1 e.out_after.0 e.out_after.1.0 in
     (r.0, (r.1, (r.2, c.clear-2.ensures ∙ ap zeros (e.out_after.1.1 ∙ asked.is_short.ensures.coeffs_len_unchanged)))) in record { answer = told.0; leaves = told.1; lists = told.2; clears = told.3 }

@@ -39,12 +39,12 @@ returns-then-not-good_index c = let told =
     let p = c in
     let g = sym c.good_index.ensures ∙ c.if-not-good_index.true in
     let s = at_index p.args.kind p.args.n p.args.h p.args.buf.now p.args.scratch.now
-    (ask_index _ _ _ _ _ (known c.before.before.before) g) in
+    (ask_index _ _ _ _ _ (known (goal.at.returns-then-not-good_index c).Else-not-known_kind) g) in
     (c.refused-then-not-good_index.ensures ∙ s.0, s.1) in record { value = told.0; buf_after = told.1; scratch_after = told.2 }
 
 pub returns-then-h-lt1 : goal.returns-then-h-lt1
 returns-then-h-lt1 c = let told =
-    let t = c.before.before in
+    let t = (goal.at.returns-then-h-lt1 c).Else-not-good_index in
     let p = start t in
     let s = at_limit p.args.kind p.args.n p.args.h p.args.buf.now p.args.scratch.now
     (ask_limit _ _ _ _ _ (kind_known t) (good t) (below_one_lem p.args.h p.ranges.h c.if-h-lt1.true)) in
@@ -56,17 +56,17 @@ good_h c = let p = start c.before in below_one_lem p.args.h p.ranges.h c.if-h-lt
 
 pub answer_in-requires : goal.answer_in-requires
 answer_in-requires c =
-    let e = c.before.before.before.before in
-    let p = start c.before.before.before.before.before in (
-      c.take_apart-parts.ensures ∙ taken_good _ (good c.before.before.before.before.before),
-      kind_known c.before.before.before.before.before,
-      good c.before.before.before.before.before,
+    let e = (goal.at.answer_in-requires c).Else-h-lt1 in
+    let p = start (goal.at.answer_in-requires c).Else-not-good_index in (
+      c.take_apart-parts.ensures ∙ taken_good _ (good (goal.at.answer_in-requires c).Else-not-good_index),
+      kind_known (goal.at.answer_in-requires c).Else-not-good_index,
+      good (goal.at.answer_in-requires c).Else-not-good_index,
       (read_limit p.args.h p.ranges.h (good_h e) c.magnitude.ensures).2.0,
     )
 
 pub returns : goal.returns
 returns c = let told =
-    let e = c.before.before.before.before.before.before.before in
-    let p = start c.before.before.before.before.before.before.before.before in
+    let e = (goal.at.returns c).Else-h-lt1 in
+    let p = start (goal.at.returns c).Else-not-good_index in
     rw (read_limit p.args.h p.ranges.h (good_h e)
     c.magnitude.ensures).1 at c.answer_in.ensures in record { value = told.0; buf_after = told.1; scratch_after = told.2 }

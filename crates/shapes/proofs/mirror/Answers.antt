@@ -25,7 +25,7 @@ known c = c.loop-i.invariant c.args.a.now c.mirror_fours-i.ensures
 
 pub put_signed-requires : goal.put_signed-requires
 put_signed-requires c =
-    let q = c.before.before in
+    let q = (goal.at.put_signed-requires c).At-loop-i in
     let p = known q in
     let len = p.split.len in
     let from = p.from in
@@ -39,7 +39,7 @@ loop-i-preserved c = λ l p.
     mirror-next (q.loop-i.invariant l p) _ (omega arith) (omega arith) c.put_signed.ensures
 
 pub shape_of-a : goal.shape_of-a
-shape_of-a c = (known c.before).split.len
+shape_of-a c = (known (goal.at.shape_of-a c).At-loop-i).split.len
 
 pub returns : goal.returns
-returns c = mirror-end (known c.before) c.loop-i-test.false
+returns c = mirror-end (known (goal.at.returns c).At-loop-i) c.loop-i-test.false

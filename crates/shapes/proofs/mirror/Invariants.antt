@@ -11,7 +11,7 @@ use Rattle.shapes.proofs.Shaping.{mirror_range, mirror-next, mirror-end}
 use Rattle.shapes.proofs.mirror.Given as goal
 
 abbrev pub invariant-loop-i : goal.invariant-loop-i
-invariant-loop-i l = (l : List ℤ) → MirroredTo l.negate l l.initial.a l.initial.i → MirroredTo l.negate l l.a l.i
+invariant-loop-i v = (l : List ℤ) → MirroredTo v.negate l v.initial.a v.initial.i → MirroredTo v.negate l v.a v.i
 
 abbrev pub decreases-loop-i : goal.decreases-loop-i
 decreases-loop-i l = l.n - l.i

@@ -20,13 +20,16 @@ fits : (c : Start) → c.args.top + 1 ≤ length c.args.a.now
 fits c = above_fits c.args.t c.args.top c.requires.0 c.requires.1
 
 pub overflow_add-above : goal.overflow_add-above
-overflow_add-above c = omega (arith, fits c)
+overflow_add-above c = omega (arith, fits (goal.at.overflow_add-above c).Start)
 
 pub offset_bounds-a-above : goal.offset_bounds-a-above
-offset_bounds-a-above c = omega (arith, fits c)
+offset_bounds-a-above c = omega (arith, fits (goal.at.offset_bounds-a-above c).Start)
 
 pub slice_bounds-clear-count : goal.slice_bounds-clear-count
-slice_bounds-clear-count c = omega (arith, fits c)
+slice_bounds-clear-count c = omega (arith, fits (goal.at.slice_bounds-clear-count c).Start)
+
+pub slice_bounds-clear-start : goal.slice_bounds-clear-start
+slice_bounds-clear-start c = omega (arith, fits c)
 
 pub loop-i-init : goal.loop-i-init
 loop-i-init c = (omega arith, λ e s. s)
@@ -49,20 +52,20 @@ inside : (c : At-loop-i) → c.loop-i.i < length c.loop-i.a
 inside c = omega (arith, (known c).len, at_least (known c) c.requires.0, c.loop-i.invariant.0)
 
 pub read_entry-x-requires : goal.read_entry-x-requires
-read_entry-x-requires c = inside c.before
+read_entry-x-requires c = inside (goal.at.read_entry-x-requires c).At-loop-i
 
 pub put-requires : goal.put-requires
-put-requires c = inside c.before.before.before
+put-requires c = inside (goal.at.put-requires c).At-loop-i
 
 pub put-requires-in-loop-i : goal.put-requires-in-loop-i
 put-requires-in-loop-i c =
-    let g = c.before.before.before.before.before.before in
+    let g = (goal.at.put-requires-in-loop-i c).At-loop-i in
     let same = ap length c.put.ensures ∙ length-set g.loop-i.a g.loop-i.i _ in
     omega (arith, (known g).len, g.loop-i.invariant.0)
 
 pub overflow_sub-at-in-loop-i : goal.overflow_sub-at-in-loop-i
 overflow_sub-at-in-loop-i c =
-    let g = c.before.before.before.before.before.before.before.before in
+    let g = (goal.at.overflow_sub-at-in-loop-i c).At-loop-i in
     room (known g) (omega arith)
 
 pub loop-i-preserved : goal.loop-i-preserved
@@ -77,9 +80,9 @@ loop-i-preserved c =
     )
 
 pub shape_of-a : goal.shape_of-a
-shape_of-a c = (known c.before).len
+shape_of-a c = (known (goal.at.shape_of-a c).At-loop-i).len
 
 pub returns : goal.returns
 returns c =
     let q = c in
-    spreading_end (known c.before) q.requires.0 (omega arith)
+    spreading_end (known (goal.at.returns c).At-loop-i) q.requires.0 (omega arith)

@@ -11,6 +11,12 @@ use Rattle.squarefree_from_half.proofs.second_copy.Goals as goal
 pub slice_bounds-clear-count : goal.slice_bounds-clear-count
 slice_bounds-clear-count c = top_below c.args.r c.args.top c.args.a.now c.requires
 
+pub slice_bounds-clear-start : goal.slice_bounds-clear-start
+slice_bounds-clear-start c =
+    let b = top_below c.args.r c.args.top c.args.a.now c.requires in
+    let n = c.requires.len in
+    search rules
+
 pub negated_copy-requires : goal.negated_copy-requires
 negated_copy-requires c =
     let p = c in

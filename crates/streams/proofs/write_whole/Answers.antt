@@ -18,10 +18,10 @@ within c =
     )
 
 pub overflow_add-done : goal.overflow_add-done
-overflow_add-done c = omega (arith, within c.before)
+overflow_add-done c = omega (arith, within (goal.at.overflow_add-done c).After-write_some-n)
 
 pub loop-done-smaller : goal.loop-done-smaller
-loop-done-smaller c = omega (arith, within c.before)
+loop-done-smaller c = omega (arith, within (goal.at.loop-done-smaller c).After-write_some-n)
 
 pub loop-done-preserved : goal.loop-done-preserved
-loop-done-preserved c = omega (arith, within c.before)
+loop-done-preserved c = omega (arith, within (goal.at.loop-done-preserved c).After-write_some-n)

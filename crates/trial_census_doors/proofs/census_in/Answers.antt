@@ -12,8 +12,8 @@ use Rattle.trial_census_doors.proofs.census_in.Goals.{After-census-arg-3-1}
 both_lent : (c : After-census-arg-3-1) →
     let r = c in
     let a = r.args in
-    (length (take r.room-s.result a.told-1.now) ≡ r.room-s.result)
-    × (length (take r.room-s.result a.rows-1.now) ≡ r.room-s.result)
+    (length (take r.room-s.result a.told.now) ≡ r.room-s.result)
+    × (length (take r.room-s.result a.rows.now) ≡ r.room-s.result)
 both_lent c =
     let r = c in
     let same = r.requires in
@@ -23,7 +23,7 @@ pub slice_bounds-census-end-2 : goal.slice_bounds-census-end-2
 slice_bounds-census-end-2 c = sym (length-take-le _ _ c.room-s.ensures)
 
 pub slice_bounds-census-end-4 : goal.slice_bounds-census-end-4
-slice_bounds-census-end-4 c = sym (both_lent c).0
+slice_bounds-census-end-4 c = sym (both_lent (goal.at.slice_bounds-census-end-4 c).After-census-arg-3-1).0
 
 pub census-requires : goal.census-requires
-census-requires c = (both_lent c).0 ∙ sym (both_lent c).1
+census-requires c = (both_lent (goal.at.census-requires c).After-census-arg-3-1).0 ∙ sym (both_lent (goal.at.census-requires c).After-census-arg-3-1).1

@@ -12,7 +12,7 @@ use Rattle.trial_rescue_doors.proofs.rescue_in.Goals.{After-rescue-arg-4-1}
 both_lent : (c : After-rescue-arg-4-1) →
     let a = c.args in
     let s = c.room-s.result in
-    (length (take s a.told-1.now) ≡ s) × (length (take s a.list-1.now) ≡ s)
+    (length (take s a.told.now) ≡ s) × (length (take s a.list.now) ≡ s)
 both_lent c =
     let s = c.room-s in
     let same = c.requires in
@@ -25,7 +25,7 @@ pub slice_bounds-rescue-end-4 : goal.slice_bounds-rescue-end-4
 slice_bounds-rescue-end-4 c = sym (length-take-le _ _ c.room-s.ensures)
 
 pub slice_bounds-rescue-end-6 : goal.slice_bounds-rescue-end-6
-slice_bounds-rescue-end-6 c = sym (both_lent c).0
+slice_bounds-rescue-end-6 c = sym (both_lent (goal.at.slice_bounds-rescue-end-6 c).After-rescue-arg-4-1).0
 
 pub rescue-requires : goal.rescue-requires
-rescue-requires c = (both_lent c).0 ∙ sym (both_lent c).1
+rescue-requires c = (both_lent (goal.at.rescue-requires c).After-rescue-arg-4-1).0 ∙ sym (both_lent (goal.at.rescue-requires c).After-rescue-arg-4-1).1

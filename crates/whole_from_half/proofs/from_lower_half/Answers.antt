@@ -25,17 +25,17 @@ module _ (q : After-degree_from-top) where
   parity = m_by_parity _ _ _ _ start.requires.0
 
 pub overflow_add-size : goal.overflow_add-size
-overflow_add-size c = omega (arith, (out c).top-room)
+overflow_add-size c = omega (arith, (out (goal.at.overflow_add-size c).After-degree_from-top).top-room)
 
 pub slice_bounds-of_m-end : goal.slice_bounds-of_m-end
-slice_bounds-of_m-end c = (out c).top-room
+slice_bounds-of_m-end c = (out (goal.at.slice_bounds-of_m-end c).After-degree_from-top).top-room
 
 pub slice_bounds-of_m-end-2 : goal.slice_bounds-of_m-end-2
-slice_bounds-of_m-end-2 c = sym (out c.before).part_length
+slice_bounds-of_m-end-2 c = sym (out (goal.at.slice_bounds-of_m-end-2 c).After-degree_from-top).part_length
 
 pub of_m-requires : goal.of_m-requires
 of_m-requires c =
-    let q = c.before in
+    let q = (goal.at.of_m-requires c).After-degree_from-top in
     let p = start q in
     let r = r_is _ _ _ _ p.requires.0 in (
       lower-front p.args.kind p.args.parts.r (q.degree_from-top.result + 1) p.args.b.now
@@ -49,10 +49,10 @@ of_m-requires c =
 
 pub spread_by-requires : goal.spread_by-requires
 spread_by-requires c =
-    let q = c.before.before.before.before in
+    let q = (goal.at.spread_by-requires c).After-degree_from-top in
     ((out q).t_pos, (out q).spaced-length (parity q) _ c.of_m.ensures)
 
 pub returns : goal.returns
 returns c =
-    let q = c.before.before.before.before.before.before in
+    let q = (goal.at.returns c).After-degree_from-top in
     (out q).spaced (parity q) _ c.of_m.ensures _ c.spread_by.ensures

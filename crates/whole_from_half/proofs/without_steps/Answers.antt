@@ -21,25 +21,25 @@ module _ (q : After-degree_from-top) where
   parity = tiny_m _ _ _ _ start.requires.0 start.requires.1
 
 pub overflow_add-size : goal.overflow_add-size
-overflow_add-size c = omega (arith, (out c).top-room)
+overflow_add-size c = omega (arith, (out (goal.at.overflow_add-size c).After-degree_from-top).top-room)
 
 pub slice_bounds-of_one_or_two-end : goal.slice_bounds-of_one_or_two-end
-slice_bounds-of_one_or_two-end c = (out c).top-room
+slice_bounds-of_one_or_two-end c = (out (goal.at.slice_bounds-of_one_or_two-end c).After-degree_from-top).top-room
 
 pub slice_bounds-of_one_or_two-end-2 : goal.slice_bounds-of_one_or_two-end-2
-slice_bounds-of_one_or_two-end-2 c = sym (out c.before).part_length
+slice_bounds-of_one_or_two-end-2 c = sym (out (goal.at.slice_bounds-of_one_or_two-end-2 c).After-degree_from-top).part_length
 
 pub of_one_or_two-requires : goal.of_one_or_two-requires
 of_one_or_two-requires c =
-    let q = c.before in ((start q).requires.0.known, (out q).part_of-m (parity q))
+    let q = (goal.at.of_one_or_two-requires c).After-degree_from-top in ((start q).requires.0.known, (out q).part_of-m (parity q))
 
 pub spread_by-requires : goal.spread_by-requires
 spread_by-requires c =
-    let q = c.before.before.before.before in
+    let q = (goal.at.spread_by-requires c).After-degree_from-top in
     ((out q).t_pos, (out q).spaced-length (parity q) _ c.of_one_or_two.ensures)
 
 pub returns : goal.returns
 returns c =
-    let q = c.before.before.before.before.before.before in
+    let q = (goal.at.returns c).After-degree_from-top in
     (out q).spaced (parity q) _ c.of_one_or_two.ensures _
     c.spread_by.ensures

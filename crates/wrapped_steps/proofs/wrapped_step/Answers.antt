@@ -7,7 +7,7 @@ use Rattle.wrapped_steps.proofs.wrapped_step.Goals as goal
 
 pub returns-then-a-d : goal.returns-then-a-d
 returns-then-a-d c =
-    let q = c.args in sym (wrapped_long (sort_means q.sort) q.d q.a-1.now c.if-a-d.true)
+    let q = c.args in sym (wrapped_long (sort_means q.sort) q.d q.a.now c.if-a-d.true)
 
 pub returns-in-Comb : goal.returns-in-Comb
 returns-in-Comb c = rw c.in-Comb.is c.comb.ensures

@@ -21,12 +21,12 @@ stored_at c = c.before.before.before
 
 pub overflow_cast-w : goal.overflow_cast-w
 overflow_cast-w c =
-    let start = from c.before.before in
+    let start = from (goal.at.overflow_cast-w c).After-stored_of-k in
     omega (arith, (width_fits start.args.coeffs.now start.args.w start.requires.1 start.requires.2).high)
 
 pub put_header-requires : goal.put_header-requires
 put_header-requires c =
-    let stored = c.before.before in
+    let stored = (goal.at.put_header-requires c).After-stored_of-k in
     let start = from stored in
     omega (
       arith,
@@ -40,11 +40,11 @@ cut : (c : After-stored_of-k) → length (take c.Stored-of.result (from c).args.
 cut c = length-take-le c.Stored-of.result (from c).args.coeffs.now c.Stored-of.ensures.1
 
 pub slice_bounds-put_body-end : goal.slice_bounds-put_body-end
-slice_bounds-put_body-end c = sym (cut (stored_at c.before.before))
+slice_bounds-put_body-end c = sym (cut (stored_at (goal.at.slice_bounds-put_body-end c).After-put_header))
 
 pub put_body-requires : goal.put_body-requires
 put_body-requires c =
-    let header = c.before.before.before in
+    let header = (goal.at.put_body-requires c).After-put_header in
     let stored = stored_at header in
     let start = from stored in
     let cs = start.args.coeffs.now in
@@ -65,13 +65,13 @@ put_body-requires c =
 
 pub returns : goal.returns
 returns c =
-    let header = c.before.before.before.before.before.before in
+    let header = (goal.at.returns c).After-put_header in
     let stored = stored_at header in
     let start = from stored in
     let a = start.args in
-    record_made a.form a.kind a.n a.w stored.Stored-of.result a.coeffs.now a.bytes-1.now _ _
+    record_made a.form a.kind a.n a.w stored.Stored-of.result a.coeffs.now a.bytes.now _ _
     start.requires.1 stored.Stored-of.ensures.0 start.requires.4
     (header.put_header.ensures
-    ∙ ap (λ (m : ℕ). sets a.bytes-1.now 0 (header_of m a.kind a.w a.n (length a.coeffs.now)))
+    ∙ ap (λ (m : ℕ). sets a.bytes.now 0 (header_of m a.kind a.w a.n (length a.coeffs.now)))
     header.mark_of.ensures)
     c.put_body.ensures

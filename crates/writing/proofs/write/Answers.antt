@@ -27,13 +27,13 @@ unfolding write_tells byte_of
 returns-then-not-good_index c = let told =
     let tested = c in
     told c.refused-then-not-good_index.ensures
-    (index-wrong _ _ _ _ _ (known c.before.before.before)
+    (index-wrong _ _ _ _ _ (known (goal.at.returns-then-not-good_index c).Else-not-known_kind)
     (sym tested.good_index.ensures ∙ tested.if-not-good_index.true)) in record { answer = told.0; leaves = told.1 }
 
 pub write_with-requires : goal.write_with-requires
 write_with-requires c =
     let tested = c in
-    (known c.before.before.before, sym tested.good_index.ensures ∙ tested.if-not-good_index.false)
+    (known (goal.at.write_with-requires c).Else-not-known_kind, sym tested.good_index.ensures ∙ tested.if-not-good_index.false)
 
 pub returns : goal.returns
 returns c = let told = c.write_with.ensures in record { answer = told.0; leaves = told.1 }

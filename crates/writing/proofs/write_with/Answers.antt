@@ -69,12 +69,12 @@ small c =
     few _ _ (omega (arith, c.Stored-of.ensures.1, short over)) (fit over).high
 
 pub overflow_add-degree : goal.overflow_add-degree
-overflow_add-degree c = omega (arith, low c)
+overflow_add-degree c = omega (arith, low (goal.at.overflow_add-degree c).After-degree_of-degree)
 
 pub returns-then-count-degree : goal.returns-then-count-degree
 unfolding write_tells byte_of
 returns-then-count-degree c = let told =
-    let e = c.before.before in
+    let e = (goal.at.returns-then-count-degree c).After-degree_of-degree in
     let start = from e in
     told c.refused.ensures (count-wrong start.args.form _ _ _ _ start.requires.0 start.requires.1
     (λ m. c.if-count-degree.true (m ∙ ap (λ d. d + 1) (sym (degree_is e))))) in record { answer = told.0; leaves = told.1 }
@@ -82,35 +82,35 @@ returns-then-count-degree c = let told =
 pub returns-then-w-eq0 : goal.returns-then-w-eq0
 unfolding write_tells byte_of
 returns-then-w-eq0 c = let told =
-    let looked = c.before.before in
-    let e = c.before.before.before.before in
+    let looked = (goal.at.returns-then-w-eq0 c).After-least_width-w in
+    let e = (goal.at.returns-then-w-eq0 c).Else-count-degree in
     let start = from1 e in
-    told (c.refused-then-w-eq0.ensures ∙ degree-told _ _ _ (degree_is c.before.before.before.before.before))
+    told (c.refused-then-w-eq0.ensures ∙ degree-told _ _ _ (degree_is (goal.at.returns-then-w-eq0 c).After-degree_of-degree))
     (too_low start.args.form _ _ _ _ start.requires.0 start.requires.1 (counted e)
     (width-none _ (sym (made looked) ∙ c.if-w-eq0.true))) in record { answer = told.0; leaves = told.1 }
 
 pub uneven_for-requires : goal.uneven_for-requires
-uneven_for-requires c = ltb-false largest _ (fit c).within
+uneven_for-requires c = ltb-false largest _ (fit (goal.at.uneven_for-requires c).Else-w-eq0).within
 
 pub returns-then-uneven_for : goal.returns-then-uneven_for
 unfolding write_tells byte_of
 returns-then-uneven_for c = let told =
     let looked = c in
-    let over = c.before.before.before in
-    let e = c.before.before.before.before.before.before in
+    let over = (goal.at.returns-then-uneven_for c).Else-w-eq0 in
+    let e = (goal.at.returns-then-uneven_for c).Else-count-degree in
     let start = from1 e in
     told c.refused-then-uneven_for.ensures
     (halves_unlike start.args.form _ _ _ _ start.requires.0 start.requires.1 (counted e) (fit over).within
     (sym looked.uneven_for.ensures ∙ c.if-uneven_for.true)) in record { answer = told.0; leaves = told.1 }
 
 pub stored_of-requires : goal.stored_of-requires
-stored_of-requires c = short (over_of c)
+stored_of-requires c = short (over_of (goal.at.stored_of-requires c).Else-uneven_for)
 
 pub overflow_mul-size : goal.overflow_mul-size
-overflow_mul-size c = omega (arith, small c)
+overflow_mul-size c = omega (arith, small (goal.at.overflow_mul-size c).After-stored_of)
 
 pub overflow_add-size : goal.overflow_add-size
-overflow_add-size c = omega (arith, small c)
+overflow_add-size c = omega (arith, small (goal.at.overflow_add-size c).After-stored_of)
 
 -- the halves match
 even : (c : After-stored_of) → uneven_for (from3 c).args.form (from3 c).args.kind (from3 c).args.n
@@ -120,8 +120,8 @@ even c = sym c.uneven_for.ensures ∙ c.if-uneven_for.false
 pub returns-then-bytes-size : goal.returns-then-bytes-size
 unfolding write_tells byte_of
 returns-then-bytes-size c = let told =
-    let stored = c.before.before in
-    let over = over_of c.before.before.before in
+    let stored = (goal.at.returns-then-bytes-size c).After-stored_of in
+    let over = over_of (goal.at.returns-then-bytes-size c).Else-uneven_for in
     let e = over.before.before.before in
     let start = from1 e in
     told (c.refused-then-bytes-size.ensures ∙ degree-told _ _ _ (degree_is e.before))
@@ -130,8 +130,8 @@ returns-then-bytes-size c = let told =
 
 pub store-requires : goal.store-requires
 store-requires c =
-    let stored = c.before.before in
-    let over = over_of c.before.before.before in (
+    let stored = (goal.at.store-requires c).After-stored_of in
+    let over = over_of (goal.at.store-requires c).Else-uneven_for in (
       omega (arith, kind_small _ (from2 over).requires.0),
       made over.before,
       (fit over).low,
@@ -141,12 +141,12 @@ store-requires c =
 
 pub returns : goal.returns
 returns c = let told =
-    let stored = c.before.before.before.before.before in
-    let over = over_of c.before.before.before.before.before.before in
+    let stored = (goal.at.returns c).After-stored_of in
+    let over = over_of (goal.at.returns c).Else-uneven_for in
     let e = over.before.before.before in
     let start = from1 e in
     let a = start.args in
-    let p = stored-whole a.form a.kind a.n a.coeffs.now a.bytes-1.now start.requires.0 start.requires.1
+    let p = stored-whole a.form a.kind a.n a.coeffs.now a.bytes.now start.requires.0 start.requires.1
     (counted e) (fit over).within (even stored) (omega (arith, whole stored)) in
     told (all_told a.form _ _ _ _ _ (degree_is e.before) (whole stored))
     (p.0, c.store.ensures ∙ p.1) in record { answer = told.0; leaves = told.1 }

@@ -24,7 +24,7 @@ pub step_entry-requires : goal.step_entry-requires
 step_entry-requires c =
     let g = c in
     let p = g.requires in
-    let b = above c.before in
+    let b = above (goal.at.step_entry-requires c).In-loop-x in
     let i = g.loop-x.invariant in (
       omega arith,
       omega (arith, i.2.len),
@@ -38,7 +38,7 @@ loop-x-preserved c =
       omega arith,
       omega (arith, g.loop-x.invariant.1),
       rw c.step_entry.ensures
-          (back_next (above c.before.before.before) p.le_d.0 (omega arith) (omega (arith, g.loop-x.invariant.1))
+          (back_next (above (goal.at.loop-x-preserved c).In-loop-x) p.le_d.0 (omega arith) (omega (arith, g.loop-x.invariant.1))
           p.le_d.3),
     )
 
@@ -50,4 +50,4 @@ returns c =
     let g = c in
     let p = g.args in
     let e : g.loop-x.x ≡ p.from = omega (arith, g.loop-x.invariant.0) in
-    subst (λ x. PutBack p.d x p.to p.a-1.now g.loop-x.a) e g.loop-x.invariant.2
+    subst (λ x. PutBack p.d x p.to p.a.now g.loop-x.a) e g.loop-x.invariant.2

@@ -35,7 +35,7 @@ module _ (c : Then-to-full) where
   begun l = none_back now (entries l) (omega arith)
 
 pub put_back-requires : goal.put_back-requires
-put_back-requires c = let i = c.before in
+put_back-requires c = let i = (goal.at.put_back-requires c).Then-to-full in
     let q = (p i).requires in
     let s = q.5.stopped in record {
       le_d = (q.0, omega arith, q.3, q.4);
@@ -47,7 +47,7 @@ put_back-requires c = let i = c.before in
 
 pub returns-then-to-full : goal.returns-then-to-full
 returns-then-to-full c = λ l s.
-    let i = c.before.before.before in
+    let i = (goal.at.returns-then-to-full c).Then-to-full in
     let q = (p i).requires in
     all_back s
     (range_back s (length (now i)) (begun i l) c.put_back.ensures (omega arith) q.3 q.4

@@ -15,6 +15,9 @@ use Rattle.accumulates.proofs.PutBack.{none_back, taken_back, range_back, all_ba
 use Rattle.accumulates.proofs.back.undo_rows.Goals as goal
 use Rattle.accumulates.proofs.back.undo_rows.Goals.{After-smaller-end, After-taken_in_row, At-loop-k, Start}
 
+pub nonzero_rem-k : goal.nonzero_rem-k
+nonzero_rem-k c = c.requires.0
+
 pub overflow_sub-k : goal.overflow_sub-k
 overflow_sub-k c = mod-le (length c.args.a.now) c.args.d
 
@@ -46,7 +49,7 @@ most c =
     g.loop-k.invariant.1 p.requires.2)
 
 pub overflow_add-k : goal.overflow_add-k
-overflow_add-k c = omega (arith, most c, c.loop-k.invariant.0)
+overflow_add-k c = omega (arith, most (goal.at.overflow_add-k c).After-taken_in_row, c.loop-k.invariant.0)
 
 -- the row from k on, and how much of it was taken
 module _ (c : After-smaller-end) where
@@ -68,7 +71,7 @@ module _ (c : After-smaller-end) where
   end_is : end ≡ min (k + count) (length p.args.a.now)
   end_is =
       c.smaller-end.ensures
-      ∙ ap₂ (λ x y. min (k + x) y) c.taken_in_row.ensures at.loop-k.inv.2
+      ∙ ap₂ (λ x y. min (k + x) y) c.taken_in_row.ensures at.loop-k.invariant.2
 
   in_row : count ≤ p.args.d
   in_row = subst (λ x. x ≤ p.args.d) c.taken_in_row.ensures (most c.before)
@@ -77,7 +80,7 @@ module _ (c : After-smaller-end) where
       → (y < k + count → is_taken p.args.d p.args.full p.args.to p.args.stop y ≡ true)
       × (k + count ≤ y → is_taken p.args.d p.args.full p.args.to p.args.stop y ≡ false)
   here =
-      row-taken p.args.d p.args.full p.args.to p.args.stop k p.requires.0 p.requires.1 at.loop-k.inv.1
+      row-taken p.args.d p.args.full p.args.to p.args.stop k p.requires.0 p.requires.1 at.loop-k.invariant.1
 
   taken : (y : ℕ) → k ≤ y → y < end
       → is_taken p.args.d p.args.full p.args.to p.args.stop y ≡ true
@@ -88,13 +91,13 @@ module _ (c : After-smaller-end) where
   kept y low high top b = (here y low top).1 (omega (arith, end_is))
 
 pub put_back-requires : goal.put_back-requires
-put_back-requires c = let m = c.before in
+put_back-requires c = let m = (goal.at.put_back-requires c).After-smaller-end in
     let g = at m in
     let q = (p m).requires in
     let s = q.3.stopped in record {
-      le_d = (q.0, omega arith, omega (arith, end_is m, g.loop-k.inv.0), omega (arith, end_is m, g.loop-k.inv.2));
+      le_d = (q.0, omega arith, omega (arith, end_is m, g.loop-k.invariant.0), omega (arith, end_is m, g.loop-k.invariant.2));
       by_index = λ y low high.
-          rw (taken_back s (k m + (p m).args.d) y (g.loop-k.inv.3 q.3.before s) (omega (arith, end_is m, in_row m))
+          rw (taken_back s (k m + (p m).args.d) y (g.loop-k.invariant.3 q.3.before s) (omega (arith, end_is m, in_row m))
           (omega arith) (omega (arith, end_is m)) (taken m y low high))
           (s.fit y (omega arith) (omega (arith, end_is m, s.len)) (taken m y low high));
     }
@@ -104,20 +107,20 @@ loop-k-smaller c = let g = c in omega (arith, g.requires.0)
 
 pub loop-k-preserved : goal.loop-k-preserved
 loop-k-preserved c =
-    let m = c.before.before.before in
+    let m = (goal.at.loop-k-preserved c).After-smaller-end in
     let g = at m in
     let q = p m in
     let e : k m ≡ k m - q.args.d + q.args.d = omega arith in (
-      omega (arith, g.loop-k.inv.0),
-      sym (mod-eq-sub-mod (omega arith)) ∙ g.loop-k.inv.1,
-      omega (arith, g.loop-k.inv.2),
+      omega (arith, g.loop-k.invariant.0),
+      sym (mod-eq-sub-mod (omega arith)) ∙ g.loop-k.invariant.1,
+      omega (arith, g.loop-k.invariant.2),
       λ l s.
           subst
           (λ x. Split c.put_back.new.a (length q.args.a.now) x (entries q.args.a.now)
           (entries l))
           e
-          (range_back s (k m + q.args.d) (g.loop-k.inv.3 l s) c.put_back.ensures (omega arith)
-          (omega (arith, end_is m, g.loop-k.inv.0)) (omega (arith, end_is m, in_row m))
+          (range_back s (k m + q.args.d) (g.loop-k.invariant.3 l s) c.put_back.ensures (omega arith)
+          (omega (arith, end_is m, g.loop-k.invariant.0)) (omega (arith, end_is m, in_row m))
           (λ y low high _. taken m y low high) (kept m)),
     )
 

@@ -15,11 +15,11 @@ use Rattle.accumulates.proofs.PutBack.{none_back, taken_back, range_back, all_ba
 use Rattle.accumulates.proofs.back.undo_rows.Given as goal
 
 abbrev pub invariant-loop-k : goal.invariant-loop-k
-invariant-loop-k l =
-    (l.k ≤ length l.initial.a)
-    × (l.k % l.d ≡ 0)
-    × (length l.a ≡ length l.initial.a)
-    × ((l : List ℤ) → Stopped l.d l.full l.to l.stop l l.initial.a → Split l.a (length l.initial.a) (l.k + l.d) (entries l.initial.a) (entries l))
+invariant-loop-k v =
+    (v.k ≤ length v.initial.a)
+    × (v.k % v.d ≡ 0)
+    × (length v.a ≡ length v.initial.a)
+    × ((l : List ℤ) → Stopped v.d v.full v.to v.stop l v.initial.a → Split v.a (length v.initial.a) (v.k + v.d) (entries v.initial.a) (entries l))
 
 abbrev pub decreases-loop-k : goal.decreases-loop-k
 decreases-loop-k l = l.k

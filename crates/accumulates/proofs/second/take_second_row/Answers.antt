@@ -51,16 +51,16 @@ refused c =
     let s = c.step_entry_within in rw (c.if-not-step_entry_within.true) at s.ensures.1
 
 pub shape_of-a-then-not-step_entry_within : goal.shape_of-a-then-not-step_entry_within
-shape_of-a-then-not-step_entry_within c = ap length (refused c) ∙ c.loop-x.invariant.2.len
+shape_of-a-then-not-step_entry_within c = ap length (refused (goal.at.shape_of-a-then-not-step_entry_within c).Then-not-step_entry_within) ∙ c.loop-x.invariant.2.len
 
 pub returns-then-not-step_entry_within : goal.returns-then-not-step_entry_within
 returns-then-not-step_entry_within c =
-    let g = c.before.before.before.before.before in
+    let g = (goal.at.returns-then-not-step_entry_within c).At-loop-x in
     let p = c in
     let i = g.loop-x.invariant in
     let s = c.step_entry_within in
     record {
-      tested = rw (refused c) (sofar g);
+      tested = rw (refused (goal.at.returns-then-not-step_entry_within c).Then-not-step_entry_within) (sofar g);
       first = i.0;
       most = i.1;
       over = λ short. (
@@ -106,6 +106,6 @@ none c short = omega (arith, c.loop-x.invariant.2.len)
 
 pub returns : goal.returns
 returns c =
-    let g = c.before in
+    let g = (goal.at.returns c).At-loop-x in
     let i = g.loop-x.invariant in
-    record { tested = sofar g; first = i.0; most = i.1; over = λ short. absurd (none c short) }
+    record { tested = sofar g; first = i.0; most = i.1; over = λ short. absurd (none (goal.at.returns c).After-loop-x short) }

@@ -21,13 +21,13 @@ module _ (p : Start) where
 
 pub returns-then-buf-total : goal.returns-then-buf-total
 returns-then-buf-total c = let told =
-    let p = c.before.before.before in
+    let p = (goal.at.returns-then-buf-total c).Start in
     at_short _ _ p.args.buf.now p.args.scratch.now (c.refused.ensures ∙ ap (told-only SHORT) (total_is p))
     (ask_short p.requires.1 _ _ (omega (arith, total_is p, c.if-buf-total.true))) in record { value = told.0; buf_after = told.1; scratch_after = told.2 }
 
 pub returns-then-scratch-sizes : goal.returns-then-scratch-sizes
 returns-then-scratch-sizes c = let told =
-    let p = c.before.before.before.before.before in
+    let p = (goal.at.returns-then-scratch-sizes c).Start in
     at_short _ _ p.args.buf.now p.args.scratch.now (c.refused-then-scratch-sizes.ensures ∙ ap (told-only SHORT) (total_is p))
     (ask_scratch p.requires.1 _ _ (omega (arith, longest_is p, c.if-scratch-sizes.true))) in record { value = told.0; buf_after = told.1; scratch_after = told.2 }
 
@@ -36,7 +36,7 @@ slice_bounds-answer_of-end-2 c = sym (length-take-le _ _ (omega arith))
 
 pub answer_of-requires : goal.answer_of-requires
 answer_of-requires c =
-    let p = c.before.before.before.before.before.before in (
+    let p = (goal.at.answer_of-requires c).Start in (
       total_is p,
       some_index p.requires.1,
       record {
@@ -48,7 +48,7 @@ answer_of-requires c =
 
 pub returns : goal.returns
 returns c = let told =
-    let p = c.before.before.before.before.before.before.before.before.before in
+    let p = (goal.at.returns c).Start in
     at_last p.requires.1 p.args.buf.now p.args.scratch.now (total_is p) (omega (arith, total_is p))
     (omega (arith, longest_is p))
     c.answer_of.ensures in record { value = told.0; buf_after = told.1; scratch_after = told.2 }

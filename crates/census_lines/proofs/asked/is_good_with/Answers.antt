@@ -33,12 +33,12 @@ module _ (c : Else-byte_at-ne32) where
   second = sym c.between-2.ensures ∙ c.if-not-between-2.false
 
 pub overflow_add-result : goal.overflow_add-result
-overflow_add-result c = omega (arith, nine_range _ (first c))
+overflow_add-result c = omega (arith, nine_range _ (first (goal.at.overflow_add-result c).Else-byte_at-ne32))
 
 pub overflow_add-result-2 : goal.overflow_add-result-2
-overflow_add-result-2 c = omega (arith, nine_range _ (first c), nine_range _ (second c))
+overflow_add-result-2 c = omega (arith, nine_range _ (first (goal.at.overflow_add-result-2 c).Else-byte_at-ne32), nine_range _ (second (goal.at.overflow_add-result-2 c).Else-byte_at-ne32))
 
 pub returns : goal.returns
 unfolding is_good_with
 returns c =
-    simp (first c, second c, ap (λ x. eqb x 32) (sym c.byte_at.ensures) ∙ eq-eqb _ _ c.if-byte_at-ne32.false)
+    simp (first (goal.at.returns c).Else-byte_at-ne32, second (goal.at.returns c).Else-byte_at-ne32, ap (λ x. eqb x 32) (sym c.byte_at.ensures) ∙ eq-eqb _ _ c.if-byte_at-ne32.false)

@@ -23,14 +23,14 @@ as_good c = c.is_good_with.ensures
 
 pub returns-then-is_good_with : goal.returns-then-is_good_with
 returns-then-is_good_with c =
-    let tested = c.before.before.before in
+    let tested = (goal.at.returns-then-is_good_with c).After-is_good_with in
     let first = tested.digits_at-p in
     reads_good _ _ _ (sym (as_good tested) ∙ c.if-is_good_with.true) c.number_at.ensures.0
     (c.number_at-then-is_good_with.ensures.0 ∙ second _ first.result first.ensures)
 
 pub returns-else-is_good_with : goal.returns-else-is_good_with
 unfolding no_bounds
-returns-else-is_good_with c = sym (reads_wrong _ (sym (as_good c.before) ∙ c.if-is_good_with.false))
+returns-else-is_good_with c = sym (reads_wrong _ (sym (as_good (goal.at.returns-else-is_good_with c).After-is_good_with) ∙ c.if-is_good_with.false))
 
 pub returns-else-p-lt10 : goal.returns-else-p-lt10
 unfolding no_bounds

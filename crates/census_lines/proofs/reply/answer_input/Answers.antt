@@ -13,7 +13,10 @@ use Rattle.census_lines.proofs.reply.answer_input.Goals as goal
 use Rattle.census_lines.proofs.reply.answer_input.Goals.{After-read_bounds-asked}
 
 pub returns-then-out-lt-MOST : goal.returns-then-out-lt-MOST
-returns-then-out-lt-MOST c = let told = rw (lt-ltb _ _ c.if-out-lt-MOST.true) (nothing_put 0 c.args.out.now, omega arith) in record { puts = told.0; upper_bound = told.1 }
+returns-then-out-lt-MOST c = record {
+  puts = rw (lt-ltb _ _ c.if-out-lt-MOST.true) (nothing_put 0 c.args.out.now);
+  upper_bound = rw (lt-ltb _ _ c.if-out-lt-MOST.true) (omega arith);
+}
 
 pub slice_bounds-read_bounds-end : goal.slice_bounds-read_bounds-end
 slice_bounds-read_bounds-end c = sym (length-take-le _ _ c.first_line_end-end.ensures.upper_bound)
@@ -25,21 +28,35 @@ asked_is c = c.read_bounds-asked.ensures ∙ ap bounds_in c.first_line_end-end.e
 
 pub returns-then-not-asked : goal.returns-then-not-asked
 unfolding wrong
-returns-then-not-asked c = let told =
+returns-then-not-asked c =
     let put = c.put_text.ensures in
-    let asked = c.before.before.before.before.before.before.before.before in
-    rw (
-      le-ltb _ _ asked.if-out-lt-MOST.false,
-      ← replied_wrong _ asked.read_bounds-asked.result (asked_is asked)
-          (c.if-not-asked.true),
-    ) (put, omega (arith, put.place)) in record { puts = told.0; upper_bound = told.1 }
+    let asked = (goal.at.returns-then-not-asked c).After-read_bounds-asked in
+    record {
+      puts = rw (
+        le-ltb _ _ asked.if-out-lt-MOST.false,
+        ← replied_wrong _ asked.read_bounds-asked.result (asked_is asked)
+            (c.if-not-asked.true),
+      ) (put);
+      upper_bound = rw (
+        le-ltb _ _ asked.if-out-lt-MOST.false,
+        ← replied_wrong _ asked.read_bounds-asked.result (asked_is asked)
+            (c.if-not-asked.true),
+      ) (omega (arith, put.place));
+    }
 
 pub returns : goal.returns
-returns c = let told =
+returns c =
     let put = c.put_reply.ensures in
-    let asked = c.before.before.before.before.before.before.before.before.before.before in
-    rw (
-      le-ltb _ _ asked.if-out-lt-MOST.false,
-      ← replied _ asked.read_bounds-asked.result (asked_is asked)
-          (c.if-not-asked.false),
-    ) (put.puts, omega (arith, put.upper_bound)) in record { puts = told.0; upper_bound = told.1 }
+    let asked = (goal.at.returns c).After-read_bounds-asked in
+    record {
+      puts = rw (
+        le-ltb _ _ asked.if-out-lt-MOST.false,
+        ← replied _ asked.read_bounds-asked.result (asked_is asked)
+            (c.if-not-asked.false),
+      ) (put.puts);
+      upper_bound = rw (
+        le-ltb _ _ asked.if-out-lt-MOST.false,
+        ← replied _ asked.read_bounds-asked.result (asked_is asked)
+            (c.if-not-asked.false),
+      ) (omega (arith, put.upper_bound));
+    }

@@ -15,13 +15,13 @@ short c =
 
 pub put-requires : goal.put-requires
 put-requires c =
-    let first = c.before.before.before in
+    let first = (goal.at.put-requires c).After-put_number-p in
     omega (arith, short first, first.put_number-p.auto.out)
 
 pub returns : goal.returns
 unfolding refusal
 returns c = let last = c in
-    let first = c.before.before.before.before.before.before in record {
+    let first = (goal.at.returns c).After-put_number-p in record {
       puts = then first.put_number-p.ensures last.put.ensures;
       upper_bound = omega (arith, short first, last.put.ensures.place);
     }

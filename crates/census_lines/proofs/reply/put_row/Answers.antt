@@ -16,13 +16,13 @@ short c =
 
 pub put_two_more-requires : goal.put_two_more-requires
 put_two_more-requires c =
-    let first = c.before.before.before in
+    let first = (goal.at.put_two_more-requires c).After-put_number-p in
     omega (arith, short first, first.put_number-p.auto.out)
 
 pub returns : goal.returns
 unfolding row_line
 returns c = let last = c in
-    let first = c.before.before.before.before.before.before in record {
+    let first = (goal.at.returns c).After-put_number-p in record {
       puts = then first.put_number-p.ensures last.put_two_more.ensures.puts;
       upper_bound = omega (arith, short first, last.put_two_more.ensures.upper_bound);
     }

@@ -35,7 +35,10 @@ pub shape_of-out : goal.shape_of-out
 shape_of-out c = c.loop-i.invariant.3
 
 pub returns : goal.returns
-returns c = let told =
+returns c =
     let t = c.loop-i in
     let e : t.i ≡ c.args.count = omega arith in
-    rw (← e) (t.invariant.1, t.invariant.2) in record { puts = told.0; upper_bound = told.1 }
+    record {
+      puts = rw (← e) (t.invariant.1);
+      upper_bound = rw (← e) (t.invariant.2);
+    }

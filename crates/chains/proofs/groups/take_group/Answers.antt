@@ -37,13 +37,13 @@ module _ (c : After-s-1) where
 
 pub loop-k-init : goal.loop-k-init
 loop-k-init c =
-    let p = (start c).args in
-    group_start p.d p.c (many c) (some c) (room c) p.w p.a-1.now c.first_row.new.s
-    (omega (arith, same c)) (omega (arith, same c)) refl
-    (λ j h. c.first_row.ensures j (omega (arith, same c)))
+    let p = (start (goal.at.loop-k-init c).After-s-1).args in
+    group_start p.d p.c (many (goal.at.loop-k-init c).After-s-1) (some (goal.at.loop-k-init c).After-s-1) (room (goal.at.loop-k-init c).After-s-1) p.w p.a-1.now c.first_row.new.s
+    (omega (arith, same (goal.at.loop-k-init c).After-s-1)) (omega (arith, same (goal.at.loop-k-init c).After-s-1)) refl
+    (λ j h. c.first_row.ensures j (omega (arith, same (goal.at.loop-k-init c).After-s-1)))
 
 pub overflow_add-k-in-loop-k : goal.overflow_add-k-in-loop-k
-overflow_add-k-in-loop-k c = omega (arith, c.loop-k.invariant.most, c.loop-k.invariant.many, same c.before)
+overflow_add-k-in-loop-k c = omega (arith, c.loop-k.invariant.most, c.loop-k.invariant.many, same (goal.at.overflow_add-k-in-loop-k c).After-s-1)
 
 -- what is asked of a row
 asked : (c : At-loop-k) (j : ℕ) → j < length c.loop-k.s
@@ -57,8 +57,8 @@ asked c j h b =
     (sym (same e)) p.requires.asked) j (omega (arith, c.loop-k.invariant.many)) b
 
 pub take_row-q-requires : goal.take_row-q-requires
-take_row-q-requires c = let g = c.before.before.before in record {
-  m_in_bounds = (omega arith, omega arith, (start c.before.before.before.before).requires.limit);
+take_row-q-requires c = let g = (goal.at.take_row-q-requires c).At-loop-k in record {
+  m_in_bounds = (omega arith, omega arith, (start (goal.at.take_row-q-requires c).After-s-1).requires.limit);
   by_index = λ j h. asked g j h (omega (arith, g.loop-k.invariant.tested.taken.len));
 }
 
@@ -78,12 +78,12 @@ module _ (g : At-loop-k) where
       let e = g.before in
       let q = p.args in
       settled (ap (λ x. q.c + x) (same e)) refl
-      (row_stopped q.d q.c (many e) (some e) (room e) g.loop-k.k g.loop-k.inv r most in' found out)
+      (row_stopped q.d q.c (many e) (some e) (room e) g.loop-k.k g.loop-k.invariant r most in' found out)
 
 pub returns-then-q-s : goal.returns-then-q-s
 returns-then-q-s c =
     let t = c.take_row-q in
-    let g = c.before.before.before.before.before.before.before in
+    let g = (goal.at.returns-then-q-s c).At-loop-k in
     let i = g.loop-k.invariant in
     stopped g t.ensures.0.1 (omega (arith, i.many)) (omega (arith, i.tested.taken.len)) t.ensures.1.0
     (λ _. (omega (arith, i.many), t.ensures.1.1 (omega arith)))
@@ -95,7 +95,7 @@ pub loop-k-preserved : goal.loop-k-preserved
 loop-k-preserved c =
     let t = c.take_row-q in
     let g = c in
-    let e = c.before.before.before.before.before.before.before.before in
+    let e = (goal.at.loop-k-preserved c).After-s-1 in
     let p = (start e).args in
     let i = g.loop-k.invariant in
     let whole : t.result ≡ many e = omega (arith, i.many, t.ensures.0.0) in
@@ -113,7 +113,7 @@ shape_of-a-then-a-k c = c.loop-k.invariant.tested.taken.len
 pub returns-then-a-k : goal.returns-then-a-k
 returns-then-a-k c =
     let g = c in
-    let e = c.before.before.before in
+    let e = (goal.at.returns-then-a-k c).After-s-1 in
     let p = (start e).args in
     let i = g.loop-k.invariant in
     settled (ap (λ x. p.c + x) (same e)) (sym i.tested.taken.len)
@@ -121,8 +121,8 @@ returns-then-a-k c =
     (omega (arith, i.tested.taken.len)))
 
 pub take_row-requires : goal.take_row-requires
-take_row-requires c = let g = c.before.before.before.before in record {
-  m_in_bounds = (omega arith, omega arith, (start c.before.before.before.before.before).requires.limit);
+take_row-requires c = let g = (goal.at.take_row-requires c).At-loop-k in record {
+  m_in_bounds = (omega arith, omega arith, (start (goal.at.take_row-requires c).After-s-1).requires.limit);
   by_index = λ j h. asked g j (omega arith) (omega (arith, g.loop-k.invariant.tested.taken.len));
 }
 
@@ -132,7 +132,7 @@ overflow_add-result-2 c = omega (arith, c.take_row.ensures.upper_bound.0)
 pub returns : goal.returns
 returns c =
     let t = c.take_row in
-    let g = c.before.before.before.before.before.before.before in
+    let g = (goal.at.returns c).At-loop-k in
     let i = g.loop-k.invariant in
     stopped g t.ensures.0.1 (omega (arith, i.many, t.ensures.0.0))
     (omega (arith, i.tested.taken.len, t.ensures.0.0)) t.ensures.1.0

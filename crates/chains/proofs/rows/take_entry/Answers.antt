@@ -41,15 +41,15 @@ module _ (c : After-read_entry-y) where
   sum = ap₂ ◌⊕◌ x_is y_is
 
 pub passes_test-requires : goal.passes_test-requires
-passes_test-requires c = ((p c).requires.2, rw (x_is c, y_is c) (p c).requires.3)
+passes_test-requires c = ((p (goal.at.passes_test-requires c).After-read_entry-y).requires.2, rw (x_is (goal.at.passes_test-requires c).After-read_entry-y, y_is (goal.at.passes_test-requires c).After-read_entry-y) (p (goal.at.passes_test-requires c).After-read_entry-y).requires.3)
 
 -- what was answered is whether the sum is within w
 within : (c : After-passes_test) → c.passes_test.result ≡ in_range (p c.before).args.w (value c.before)
 within c = c.passes_test.ensures ∙ ap (in_range (p c.before).args.w) (sum c.before)
 
 pub returns-then-not-passes_test : goal.returns-then-not-passes_test
-returns-then-not-passes_test c = let e = c.before in record {
-  value = (sym (c.if-not-passes_test.true) ∙ within e, x_fits c.before.before);
+returns-then-not-passes_test c = let e = (goal.at.returns-then-not-passes_test c).After-passes_test in record {
+  value = (sym (c.if-not-passes_test.true) ∙ within e, x_fits (goal.at.returns-then-not-passes_test c).After-read_entry-y);
   s_after = (refl, refl);
 }
 
@@ -61,14 +61,14 @@ value_fits : (c : Else-not-passes_test) → SFits w64 (value c.before.before)
 value_fits c = range_fits _ (range_more (p c.before.before).requires.2.1 _ (inside c))
 
 pub new_value-v-requires : goal.new_value-v-requires
-new_value-v-requires c = rw (sum c.before.before) (value_fits c)
+new_value-v-requires c = rw (sum (goal.at.new_value-v-requires c).After-read_entry-y) (value_fits (goal.at.new_value-v-requires c).Else-not-passes_test)
 
 pub returns : goal.returns
 returns c = let n = c in
-    let e = c.before.before.before.before.before.before.before in
-    let q = (p c.before.before.before.before.before.before.before.before.before).args in
-    let is = handed (value_fits e) (n.new_value-v.ensures ∙ sum c.before.before.before.before.before.before.before.before.before) in record {
-      value = (sym (inside e), x_fits c.before.before.before.before.before.before.before.before.before);
+    let e = (goal.at.returns c).Else-not-passes_test in
+    let q = (p (goal.at.returns c).After-read_entry-y).args in
+    let is = handed (value_fits e) (n.new_value-v.ensures ∙ sum (goal.at.returns c).After-read_entry-y) in record {
+      value = (sym (inside e), x_fits (goal.at.returns c).After-read_entry-y);
       s_after = (
         c.put.ensures ∙ ap (set q.s-1.now q.q) is,
         c.put-2.ensures ∙ ap (set q.a-1.now (q.k + q.q)) is,

@@ -30,7 +30,7 @@ none c short = omega arith
 
 pub returns-then-m-q : goal.returns-then-m-q
 returns-then-m-q c = let told =
-    let i = c.loop-q.invariant in ((i.0, i.1), (i.2, λ short. absurd (none c short))) in record { upper_bound = told.0; by_index_2 = told.1; result_value = told.2 }
+    let i = c.loop-q.invariant in ((i.0, i.1), (i.2, λ short. absurd (none (goal.at.returns-then-m-q c).Then-m-q short))) in record { upper_bound = told.0; by_index_2 = told.1; result_value = told.2 }
 
 pub take_entry-requires : goal.take_entry-requires
 take_entry-requires c =
@@ -77,7 +77,7 @@ loop-q-preserved c =
           by_order j g.loop-q.q (g.loop-q.invariant.2 j)
           (λ high.
           let same : g.loop-q.q ≡ j = omega arith in
-          subst (FoundInRow p.w p.s-1.now p.a-1.now p.k) same (
+          subst (FoundInRow p.w p.s.now p.a.now p.k) same (
             next-told r p.w t.ensures.0.0 yes,
             rw (next-old r) at t.ensures.0.1,
           )),
@@ -94,4 +94,4 @@ ended c short = omega (arith, c.loop-q.invariant.1.sums)
 
 pub returns : goal.returns
 returns c = let told =
-    let i = c.loop-q.invariant in ((i.0, i.1), (i.2, λ short. absurd (ended c short))) in record { upper_bound = told.0; by_index_2 = told.1; result_value = told.2 }
+    let i = c.loop-q.invariant in ((i.0, i.1), (i.2, λ short. absurd (ended (goal.at.returns c).After-loop-q short))) in record { upper_bound = told.0; by_index_2 = told.1; result_value = told.2 }

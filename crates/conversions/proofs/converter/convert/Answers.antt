@@ -68,28 +68,28 @@ degree_is c = omega (arith, c.count_in-degree.ensures, (header (tested c.before)
 pub returns-then-code-ne-DONE : goal.returns-then-code-ne-DONE
 returns-then-code-ne-DONE c = let told =
     let then = c in
-    let l = c.before.before.before in
+    let l = (goal.at.returns-then-code-ne-DONE c).After-look-code in
     told c.refused.ensures
     (refused_look (form l) (bytes l) (start l).args.out.now _ _ l.look-code.ensures then.if-code-ne-DONE.true
     c.byte_of.ensures) in record { answer = told.0; leaves = told.1 }
 
 pub uneven_from-uneven-requires : goal.uneven_from-uneven-requires
-uneven_from-uneven-requires c = passed c
+uneven_from-uneven-requires c = passed (goal.at.uneven_from-uneven-requires c).Else-code-ne-DONE
 
 pub size_in-written-requires : goal.size_in-written-requires
-size_in-written-requires c = (_, (looked _ _ (passed c.before.before)).header)
+size_in-written-requires c = (_, (looked _ _ (passed (goal.at.size_in-written-requires c).Else-code-ne-DONE)).header)
 
 pub count_in-degree-requires : goal.count_in-degree-requires
-count_in-degree-requires c = (header (tested c)).long
+count_in-degree-requires c = (header (tested (goal.at.count_in-degree-requires c).After-size_in-written)).long
 
 pub overflow_sub-degree : goal.overflow_sub-degree
-overflow_sub-degree c = omega (arith, c.count_in-degree.ensures, (header (tested c.before)).count)
+overflow_sub-degree c = omega (arith, c.count_in-degree.ensures, (header (tested (goal.at.overflow_sub-degree c).After-size_in-written)).count)
 
 pub returns-then-uneven : goal.returns-then-uneven
 unfolding convert_tells byte_of
 returns-then-uneven c = let told =
     let then = c in
-    let sized = c.before.before.before in
+    let sized = (goal.at.returns-then-uneven c).After-size_in-written in
     let l = look_of sized in
     told c.refused-then-uneven.ensures
     (by_code (form l) (bytes l) (start l).args.out.now UNEVEN
@@ -99,28 +99,28 @@ returns-then-uneven c = let told =
 pub returns-then-out-written : goal.returns-then-out-written
 unfolding convert_tells byte_of
 returns-then-out-written c = let told =
-    let e = c.before.before in
-    let sized = c.before.before.before.before in
+    let e = (goal.at.returns-then-out-written c).Else-uneven in
+    let sized = (goal.at.returns-then-out-written c).After-size_in-written in
     let l = look_of sized in
-    told (c.refused-then-out-written.ensures ∙ degree-told _ _ (degree_is c.before.before.before))
+    told (c.refused-then-out-written.ensures ∙ degree-told _ _ (degree_is (goal.at.returns-then-out-written c).After-count_in-degree))
     (by_code (form l) (bytes l) (start l).args.out.now SHORT
     (code-short _ _ _ (passed (tested sized)) (even e) (omega (arith, written_is sized)))) in record { answer = told.0; leaves = told.1 }
 
 pub store-requires : goal.store-requires
 store-requires c =
-    let sized = c.before.before.before.before in
+    let sized = (goal.at.store-requires c).After-size_in-written in
     (passed (tested sized), omega (arith, size_is sized))
 
 pub size_in-requires : goal.size_in-requires
 size_in-requires c =
-    let sized = c.before.before.before.before.before.before.before in
+    let sized = (goal.at.size_in-requires c).After-size_in-written in
     (_, (looked _ _ (passed (tested sized))).header)
 
 pub returns : goal.returns
 returns c = let roomy = c in
-    let e = c.before.before.before.before.before.before in
-    let counted = c.before.before.before.before.before.before.before in
-    let sized = c.before.before.before.before.before.before.before.before in
+    let e = (goal.at.returns c).Else-uneven in
+    let counted = (goal.at.returns c).After-count_in-degree in
+    let sized = (goal.at.returns c).After-size_in-written in
     let l = look_of sized in
     let cs = coefficients_in (form l) (bytes l) in
     let record_of_lem = record_of (other (form l)) (kind_in (bytes l)) (index_in (bytes l)) cs in

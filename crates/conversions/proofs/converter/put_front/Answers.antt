@@ -17,12 +17,12 @@ good : (s : Start) → Read_right s.args.from s.args.bytes.now (count_in s.args.
 good s = looked _ _ s.requires.0
 
 pub size_in-requires : goal.size_in-requires
-size_in-requires c = (_, (good c.before.before).header)
+size_in-requires c = (_, (good (goal.at.size_in-requires c).Start).header)
 
 pub copy-requires : goal.copy-requires
 copy-requires c =
     let sized = c in
-    let start = c.before.before.before.before in (
+    let start = (goal.at.copy-requires c).Start in (
       omega (
         arith,
         sized.size_in.ensures,

@@ -27,19 +27,19 @@ put_front-requires c =
     (start.requires.0, omega (arith, start.requires.1, half_least Whole start.args.bytes.now))
 
 pub width_in-w-requires : goal.width_in-w-requires
-width_in-w-requires c = (right _ _ (good (from c)).header).long
+width_in-w-requires c = (right _ _ (good (from (goal.at.width_in-w-requires c).After-slice_known-2-1)).header).long
 
 pub count_in-count-requires : goal.count_in-count-requires
-count_in-count-requires c = (right _ _ (good (from c.before)).header).long
+count_in-count-requires c = (right _ _ (good (from (goal.at.count_in-count-requires c).After-slice_known-2-1)).header).long
 
 pub negates_in-requires : goal.negates_in-requires
-negates_in-requires c = (right _ _ (good (from c.before.before)).header).long
+negates_in-requires c = (right _ _ (good (from (goal.at.negates_in-requires c).After-slice_known-2-1)).header).long
 
 pub put_other-requires : goal.put_other-requires
 put_other-requires c =
     let counted = c in
     let wide = c in
-    let start = from c.before.before.before.before in
+    let start = from (goal.at.put_other-requires c).After-slice_known-2-1 in
     let bs = start.args.bytes.now in
     let g = good start in
     let ew = wide.width_in-w.ensures in
@@ -59,7 +59,7 @@ returns c =
     let negates = c in
     let counted = c in
     let wide = c in
-    let front = c.before.before.before.before.before.before.before in
+    let front = (goal.at.returns c).After-slice_known-2-1 in
     let start = from front in
     let known = c in
     let bs = start.args.bytes.now in

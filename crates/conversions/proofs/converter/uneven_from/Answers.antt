@@ -18,19 +18,19 @@ good : (c : In-Whole) → let start = c in
 good c = looked Whole _ (rw c.in-Whole.is at c.requires)
 
 pub width_in-requires : goal.width_in-requires
-width_in-requires c = (right _ _ (good c).header).long
+width_in-requires c = (right _ _ (good (goal.at.width_in-requires c).In-Whole).header).long
 
 pub count_in-requires : goal.count_in-requires
-count_in-requires c = (right _ _ (good c.before).header).long
+count_in-requires c = (right _ _ (good (goal.at.count_in-requires c).In-Whole).header).long
 
 pub negates_in-requires : goal.negates_in-requires
-negates_in-requires c = (right _ _ (good c.before.before).header).long
+negates_in-requires c = (right _ _ (good (goal.at.negates_in-requires c).In-Whole).header).long
 
 pub uneven_in-requires : goal.uneven_in-requires
 uneven_in-requires c =
     let counted = c in
     let wide = c in
-    let told = c.before.before.before in
+    let told = (goal.at.uneven_in-requires c).In-Whole in
     let bs = told.args.bytes.now in
     let g = good told in
     let ew = wide.width_in.ensures in

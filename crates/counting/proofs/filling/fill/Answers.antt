@@ -55,7 +55,7 @@ module _ (m : After-measure-measured) where
   low = omega (arith, start.requires.0)
 
   small : height 1 n ≤ largest
-  small = height_fits n low (omega (arith, turn.loop-n.inv.1, start.requires.2)) 1
+  small = height_fits n low (omega (arith, turn.loop-n.invariant.1, start.requires.2)) 1
 
   told : m.measure-measured.result.height ≡ height 1 n
   told = ap (λ r. r.height) m.measure-measured.ensures.value
@@ -70,7 +70,7 @@ module _ (m : After-measure-measured) where
   added = ap (λ r. r.additions) m.measure-measured.ensures.value
 
   high : n ≤ 65535
-  high = omega (arith, turn.loop-n.inv.1, start.requires.2)
+  high = omega (arith, turn.loop-n.invariant.1, start.requires.2)
 
   -- the additions so far
   all-few : all_additions (from_to turn.loop-n.n start.args.b) ≤ 4096 * 2097152
@@ -79,12 +79,12 @@ module _ (m : After-measure-measured) where
       let most : suc start.args.b - turn.loop-n.n ≤ 4096 = omega (arith, start.requires.2) in
       NatL.le_trans
       (additions_small turn.loop-n.n (suc start.args.b - turn.loop-n.n) (omega arith)
-      (omega (arith, turn.loop-n.inv.1, start.requires.2)))
+      (omega (arith, turn.loop-n.invariant.1, start.requires.2)))
       (NatL.mul-le-mul_right 2097152 most)
 
 pub overflow_cast-work : goal.overflow_cast-work
 overflow_cast-work c =
-    let m = c.before.before in
+    let m = (goal.at.overflow_cast-work c).After-measure-measured in
     record { sfits = omega (arith, told m, small m) }
 
 pub offset_bounds-work-n : goal.offset_bounds-work-n
@@ -94,12 +94,12 @@ offset_bounds-work-n c =
 
 pub bounds-work-n : goal.bounds-work-n
 bounds-work-n c =
-    let m = c.before.before in
+    let m = (goal.at.bounds-work-n c).After-measure-measured in
     omega (arith, m.measure-measured.ensures.work_len_unchanged.0, (turn m).loop-n.invariant.2, (turn m).loop-n.invariant.1, (start m).requires.3)
 
 pub overflow_add-additions : goal.overflow_add-additions
 overflow_add-additions c =
-    let m = c.before.before.before in
+    let m = (goal.at.overflow_add-additions c).After-measure-measured in
     record {
       fits = omega (
         arith,
@@ -112,7 +112,7 @@ overflow_add-additions c =
 
 pub loop-n-preserved : goal.loop-n-preserved
 loop-n-preserved c =
-    let m = c.before.before.before in
+    let m = (goal.at.loop-n-preserved c).After-measure-measured in
     let l = (turn m).loop-n in
     let s = start m in
     let inside : n m < length m.measure-measured.new.work =

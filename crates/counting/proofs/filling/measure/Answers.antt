@@ -27,7 +27,7 @@ parts p = p.take_apart-parts.ensures ∙ taken_good p.args.n (good p.before)
 
 pub returns-then-parts-eq1 : goal.returns-then-parts-eq1
 returns-then-parts-eq1 c = let told =
-    let p = c.before.before in
+    let p = (goal.at.returns-then-parts-eq1 c).After-take_apart-parts in
     let s = c in
     let one : r_of s.args.n ≡ 1 = sym (parts_r s.args.n _ (parts p)) ∙ c.if-parts-eq1.true in
     let is = one_is s.args.n s.requires.0 one in
@@ -54,20 +54,20 @@ module _ (q : After-half_degree-half) where
   room = omega (arith, before-n, start.requires.2)
 
 pub slice_bounds-lower_half-end : goal.slice_bounds-lower_half-end
-slice_bounds-lower_half-end c = room c
+slice_bounds-lower_half-end c = room (goal.at.slice_bounds-lower_half-end c).After-half_degree-half
 
 pub slice_bounds-lower_half-end-2 : goal.slice_bounds-lower_half-end-2
-slice_bounds-lower_half-end-2 c = sym (length-take-le _ _ (room c.before))
+slice_bounds-lower_half-end-2 c = sym (length-take-le _ _ (room (goal.at.slice_bounds-lower_half-end-2 c).After-half_degree-half))
 
 pub lower_half-requires : goal.lower_half-requires
 lower_half-requires c =
-    let q = c.before in
+    let q = (goal.at.lower_half-requires c).After-half_degree-half in
     (parts (apart q), good (start q), above q, length-take-le _ _ (room q) ∙ ap (λ (d : ℕ). d + 1) (half q))
 
 pub returns : goal.returns
 returns c = let told =
     let m = c in
-    let q = c.before.before.before in
+    let q = (goal.at.returns c).After-half_degree-half in
     let w = (start q).args.work.now in
     let r = r_of (start q).args.n in
     let k = m.lower_half.new.a in

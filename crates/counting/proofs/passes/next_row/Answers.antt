@@ -44,27 +44,27 @@ module _ (c : After-joined-arg-1) where
       to_z-of_z {w = w64} {z = get_or start.args.heights.now place 0ℤ} (record { sfits = c.joined-arg-1.given }) ∙ read
 
 pub overflow_cast-heights : goal.overflow_cast-heights
-overflow_cast-heights c = rw (same c) (tt, record { fits = omega (arith, rw (read c) at c.joined-arg-1.given) })
+overflow_cast-heights c = rw (same (goal.at.overflow_cast-heights c).After-joined-arg-1) (tt, record { fits = omega (arith, rw (read (goal.at.overflow_cast-heights c).After-joined-arg-1) at c.joined-arg-1.given) })
 
 pub overflow_add-a : goal.overflow_add-a
-overflow_add-a c = record { fits = omega (arith, (start c).requires.most, c.loop-i.invariant.1) }
+overflow_add-a c = record { fits = omega (arith, (start (goal.at.overflow_add-a c).After-joined-arg-1).requires.most, c.loop-i.invariant.1) }
 
 pub joined-row-requires : goal.joined-row-requires
 joined-row-requires c =
     let l = c.loop-i in
-    let k = length (start c).args.heights.now - l.i in
-    let ns = indices ((start c).args.a + l.i) k in
+    let k = length (start (goal.at.joined-row-requires c).After-joined-arg-1).args.heights.now - l.i in
+    let ns = indices ((start (goal.at.joined-row-requires c).After-joined-arg-1).args.a + l.i) k in
     omega (
       arith,
       ap (λ r. r.count) l.invariant.0,
-      count_most (start c).args.due ns,
-      length-indices ((start c).args.a + l.i) k,
-      (start c).requires.most,
+      count_most (start (goal.at.joined-row-requires c).After-joined-arg-1).args.due ns,
+      length-indices ((start (goal.at.joined-row-requires c).After-joined-arg-1).args.a + l.i) k,
+      (start (goal.at.joined-row-requires c).After-joined-arg-1).requires.most,
     )
 
 pub loop-i-preserved : goal.loop-i-preserved
 loop-i-preserved c =
-    let m = c.before in
+    let m = (goal.at.loop-i-preserved c).After-joined-arg-1 in
     let l = m.loop-i in
     let s = start m in (
       c.joined-row.ensures

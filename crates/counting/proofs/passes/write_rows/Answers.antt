@@ -20,11 +20,11 @@ room l due =
     omega (arith, turn-room _ _ _ l.loop-row.invariant.turn due, l.requires.heights_in_bounds, l.loop-row.invariant.same)
 
 pub put_row-requires : goal.put_row-requires
-put_row-requires c = room c.before.before.before (omega arith)
+put_row-requires c = room (goal.at.put_row-requires c).At-loop-row (omega arith)
 
 pub overflow_add-at : goal.overflow_add-at
 overflow_add-at c =
-    let l = c.before.before.before.before.before.before in
+    let l = (goal.at.overflow_add-at c).At-loop-row in
     record {
       fits = omega (arith, room l (omega arith), l.loop-row.invariant.same);
     }
@@ -46,7 +46,7 @@ loop-row-smaller c =
 
 pub loop-row-preserved : goal.loop-row-preserved
 loop-row-preserved c =
-    let l = c.before.before.before.before.before.before.before.before in
+    let l = (goal.at.loop-row-preserved c).At-loop-row in
     rw c.next_row-row-in-loop-row.ensures (wrote_again _ _ _ _ _ l.loop-row.invariant (omega arith) (room l (omega arith)) _
     c.put_row.ensures)
 

@@ -20,7 +20,7 @@ pub loop-i-init : goal.loop-i-init
 loop-i-init c =
     let a = c.args in
     let none : a.from + 0 ≡ a.from = omega arith in
-    (rw none (or-false (differ_to a.from (stored c) a.coeffs.now)), omega arith)
+    (rw none (or-false (differ_to a.from (stored (goal.at.loop-i-init c).After-shared_slice_known-1) a.coeffs.now)), omega arith)
 
 pub overflow_add-from : goal.overflow_add-from
 overflow_add-from c = record { fits = omega (arith, c.requires.3) }
@@ -33,8 +33,8 @@ pub loop-i-preserved : goal.loop-i-preserved
 loop-i-preserved c =
     let loop = c in
     let a = loop.args in (
-      differ-next (stored c.before.before.before) a.coeffs.now a.from loop.loop-i.i
-          (differ_to a.from (stored c.before.before.before) a.coeffs.now) loop.loop-i.found c.unlike-found.result
+      differ-next (stored (goal.at.loop-i-preserved c).After-shared_slice_known-1) a.coeffs.now a.from loop.loop-i.i
+          (differ_to a.from (stored (goal.at.loop-i-preserved c).After-shared_slice_known-1) a.coeffs.now) loop.loop-i.found c.unlike-found.result
           loop.loop-i.invariant.0 c.unlike-found.ensures,
       omega arith,
     )

@@ -96,29 +96,29 @@ least : (c : After-least_width) → c.least_width.result
 least c = c.least_width.ensures ∙ ap (least_of widths) (tall c.before.before.before)
 
 pub width_in-w-requires : goal.width_in-w-requires
-width_in-w-requires c = (header _ (start c.before).requires.0).long
+width_in-w-requires c = (header _ (start (goal.at.width_in-w-requires c).After-first_half-height).requires.0).long
 
 pub returns-then-least_width-w : goal.returns-then-least_width-w
-returns-then-least_width-w c = let f = c.before.before.before.before in record {
+returns-then-least_width-w c = let f = (goal.at.returns-then-least_width-w c).After-first_half-height in record {
   value = another_wide (bs f) (each f) (start f).requires.0
-      (λ e. c.if-least_width-w.true (least c.before ∙ e ∙ sym c.width_in-w.ensures));
+      (λ e. c.if-least_width-w.true (least (goal.at.returns-then-least_width-w c).After-least_width ∙ e ∙ sym c.width_in-w.ensures));
   coeffs_len_unchanged = all-long f;
 }
 
 pub slice_bounds-differ_in-end-2 : goal.slice_bounds-differ_in-end-2
 slice_bounds-differ_in-end-2 c =
-    let f = c.before.before.before.before in sym (ap length (front f) ∙ made-long f)
+    let f = (goal.at.slice_bounds-differ_in-end-2 c).After-first_half-height in sym (ap length (front f) ∙ made-long f)
 
 pub differ_in-requires : goal.differ_in-requires
 differ_in-requires c =
-    let f = c.before.before.before.before in
+    let f = (goal.at.differ_in-requires c).After-first_half-height in
     rw (front f)
     (comparable_half (bs f) (each f) (start f).requires.0 (start f).requires.2 (start f).requires.4 _
     c.width_in-w.ensures _ (made-own f)
-    (sym (least c.before) ∙ c.if-least_width-w.false))
+    (sym (least (goal.at.differ_in-requires c).After-least_width) ∙ c.if-least_width-w.false))
 
 pub returns-then-differ_in : goal.returns-then-differ_in
-returns-then-differ_in c = let f = c.before.before.before.before.before.before in record {
+returns-then-differ_in c = let f = (goal.at.returns-then-differ_in c).After-first_half-height in record {
   value = halves_differ (bs f) (each f) (start f).requires.0 (start f).requires.2 (start f).requires.4 _
       c.width_in-w.ensures _ (made-own f)
       (sym (rw (front f) at c.differ_in.ensures) ∙ c.if-differ_in.true);
@@ -127,11 +127,11 @@ returns-then-differ_in c = let f = c.before.before.before.before.before.before i
 
 pub uneven_in-requires : goal.uneven_in-requires
 uneven_in-requires c =
-    let f = c.before.before.before.before.before.before in
+    let f = (goal.at.uneven_in-requires c).After-first_half-height in
     stored-right (bs f) (start f).requires.0 _ _ c.width_in-w.ensures (counted f)
 
 pub returns : goal.returns
-returns c = let f = c.before.before.before.before.before.before.before in record {
+returns c = let f = (goal.at.returns c).After-first_half-height in record {
   value = ap not (c.uneven_in.ensures ∙ ap (λ (k : ℕ). uneven false
       (coefficients_at c.width_in-w.result k (drop 10 (bs f))))
       (counted f))

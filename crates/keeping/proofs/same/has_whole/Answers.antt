@@ -50,22 +50,22 @@ pub index_in-requires : goal.index_in-requires
 index_in-requires c = (header c.args.bytes.now c.requires.0).long
 
 pub width_in-w-requires : goal.width_in-w-requires
-width_in-w-requires c = (header (bs c.before) (start c.before).requires.0).long
+width_in-w-requires c = (header (bs (goal.at.width_in-w-requires c).After-polynomial-made) (start (goal.at.width_in-w-requires c).After-polynomial-made).requires.0).long
 
 pub returns-then-least_width-w : goal.returns-then-least_width-w
-returns-then-least_width-w c = let p = c.before.before.before.before in record {
+returns-then-least_width-w c = let p = (goal.at.returns-then-least_width-w c).After-polynomial-made in record {
   value = another_wide (bs p) (each p) (start p).requires.0
-      (λ e. c.if-least_width-w.true (least c.before ∙ e ∙ sym c.width_in-w.ensures));
+      (λ e. c.if-least_width-w.true (least (goal.at.returns-then-least_width-w c).After-least_width ∙ e ∙ sym c.width_in-w.ensures));
   coeffs_len_unchanged = p.polynomial-made.auto.1.1.1.1.0;
 }
 
 pub count_in-count-requires : goal.count_in-count-requires
 count_in-count-requires c =
-    let p = c.before.before.before.before in (header (bs p) (start p).requires.0).long
+    let p = (goal.at.count_in-count-requires c).After-polynomial-made in (header (bs p) (start p).requires.0).long
 
 pub slice_bounds-differ_in-end : goal.slice_bounds-differ_in-end
 slice_bounds-differ_in-end c =
-    let p = c.before.before.before.before.before in
+    let p = (goal.at.slice_bounds-differ_in-end c).After-polynomial-made in
     omega (arith, c.count_in-count.ensures, (start p).requires.1, p.polynomial-made.auto.1.1.1.1.0)
 
 pub slice_bounds-differ_in-end-2 : goal.slice_bounds-differ_in-end-2
@@ -80,13 +80,13 @@ made p =
 
 pub differ_in-requires : goal.differ_in-requires
 differ_in-requires c =
-    let p = c.before.before.before.before.before in
+    let p = (goal.at.differ_in-requires c).After-polynomial-made in
     comparable (bs p) (each p) (start p).requires.0 _ c.width_in-w.ensures _
     (made p _ c.count_in-count.ensures)
-    (sym (least c.before.before) ∙ c.if-least_width-w.false)
+    (sym (least (goal.at.differ_in-requires c).After-least_width) ∙ c.if-least_width-w.false)
 
 pub returns : goal.returns
-returns c = let p = c.before.before.before.before.before.before in record {
+returns c = let p = (goal.at.returns c).After-polynomial-made in record {
   value = ap not (c.differ_in.ensures
       ∙ compared (bs p) (each p) (start p).requires.0 _ c.width_in-w.ensures
       _

@@ -19,21 +19,21 @@ stands start w e b is =
     rw (← e, is) (lowest start.args.w start.requires.0 start.args.x start.requires.1)
 
 pub returns-in-1 : goal.returns-in-1
-returns-in-1 c = stands c.before.before 1 c.in-1.is _ (c.bits_of-b.ensures ∙ ap (of_z w64)
+returns-in-1 c = stands (goal.at.returns-in-1 c).Start 1 c.in-1.is _ (c.bits_of-b.ensures ∙ ap (of_z w64)
     (to_z-of_z c.ranges.x))
 
 pub returns-in-2 : goal.returns-in-2
-returns-in-2 c = stands c.before.before 2 c.in-2.is _
+returns-in-2 c = stands (goal.at.returns-in-2 c).Start 2 c.in-2.is _
     (c.bits_of-b.ensures ∙ ap (of_z w64) (to_z-of_z c.ranges.x))
 
 pub returns-in-4 : goal.returns-in-4
-returns-in-4 c = stands c.before.before 4 c.in-4.is _
+returns-in-4 c = stands (goal.at.returns-in-4 c).Start 4 c.in-4.is _
     (c.bits_of-b.ensures ∙ ap (of_z w64) (to_z-of_z c.ranges.x))
 
 pub returns-in_default : goal.returns-in_default
 returns-in_default c =
     let r = c.in_default.rest in
-    let start = c.before.before in
+    let start = (goal.at.returns-in_default c).Start in
     let last = width_last start.args.w start.requires.0 r.0.0.1 r.0.1 r.1 in
     omega (
       arith,

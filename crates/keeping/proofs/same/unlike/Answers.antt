@@ -29,12 +29,12 @@ within start =
 
 pub standing-requires : goal.standing-requires
 standing-requires c =
-    let start = c.before.before in
+    let start = (goal.at.standing-requires c).Start in
     (start.requires.0, rw (read start c.standing-arg-1.given) (within start))
 
 pub returns : goal.returns
 returns c =
-    let start = c.before.before.before.before in
+    let start = (goal.at.returns c).Start in
     let a = start.args in
     numbers_differ a.w _ _ (entries a.coeffs.now a.i) _ (width_bounds a.w start.requires.0).0
     (within start)

@@ -19,12 +19,12 @@ module _ (p : Start) where
 
 pub returns-then-v-ltminus2147483648 : goal.returns-then-v-ltminus2147483648
 returns-then-v-ltminus2147483648 c =
-    let p = c.before in
+    let p = (goal.at.returns-then-v-ltminus2147483648 c).Start in
     far p (test_low 2147483647 p.args.v (rw (to_z-of_z p.ranges.v) at c.if-v-ltminus2147483648.true))
 
 pub returns-then-v-gt2147483647 : goal.returns-then-v-gt2147483647
 returns-then-v-gt2147483647 c =
-    let p = c.before.before in
+    let p = (goal.at.returns-then-v-gt2147483647 c).Start in
     far p (test_high 2147483647 p.args.v (rw (to_z-of_z p.ranges.v) at c.if-v-gt2147483647.true))
 
 between : (c : Else-v-gt2147483647) → mag c.args.v < 2147483648
@@ -37,10 +37,10 @@ pub add_product-requires : goal.add_product-requires
 add_product-requires c =
     let p = c in
     joined_asks half 2147483648 refl (omega arith) p.args.v p.args.d p.ranges.v p.ranges.d p.requires
-    (between c)
+    (between (goal.at.add_product-requires c).Else-v-gt2147483647)
 
 pub returns : goal.returns
 returns c =
     let p = c in
     joined_seen half 2147483648 refl (omega arith) p.args.v p.args.d p.ranges.v p.ranges.d p.requires
-    (between c.before) c.add_product.result c.add_product.ensures
+    (between (goal.at.returns c).Else-v-gt2147483647) c.add_product.result c.add_product.ensures

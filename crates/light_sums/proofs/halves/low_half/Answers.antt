@@ -15,11 +15,11 @@ above c = c.high_half.ensures ∙ ap high_half (to_z-of_z c.ranges.v)
 pub less_product-requires : goal.less_product-requires
 less_product-requires c =
     let p = c in
-    rest_asks half 2147483648 refl (omega arith) p.args.v c.high_half.result p.ranges.v (above c)
+    rest_asks half 2147483648 refl (omega arith) p.args.v c.high_half.result p.ranges.v (above (goal.at.less_product-requires c).After-high_half)
 
 pub returns : goal.returns
 unfolding low_half
 returns c =
     let p = c in
     rest-seen half 2147483648 refl (omega arith) p.args.v c.high_half.result p.ranges.v
-    (above c.before) c.less_product.result c.less_product.ensures
+    (above (goal.at.returns c).After-high_half) c.less_product.result c.less_product.ensures

@@ -19,7 +19,7 @@ above c =
     handed (shr_fits half p.args.low p.ranges.low) (c.high_half.ensures ∙ ap high_half (to_z-of_z p.ranges.low))
 
 pub plus-requires : goal.plus-requires
-plus-requires c = rw (above c, to_z-of_z c.ranges.high) c.requires
+plus-requires c = rw (above (goal.at.plus-requires c).After-high_half, to_z-of_z c.ranges.high) c.requires
 
 low : (c : After-low_half) → seen c.low_half.result ≡ pos (rest half c.args.low)
 unfolding low_half
@@ -31,15 +31,15 @@ low c =
 pub joined-requires : goal.joined-requires
 joined-requires c =
     let v = c.args.low in
-    record { size = rest half v; below = rest_below half (omega arith) v; is = low c }
+    record { size = rest half v; below = rest_below half (omega arith) v; is = low (goal.at.joined-requires c).After-low_half }
 
 pub returns : goal.returns
 returns c =
     let p = c in
     let sum : seen c.plus.result ≡ p.args.high ⊕ high_half p.args.low =
     handed p.requires
-    (c.plus.ensures ∙ ap₂ ◌⊕◌ (to_z-of_z p.ranges.high) (above c.before.before.before)) in
+    (c.plus.ensures ∙ ap₂ ◌⊕◌ (to_z-of_z p.ranges.high) (above (goal.at.returns c).After-high_half)) in
     told-handed (p.args.high ⊗ pos half ⊕ p.args.low)
     (c.joined.ensures
-    ∙ ap told (ap₂ (λ a b. a ⊗ pos half ⊕ b) sum (low c.before)
+    ∙ ap told (ap₂ (λ a b. a ⊗ pos half ⊕ b) sum (low (goal.at.returns c).After-low_half)
     ∙ carried half 2147483648 refl (omega arith) p.args.high p.args.low))

@@ -40,11 +40,11 @@ module _ (c : After-half_of) where
   next = more_asks p.requires.f_bound.0 p.requires.f_bound.1 y_fits
 
 pub add_product-requires : goal.add_product-requires
-add_product-requires c = rw (x-seen c, y-seen c, to_z-of_z (p c).ranges.s) (next c)
+add_product-requires c = rw (x-seen (goal.at.add_product-requires c).After-half_of, y-seen (goal.at.add_product-requires c).After-half_of, to_z-of_z (p (goal.at.add_product-requires c).After-half_of).ranges.s) (next (goal.at.add_product-requires c).After-half_of)
 
 pub returns : goal.returns
 returns c =
-    let q = c.before in
+    let q = (goal.at.returns c).After-half_of in
     let is : seen c.add_product.result ≡ (p q).args.s ⊕ x q ⊗ half_of (p q).args.high (y q) =
     handed (next q).1
     (c.add_product.ensures

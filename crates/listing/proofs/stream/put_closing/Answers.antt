@@ -11,18 +11,20 @@ use Rattle.listing.proofs.stream.put_closing.Goals.{Start}
 
 pub returns-then-n-gt40 : goal.returns-then-n-gt40
 unfolding closing
-returns-then-n-gt40 c = let told = rw (lt-leb _ _ c.if-n-gt40.true)
-    (c.put_wrong.ensures.puts, omega (arith, c.put_wrong.ensures.upper_bound)) in record { puts = told.0; upper_bound = told.1 }
+returns-then-n-gt40 c = record {
+  puts = rw (lt-leb _ _ c.if-n-gt40.true) (c.put_wrong.ensures.puts);
+  upper_bound = rw (lt-leb _ _ c.if-n-gt40.true) (omega (arith, c.put_wrong.ensures.upper_bound));
+}
 
 -- an array's length
 long : (c : Start) → length c.args.line.bytes ≡ 40
 long c = search rules
 
 pub slice_bounds-bytes-end : goal.slice_bounds-bytes-end
-slice_bounds-bytes-end c = omega (arith, long c.before.before.before.before)
+slice_bounds-bytes-end c = omega (arith, long (goal.at.slice_bounds-bytes-end c).Start)
 
 pub slice_bounds-put_reply-end : goal.slice_bounds-put_reply-end
-slice_bounds-put_reply-end c = sym (length-take-le _ _ (omega (arith, long c.before.before.before.before.before)))
+slice_bounds-put_reply-end c = sym (length-take-le _ _ (omega (arith, long (goal.at.slice_bounds-put_reply-end c).Start)))
 
 pub returns : goal.returns
 unfolding closing

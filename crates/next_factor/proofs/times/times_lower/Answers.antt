@@ -43,21 +43,21 @@ returns-then-steps_serve c =
 
 pub overflow_add-size : goal.overflow_add-size
 overflow_add-size c =
-    record { fits = omega (arith, room c) }
+    record { fits = omega (arith, room (goal.at.overflow_add-size c).Else-steps_serve) }
 
 pub slice_bounds-multiply-end : goal.slice_bounds-multiply-end
 slice_bounds-multiply-end c =
-    room c.before
+    room (goal.at.slice_bounds-multiply-end c).Else-steps_serve
 
 pub slice_bounds-multiply-end-2 : goal.slice_bounds-multiply-end-2
 slice_bounds-multiply-end-2 c =
-    sym (length-take-le _ _ (room c.before))
+    sym (length-take-le _ _ (room (goal.at.slice_bounds-multiply-end-2 c).Else-steps_serve))
 
 pub multiply-requires : goal.multiply-requires
 multiply-requires c =
-    multiply_asks (start c.before).requires.0 (made c.before)
+    multiply_asks (start (goal.at.multiply-requires c).Else-steps_serve).requires.0 (made (goal.at.multiply-requires c).Else-steps_serve)
 
 pub returns : goal.returns
 returns c =
-    let e = c.before.before.before in
+    let e = (goal.at.returns c).Else-steps_serve in
     multiplied_out (start e).requires.0 (made e) _ _ c.multiply.ensures.value c.multiply.ensures.b_after

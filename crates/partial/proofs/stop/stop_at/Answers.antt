@@ -64,7 +64,7 @@ pub over-walk-requires : goal.over-walk-requires
 over-walk-requires c = let p = c in parts_few p.args.n p.args.parts p.requires.parts p.requires.good
 
 pub returns-then-walk-j : goal.returns-then-walk-j
-returns-then-walk-j c = let q = c.before.before.before in
+returns-then-walk-j c = let q = (goal.at.returns-then-walk-j c).After-over-walk in
     let s = Stopping.too_many (kind q) (n q) (start q).args.j (start q).args.w _ (start q).requires (old q) _ (d_is q)
     (omega (arith, due_is q)) in record {
       value = c.refused.ensures ∙ s.0;
@@ -72,7 +72,7 @@ returns-then-walk-j c = let q = c.before.before.before in
     }
 
 pub returns-then-w-lt1 : goal.returns-then-w-lt1
-returns-then-w-lt1 c = let q = c.before.before.before.before in
+returns-then-w-lt1 c = let q = (goal.at.returns-then-w-lt1 c).After-over-walk in
     let s = Stopping.too_low (kind q) (n q) (start q).args.j (start q).args.w _ (start q).requires (old q) _ (d_is q)
     (few_due q (omega arith)) (below_one_lem (start q).args.w (start q).ranges.w c.if-w-lt1.true) in record {
       value = c.refused-then-w-lt1.ensures ∙ s.0;
@@ -94,7 +94,7 @@ module _ (e : Else-w-lt1) where
   limit = read_limit w (start walked).ranges.w good
 
 pub returns-then-buf-d : goal.returns-then-buf-d
-returns-then-buf-d c = let e = c.before.before in
+returns-then-buf-d c = let e = (goal.at.returns-then-buf-d c).Else-w-lt1 in
     let q = walked e in
     let s = Stopping.too_short (kind q) (n q) (start q).args.j (w e) _ (start q).requires (old q) _ (d_is q)
     (few_due q (omega arith)) (good e) (omega arith) in record {
@@ -104,10 +104,10 @@ returns-then-buf-d c = let e = c.before.before in
 
 pub slice_bounds-make_kept_half-end-2 : goal.slice_bounds-make_kept_half-end-2
 slice_bounds-make_kept_half-end-2 c =
-    let q = walked c.before.before in sym (part_length q (omega arith) (omega arith))
+    let q = walked (goal.at.slice_bounds-make_kept_half-end-2 c).Else-w-lt1 in sym (part_length q (omega arith) (omega arith))
 
 pub make_kept_half-outcome-requires : goal.make_kept_half-outcome-requires
-make_kept_half-outcome-requires c = let e = c.before.before.before in
+make_kept_half-outcome-requires c = let e = (goal.at.make_kept_half-outcome-requires c).Else-w-lt1 in
     let q = walked e in record {
       walk_at_start = Walked.fresh_half (kind q) (n q) _ (start q).requires q.over-walk.result q.over-walk.ensures _ _
           (part_length q (omega arith) (omega arith) ∙ ap (λ k. k + 1) (d_is q)) (few_due q (omega arith));
@@ -116,7 +116,7 @@ make_kept_half-outcome-requires c = let e = c.before.before.before in
 
 pub returns-then-outcome : goal.returns-then-outcome
 returns-then-outcome c = let m = c in
-    let e = c.before.before.before.before.before.before.before in
+    let e = (goal.at.returns-then-outcome c).Else-w-lt1 in
     let q = walked e in
     let s = Stopping.made_over_lem (kind q) (n q) (start q).args.j (w e) _ (start q).requires (old q) _ (d_is q)
     (few_due q (omega arith)) (good e) (omega arith) _ _ (limit e m.magnitude.ensures).0
@@ -128,7 +128,7 @@ returns-then-outcome c = let m = c in
 pub returns : goal.returns
 returns c = let told =
     let m = c in
-    let e = c.before.before.before.before.before.before in
+    let e = (goal.at.returns c).Else-w-lt1 in
     let q = walked e in
     Stopping.made_done (kind q) (n q) (start q).args.j (w e) _ (start q).requires (old q) _ (d_is q)
     (few_due q (omega arith)) (good e) (omega arith) _ _ (limit e m.magnitude.ensures).0

@@ -29,7 +29,7 @@ small : (z : ℤ) → nat_abs z ≤ 65535 → SFits w64 z
 small z l = record { sfits = omega (arith, mag_abs z) }
 
 pub returns-then-buf-degree : goal.returns-then-buf-degree
-returns-then-buf-degree c = let g = c.before.before in
+returns-then-buf-degree c = let g = (goal.at.returns-then-buf-degree c).After-degree_from-degree in
     let p = start g in
     let d = degree_is g in
     let s = at_short p.args.kind p.args.n _ _ p.args.buf.now
@@ -40,11 +40,11 @@ returns-then-buf-degree c = let g = c.before.before in
 
 pub slice_bounds-make-end-2 : goal.slice_bounds-make-end-2
 slice_bounds-make-end-2 c =
-    let p = start c.before.before in sym (length-take-le _ p.args.buf.now (omega arith))
+    let p = start (goal.at.slice_bounds-make-end-2 c).After-degree_from-degree in sym (length-take-le _ p.args.buf.now (omega arith))
 
 pub make-made-requires : goal.make-made-requires
 make-made-requires c =
-    let g = c.before.before in
+    let g = (goal.at.make-made-requires c).After-degree_from-degree in
     let p = start g in (
       record {
         parts = p.requires.0;
@@ -57,7 +57,7 @@ make-made-requires c =
     )
 
 pub returns-then-made-ne-DONE : goal.returns-then-made-ne-DONE
-returns-then-made-ne-DONE c = let g = c.before.before.before.before.before.before.before in
+returns-then-made-ne-DONE c = let g = (goal.at.returns-then-made-ne-DONE c).After-degree_from-degree in
     let p = start g in
     let s = refuses p.args.kind p.args.n p.args.h p.args.w p.args.buf.now p.requires.1 p.requires.2
     p.requires.3 p.requires.4.0 _ (degree_is g) (omega arith) _ _ c.make-made.ensures
@@ -68,11 +68,11 @@ returns-then-made-ne-DONE c = let g = c.before.before.before.before.before.befor
 
 pub gain_of-gain-requires : goal.gain_of-gain-requires
 gain_of-gain-requires c =
-    let p = start c.before.before.before.before.before.before in (p.requires.0, p.requires.2)
+    let p = start (goal.at.gain_of-gain-requires c).After-degree_from-degree in (p.requires.0, p.requires.2)
 
 pub returns : goal.returns
 returns c = let told =
-    let g = c.before.before.before.before.before.before.before in
+    let g = (goal.at.returns c).After-degree_from-degree in
     let p = start g in
     delivers p.args.kind p.args.n p.args.h p.args.w p.args.buf.now p.requires.1 p.requires.2
     p.requires.3 p.requires.4.0 _ (degree_is g) (omega arith) _ _ c.make-made.ensures

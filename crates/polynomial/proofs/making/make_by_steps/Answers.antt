@@ -51,40 +51,40 @@ module _ (c : After-all_steps-run) where
   part_room = omega (arith, mid.rest-length, room at_start_lem)
 
 pub overflow_add-half : goal.overflow_add-half
-overflow_add-half c = omega (arith, room c)
+overflow_add-half c = omega (arith, room (goal.at.overflow_add-half c).After-half_degree-half)
 
 pub slice_bounds-all_steps-end : goal.slice_bounds-all_steps-end
-slice_bounds-all_steps-end c = room c
+slice_bounds-all_steps-end c = room (goal.at.slice_bounds-all_steps-end c).After-half_degree-half
 
 pub slice_bounds-all_steps-end-2 : goal.slice_bounds-all_steps-end-2
-slice_bounds-all_steps-end-2 c = sym (part_length c.before)
+slice_bounds-all_steps-end-2 c = sym (part_length (goal.at.slice_bounds-all_steps-end-2 c).After-half_degree-half)
 
 pub all_steps-run-requires : goal.all_steps-run-requires
 all_steps-run-requires c =
-    let q = c.before in
+    let q = (goal.at.all_steps-run-requires c).After-half_degree-half in
     (steps_due (start q).requires.0 (start q).requires.1, part_length q ∙ ap (λ k. k + 1) (d_is q), (start q).requires.2)
 
 pub returns-then-run : goal.returns-then-run
 returns-then-run c =
     rw c.refused.ensures
-    ((mid c.before.before.before.before.before.before).over _ _ c.if-run.true
+    ((mid (goal.at.returns-then-run c).After-all_steps-run).over _ _ c.if-run.true
     c.clear.ensures)
 
 pub lay_out-laid-requires : goal.lay_out-laid-requires
 lay_out-laid-requires c =
-    let s = c.before.before.before in
+    let s = (goal.at.lay_out-laid-requires c).After-all_steps-run in
     let inside = c.if-run.false in
     ((mid s).ready, (mid s).lower inside, (mid s).bounded inside)
 
 pub returns-then-laid : goal.returns-then-laid
 returns-then-laid c =
     let l = c in
-    let s = c.before.before.before.before.before.before.before in
+    let s = (goal.at.returns-then-laid c).After-all_steps-run in
     rw c.refused-then-laid.ensures
     ((mid s).tall l.if-run.false l.lay_out-laid.ensures c.if-laid.true)
 
 pub returns : goal.returns
 returns c =
     let l = c in
-    let s = c.before.before.before.before.before.before in
+    let s = (goal.at.returns c).After-all_steps-run in
     (mid s).done l.if-run.false l.lay_out-laid.ensures c.if-laid.false

@@ -12,7 +12,7 @@ last c =
     width_last c.args.w c.requires.0 r.0.0.1 r.0.1 r.1
 
 pub eight-requires : goal.eight-requires
-eight-requires c = omega (arith, last c)
+eight-requires c = omega (arith, last (goal.at.eight-requires c).In_default)
 
 pub returns-in-1 : goal.returns-in-1
 returns-in-1 c = rw c.in-1.is c.one.ensures
@@ -24,4 +24,4 @@ pub returns-in-4 : goal.returns-in-4
 returns-in-4 c = rw c.in-4.is c.four.ensures
 
 pub returns-in_default : goal.returns-in_default
-returns-in_default c = rw (last c.before) c.eight.ensures
+returns-in_default c = rw (last (goal.at.returns-in_default c).In_default) c.eight.ensures

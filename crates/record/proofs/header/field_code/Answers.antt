@@ -46,16 +46,16 @@ degree_is c =
     ∙ ap₂ degree i.kind_in-kind.ensures i.index_in-n.ensures.0
 
 pub returns-then-not-kind_right : goal.returns-then-not-kind_right
-returns-then-not-kind_right c = sym (field_kind _ (sym (kind-tested c.before) ∙ c.if-not-kind_right.true))
+returns-then-not-kind_right c = sym (field_kind _ (sym (kind-tested (goal.at.returns-then-not-kind_right c).After-is_width-width_right) ∙ c.if-not-kind_right.true))
 
 pub returns-then-not-width_right : goal.returns-then-not-width_right
 returns-then-not-width_right c =
-    sym (field_width _ (kind_ok c.before) (sym (width-tested c.before.before) ∙ c.if-not-width_right.true))
+    sym (field_width _ (kind_ok (goal.at.returns-then-not-width_right c).Else-not-kind_right) (sym (width-tested (goal.at.returns-then-not-width_right c).After-is_width-width_right) ∙ c.if-not-width_right.true))
 
 pub returns-then-n-eq0 : goal.returns-then-n-eq0
 returns-then-n-eq0 c =
-    let e = c.before.before in
-    sym (field_zero _ (kind_ok c.before.before.before) (width_ok e) (sym c.index_in-n.ensures.0 ∙ c.if-n-eq0.true))
+    let e = (goal.at.returns-then-n-eq0 c).Else-not-width_right in
+    sym (field_zero _ (kind_ok (goal.at.returns-then-n-eq0 c).Else-not-kind_right) (width_ok e) (sym c.index_in-n.ensures.0 ∙ c.if-n-eq0.true))
 
 pub overflow_add-degree_of : goal.overflow_add-degree_of
 overflow_add-degree_of c =
@@ -66,13 +66,13 @@ overflow_add-degree_of c =
 pub returns-then-count_in-degree_of : goal.returns-then-count_in-degree_of
 returns-then-count_in-degree_of c =
     let counted = c in
-    let e = c.before.before.before.before.before in
-    sym (field_count _ (kind_ok c.before.before.before.before.before.before) (width_ok e) (index_ok c.before.before.before)
-    (λ m. c.if-count_in-degree_of.true (counted.count_in.ensures ∙ m ∙ ap (λ (d : ℕ). d + 1) (sym (degree_is c.before)))))
+    let e = (goal.at.returns-then-count_in-degree_of c).Else-not-width_right in
+    sym (field_count _ (kind_ok (goal.at.returns-then-count_in-degree_of c).Else-not-kind_right) (width_ok e) (index_ok (goal.at.returns-then-count_in-degree_of c).Else-n-eq0)
+    (λ m. c.if-count_in-degree_of.true (counted.count_in.ensures ∙ m ∙ ap (λ (d : ℕ). d + 1) (sym (degree_is (goal.at.returns-then-count_in-degree_of c).After-degree_of)))))
 
 pub returns : goal.returns
 returns c =
     let counted = c in
-    let e = c.before.before.before.before.before in
-    sym (fields-right _ (kind_ok c.before.before.before.before.before.before) (width_ok e) (index_ok c.before.before.before)
-    (sym counted.count_in.ensures ∙ c.if-count_in-degree_of.false ∙ ap (λ (d : ℕ). d + 1) (degree_is c.before)))
+    let e = (goal.at.returns c).Else-not-width_right in
+    sym (fields-right _ (kind_ok (goal.at.returns c).Else-not-kind_right) (width_ok e) (index_ok (goal.at.returns c).Else-n-eq0)
+    (sym counted.count_in.ensures ∙ c.if-count_in-degree_of.false ∙ ap (λ (d : ℕ). d + 1) (degree_is (goal.at.returns c).After-degree_of)))

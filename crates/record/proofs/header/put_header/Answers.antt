@@ -21,17 +21,17 @@ put-requires c = simp length-set (omega arith)
 pub put-requires-2 : goal.put-requires-2
 put-requires-2 c =
     let a = c.args in
-    omega (arith, c.put.auto.bytes, four_long a.bytes-1.now a.mark a.kind a.w)
+    omega (arith, c.put.auto.bytes, four_long a.bytes.now a.mark a.kind a.w)
 
 pub shape_of-bytes : goal.shape_of-bytes
 shape_of-bytes c =
     let a = c.args in
     c.put-2.auto.bytes ∙ c.put.auto.bytes
-    ∙ four_long a.bytes-1.now a.mark a.kind a.w
+    ∙ four_long a.bytes.now a.mark a.kind a.w
 
 pub returns : goal.returns
 returns c =
     let a = c.args in
-    header_stored a.bytes-1.now _ _ a.mark a.kind a.w a.n a.count
+    header_stored a.bytes.now _ _ a.mark a.kind a.w a.n a.count
     c.put.ensures
     c.put-2.ensures

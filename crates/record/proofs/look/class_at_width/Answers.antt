@@ -19,7 +19,7 @@ pub class_in-requires-in-4 : goal.class_in-requires-in-4
 class_in-requires-in-4 c = rw c.in-4.is at c.requires
 
 pub class_in-requires-in_default : goal.class_in-requires-in_default
-class_in-requires-in_default c = rw (last c) at c.requires
+class_in-requires-in_default c = rw (last (goal.at.class_in-requires-in_default c).In_default) at c.requires
 
 pub returns-in-1 : goal.returns-in-1
 returns-in-1 c = rw c.in-1.is c.class_in.ensures
@@ -31,4 +31,4 @@ pub returns-in-4 : goal.returns-in-4
 returns-in-4 c = rw c.in-4.is c.class_in-in-4.ensures
 
 pub returns-in_default : goal.returns-in_default
-returns-in_default c = rw (last c.before) c.class_in-in_default.ensures
+returns-in_default c = rw (last (goal.at.returns-in_default c).In_default) c.class_in-in_default.ensures

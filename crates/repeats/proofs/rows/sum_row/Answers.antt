@@ -43,16 +43,16 @@ module _ (c : After-read_entry-before) where
   sum_is =
       let (first, first_fits) = c.read_entry-old.ensures in
       let (second, second_fits) = c.read_entry-before.ensures in
-      let below = at.loop-k.inv.2.below in
+      let below = at.loop-k.invariant.2.below in
       ap₂ ◌⊕◌ (handed first_fits first ∙ below (k - p.args.x) (omega arith))
       (handed second_fits second ∙ below (k - p.args.d) (omega arith))
 
   sum_fits : SFits w64 (sum_at_lem k)
   unfolding sum_at_lem
-  sum_fits = p.requires.by_index k at.loop-k.inv.0 (omega arith)
+  sum_fits = p.requires.by_index k at.loop-k.invariant.0 (omega arith)
 
 pub new_value-v-requires : goal.new_value-v-requires
-new_value-v-requires c = rw (sum_is c) (sum_fits c)
+new_value-v-requires c = rw (sum_is (goal.at.new_value-v-requires c).After-read_entry-before) (sum_fits (goal.at.new_value-v-requires c).After-read_entry-before)
 
 pub put-requires : goal.put-requires
 put-requires c = omega (arith, c.loop-k.invariant.2.len)
@@ -61,7 +61,7 @@ pub loop-k-preserved : goal.loop-k-preserved
 unfolding entries sum_at_lem
 loop-k-preserved c =
     let v = c in
-    let q = c.before.before.before.before in
+    let q = (goal.at.loop-k-preserved c).After-read_entry-before in
     let so_far = (at q).loop-k.invariant.2 in
     let m = c.put.ensures in (
       omega arith,

@@ -52,10 +52,10 @@ pub next_from-next-requires : goal.next_from-next-requires
 next_from-next-requires c = c.loop-at.invariant.0.inside
 
 pub shape_of-coeffs-then-next : goal.shape_of-coeffs-then-next
-shape_of-coeffs-then-next c = long c.before.before
+shape_of-coeffs-then-next c = long (goal.at.shape_of-coeffs-then-next c).After-next_from-next
 
 pub returns-then-next : goal.returns-then-next
-returns-then-next c = let n = c.before.before in record {
+returns-then-next c = let n = (goal.at.returns-then-next c).After-next_from-next in record {
   count_is = record {
     cramps = counted-cramped _ _ _ _ _ (turn n).loop-at.invariant.0 (within n) _ (is n) c.if-next.true;
     kept = λ e. absurd (true≢false e);
@@ -66,7 +66,7 @@ returns-then-next c = let n = c.before.before in record {
 
 pub overflow_add-slots : goal.overflow_add-slots
 overflow_add-slots c =
-    let n = c.before.before.before in
+    let n = (goal.at.overflow_add-slots c).After-next_from-next in
     record {
       fits = omega (
         arith,
@@ -76,20 +76,20 @@ overflow_add-slots c =
     }
 
 pub overflow_sub-kept : goal.overflow_sub-kept
-overflow_sub-kept c = (steps c.before.before.before.before c.if-next.false).1
+overflow_sub-kept c = (steps (goal.at.overflow_sub-kept c).After-next_from-next c.if-next.false).1
 
 pub overflow_add-kept : goal.overflow_add-kept
 overflow_add-kept c =
-    let n = c.before.before.before.before in
+    let n = (goal.at.overflow_add-kept c).After-next_from-next in
     record { fits = omega (arith, (counts_small _ _ _ _ _ (goes n c.if-next.false)).0) }
 
 pub loop-at-smaller : goal.loop-at-smaller
-loop-at-smaller c = let b = steps c.before.before.before.before c.if-next.false in omega
+loop-at-smaller c = let b = steps (goal.at.loop-at-smaller c).After-next_from-next c.if-next.false in omega
     (arith, b.2, b.3)
 
 pub loop-at-preserved : goal.loop-at-preserved
 loop-at-preserved c =
-    let n = c.before.before.before.before in
+    let n = (goal.at.loop-at-preserved c).After-next_from-next in
     (rw c.slots_for-slots.ensures (goes n c.if-next.false), long n)
 
 pub shape_of-coeffs : goal.shape_of-coeffs

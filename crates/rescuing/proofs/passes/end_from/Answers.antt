@@ -26,12 +26,12 @@ found c =
 pub size_in-requires : goal.size_in-requires
 size_in-requires c =
     let a = c.args in
-    ap (header_code whole_mark) (tail a.shelf.now a.start) ∙ (found c.before).header
+    ap (header_code whole_mark) (tail a.shelf.now a.start) ∙ (found (goal.at.size_in-requires c).Else-shelf-start).header
 
 pub overflow_add-result : goal.overflow_add-result
 overflow_add-result c =
     let a = c.args in
-    let f = found c.before.before in
+    let f = found (goal.at.overflow_add-result c).Else-shelf-start in
     omega (
       arith,
       c.size_in.ensures,
@@ -45,4 +45,4 @@ pub returns : goal.returns
 returns c =
     let a = c.args in
     ap (λ (k : ℕ). a.start + k)
-    (c.size_in.ensures ∙ ap size_in (tail a.shelf.now a.start) ∙ sym (found c.before.before).size)
+    (c.size_in.ensures ∙ ap size_in (tail a.shelf.now a.start) ∙ sym (found (goal.at.returns c).Else-shelf-start).size)

@@ -18,8 +18,8 @@ returns c = let start = c in
     length-take-le size (drop a.start a.shelf.now) (rw length-drop
     (omega (arith, start.requires.0, start.requires.1))) in record {
       value = refl;
-      out_after = part-stored a.out-1.now stored a.at (omega (arith, long, start.requires.2)) _
+      out_after = part-stored a.out.now stored a.at (omega (arith, long, start.requires.2)) _
           (c.copy.ensures
-          ∙ ap (λ x. sets (take (length a.out-1.now - a.at) (drop a.at a.out-1.now)) 0 (take size x))
+          ∙ ap (λ x. sets (take (length a.out.now - a.at) (drop a.at a.out.now)) 0 (take size x))
           (tail a.shelf.now a.start));
     }

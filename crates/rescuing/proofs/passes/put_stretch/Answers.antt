@@ -20,16 +20,22 @@ room : (c : Then-at-start) → c.args.slot + 2 ≤ length c.args.list.now
 room c = rw (two c) at c.requires
 
 pub bounds-list-slot : goal.bounds-list-slot
-bounds-list-slot c = omega (arith, room c)
+bounds-list-slot c = omega (arith, room (goal.at.bounds-list-slot c).Then-at-start)
 
 pub bounds-list-slot-then-at-start : goal.bounds-list-slot-then-at-start
-bounds-list-slot-then-at-start c = rw length-set (omega (arith, room c))
+bounds-list-slot-then-at-start c = rw length-set (omega (arith, room (goal.at.bounds-list-slot-then-at-start c).Then-at-start))
 
 pub returns-then-at-start : goal.returns-then-at-start
-returns-then-at-start c = let told = rw (two c, add-one) (refl, refl) in record { value = told.0; list_after = told.1 }
+returns-then-at-start c = record {
+  value = rw (two (goal.at.returns-then-at-start c).Then-at-start, add-one) (refl);
+  list_after = rw (two (goal.at.returns-then-at-start c).Then-at-start, add-one) (refl);
+}
 
 pub returns : goal.returns
-returns c = let told =
+returns c =
     let a = c.args in
     let none : stretch a.at (a.start - a.at) ≡ [] = stretch_empty a.at (a.start - a.at) (omega arith) in
-    rw none (omega arith, refl) in record { value = told.0; list_after = told.1 }
+    record {
+      value = rw none (omega arith);
+      list_after = rw none (refl);
+    }

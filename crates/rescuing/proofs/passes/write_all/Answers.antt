@@ -32,24 +32,24 @@ module _ (n : After-next_from-next) where
   within = omega arith
 
   is : NextIs (room n) (shelf n) (turn n).loop-at.at n.next_from-next.result
-  is = rw (turn n).loop-at.inv.2 at n.next_from-next.ensures.next_is
+  is = rw (turn n).loop-at.invariant.2 at n.next_from-next.ensures.next_is
 
   long : length n.next_from-next.new.coeffs ≡ room n
-  long = n.next_from-next.ensures.coeffs_len_unchanged ∙ (turn n).loop-at.inv.2
+  long = n.next_from-next.ensures.coeffs_len_unchanged ∙ (turn n).loop-at.invariant.2
 
   roomy : Fits (shelf n) (length (start n).args.out.now) (length (start n).args.list.now) (room n)
   roomy = fits _ _ _ _ (start n).requires
 
   -- it is not for want of room that it ended
   free : n.next_from-next.result.cramped ≡ false
-  free = not-cramped _ _ _ within is.cramps ((turn n).loop-at.inv.0.cramps ∙ roomy.free)
+  free = not-cramped _ _ _ within is.cramps ((turn n).loop-at.invariant.0.cramps ∙ roomy.free)
 
   goes :
       let r = n.next_from-next.result in
       let l = (turn n).loop-at in
       Counted (room n) (shelf n) r.end (l.kept + (r.end - r.start))
       (l.slots + length (stretch l.at (r.start - l.at)))
-  goes = counted-turn _ _ _ _ _ (turn n).loop-at.inv.0 within _ is free
+  goes = counted-turn _ _ _ _ _ (turn n).loop-at.invariant.0 within _ is free
 
   steps :
       let r = n.next_from-next.result in
@@ -64,23 +64,23 @@ next_from-next-requires c = c.loop-at.invariant.0.inside
 
 pub put_stretch-slots-requires : goal.put_stretch-slots-requires
 put_stretch-slots-requires c =
-    let n = c.before.before in
+    let n = (goal.at.put_stretch-slots-requires c).After-next_from-next in
     omega (arith, (goes n).lists, (roomy n).numbers, (turn n).loop-at.invariant.1.list_long)
 
 pub put_record-kept-requires : goal.put_record-kept-requires
 put_record-kept-requires c =
-    let n = c.before.before.before.before.before.before in
+    let n = (goal.at.put_record-kept-requires c).After-next_from-next in
     let b = steps n in
     (b.1, b.2, omega (arith, (goes n).keeps, (roomy n).bytes, (turn n).loop-at.invariant.1.out_long))
 
 pub loop-at-smaller : goal.loop-at-smaller
 loop-at-smaller c =
-    let b = steps c.before.before.before.before.before.before.before.before.before in
+    let b = steps (goal.at.loop-at-smaller c).After-next_from-next in
     omega (arith, b.2, b.3)
 
 pub loop-at-preserved : goal.loop-at-preserved
 loop-at-preserved c =
-    let n = c.before.before.before.before.before.before.before.before.before in
+    let n = (goal.at.loop-at-preserved c).After-next_from-next in
     let stretched = c.put_stretch-slots.ensures in
     let recorded = c.put_record-kept.ensures in (
       rw (stretched.value, recorded.value) (goes n),

@@ -31,21 +31,21 @@ small z l = record { sfits = omega (arith, mag_abs z) }
 
 pub returns-then-buf-degree : goal.returns-then-buf-degree
 returns-then-buf-degree c = let told =
-    let g = c.before.before in
+    let g = (goal.at.returns-then-buf-degree c).After-degree_from-degree in
     let p = start g in
     let s = at_short p.args.kind p.args.n _ p.args.buf.now p.args.scratch.now
     (ask_short _ _ p.args.h _ _ p.requires.1 p.requires.2 p.requires.3 (omega (arith, degree_is g))) in
     (c.refused.ensures ∙ ap (told-only SHORT) (degree_is g) ∙ s.0, s.1) in record { value = told.0; buf_after = told.1; scratch_after = told.2 }
 
 pub overflow_mul-n : goal.overflow_mul-n
-overflow_mul-n c = omega (arith, (index_good _ (start c.before).requires.2).1)
+overflow_mul-n c = omega (arith, (index_good _ (start (goal.at.overflow_mul-n c).After-degree_from-degree).requires.2).1)
 
 pub overflow_add-n : goal.overflow_add-n
-overflow_add-n c = omega (arith, (index_good _ (start c.before).requires.2).1)
+overflow_add-n c = omega (arith, (index_good _ (start (goal.at.overflow_add-n c).After-degree_from-degree).requires.2).1)
 
 pub returns-then-scratch-n : goal.returns-then-scratch-n
 returns-then-scratch-n c = let told =
-    let g = c.before.before.before in
+    let g = (goal.at.returns-then-scratch-n c).After-degree_from-degree in
     let p = start g in
     let s = at_short p.args.kind p.args.n _ p.args.buf.now p.args.scratch.now
     (ask_scratch _ _ p.args.h _ _ p.requires.1 p.requires.2 p.requires.3 (omega (arith, degree_is g)) (omega arith)) in
@@ -53,11 +53,11 @@ returns-then-scratch-n c = let told =
 
 pub slice_bounds-make-end-2 : goal.slice_bounds-make-end-2
 slice_bounds-make-end-2 c =
-    let p = start c.before.before.before in sym (length-take-le _ p.args.buf.now (omega arith))
+    let p = start (goal.at.slice_bounds-make-end-2 c).After-degree_from-degree in sym (length-take-le _ p.args.buf.now (omega arith))
 
 pub make-made-requires : goal.make-made-requires
 make-made-requires c =
-    let g = c.before.before.before.before in
+    let g = (goal.at.make-made-requires c).After-degree_from-degree in
     let p = start g in (
       record {
         parts = p.requires.0;
@@ -72,7 +72,7 @@ make-made-requires c =
 pub returns-then-made : goal.returns-then-made
 returns-then-made c = let told =
     let m = c in
-    let g = c.before.before.before.before.before.before.before.before.before.before.before.before in
+    let g = (goal.at.returns-then-made c).After-degree_from-degree in
     let p = start g in
     let k = c.clear in
     let s = refuses p.args.kind p.args.n p.args.h p.args.buf.now p.args.scratch.now p.requires.1
@@ -83,7 +83,7 @@ returns-then-made c = let told =
 pub returns : goal.returns
 returns c = let told =
     let m = c in
-    let g = c.before.before.before.before.before.before.before.before.before.before.before.before in
+    let g = (goal.at.returns c).After-degree_from-degree in
     let p = start g in
     let k = c.clear in
     delivers p.args.kind p.args.n p.args.h p.args.buf.now p.args.scratch.now p.requires.1

@@ -41,25 +41,25 @@ known c =
 
 pub next_quotient-v-requires : goal.next_quotient-v-requires
 next_quotient-v-requires c =
-    let k = known c.before in
+    let k = known (goal.at.next_quotient-v-requires c).At-loop-i in
     (k.reach (omega (arith, k.split.len)), omega arith)
 
 pub overflow_add-i : goal.overflow_add-i
-overflow_add-i c = omega (arith, (known c.before.before.before.before.before).split.len)
+overflow_add-i c = omega (arith, (known (goal.at.overflow_add-i c).At-loop-i).split.len)
 
 pub loop-i-preserved : goal.loop-i-preserved
 loop-i-preserved c =
     λ l p.
-    let s = c.before.before.before.before.before in
+    let s = (goal.at.loop-i-preserved c).At-loop-i in
     let d = s.loop-i.invariant l p in
     next_one _ (begin s).requires l d (omega (arith, d.split.len))
     (c.put.ensures
     ∙ ap (set s.loop-i.a s.loop-i.i) (handed (wrap_fits _) c.next_quotient-v.ensures))
 
 pub shape_of-a : goal.shape_of-a
-shape_of-a c = (known c.before).split.len
+shape_of-a c = (known (goal.at.shape_of-a c).At-loop-i).split.len
 
 pub returns : goal.returns
 returns c =
-    let s = c.before in
+    let s = (goal.at.returns c).At-loop-i in
     ended (begin s).args.m (begin s).requires _ (known s) (omega (arith, (known s).split.len))

@@ -13,7 +13,7 @@ use borrow.Author.Rules.{rules}
 use Rattle.spread_products.proofs.division.divide.Given as goal
 
 abbrev pub invariant-loop-i : goal.invariant-loop-i
-invariant-loop-i l = (l : List ℤ) → DividedTo l.m l l.initial.a l.initial.i → DividedTo l.m l l.a l.i
+invariant-loop-i v = (l : List ℤ) → DividedTo v.m l v.initial.a v.initial.i → DividedTo v.m l v.a v.i
 
 abbrev pub decreases-loop-i : goal.decreases-loop-i
 decreases-loop-i l = length l.a - l.i

@@ -22,15 +22,15 @@ known : (c : At-loop-i)
 known c = c.loop-i.invariant c.requires.1.before c.requires.1.done
 
 pub overflow_add-i : goal.overflow_add-i
-overflow_add-i c = omega (arith, (known c).most, (known c).split.len)
+overflow_add-i c = omega (arith, (known (goal.at.overflow_add-i c).At-loop-i).most, (known (goal.at.overflow_add-i c).At-loop-i).split.len)
 
 pub divide_four-requires : goal.divide_four-requires
 divide_four-requires c =
-    let k = known c.before.before in
+    let k = known (goal.at.divide_four-requires c).At-loop-i in
     (k.reach (omega (arith, k.split.len)), omega arith)
 
 pub overflow_add-i-in-loop-i : goal.overflow_add-i-in-loop-i
-overflow_add-i-in-loop-i c = omega (arith, (known c.before.before.before.before).split.len)
+overflow_add-i-in-loop-i c = omega (arith, (known (goal.at.overflow_add-i-in-loop-i c).At-loop-i).split.len)
 
 pub loop-i-preserved : goal.loop-i-preserved
 loop-i-preserved c =
@@ -41,7 +41,7 @@ loop-i-preserved c =
     c.divide_four.ensures
 
 pub shape_of-a : goal.shape_of-a
-shape_of-a c = (known c.before).split.len ∙ sym c.requires.1.done.split.len
+shape_of-a c = (known (goal.at.shape_of-a c).At-loop-i).split.len ∙ sym c.requires.1.done.split.len
 
 pub returns : goal.returns
 returns c = c.loop-i.invariant

@@ -10,7 +10,7 @@ use Rattle.spread_products.proofs.Dividing.{next_four}
 use Rattle.spread_products.proofs.division.divide_fours.Given as goal
 
 abbrev pub invariant-loop-i : goal.invariant-loop-i
-invariant-loop-i l = (l : List ℤ) → DividedTo l.m l l.initial.a l.from → DividedTo l.m l l.a l.i
+invariant-loop-i v = (l : List ℤ) → DividedTo v.m l v.initial.a v.from → DividedTo v.m l v.a v.i
 
 abbrev pub decreases-loop-i : goal.decreases-loop-i
 decreases-loop-i l = length l.a - l.i

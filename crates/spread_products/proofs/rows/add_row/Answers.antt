@@ -15,7 +15,7 @@ use Rattle.spread_products.proofs.rows.add_row.Goals as goal
 pub loop-j-init : goal.loop-j-init
 loop-j-init c =
     let p = c.args in
-    (row-start p.away p.at p.g.now p.a-1.now, omega arith)
+    (row-start p.away p.at p.g.now p.a.now, omega arith)
 
 pub loop-j-preserved : goal.loop-j-preserved
 loop-j-preserved c =
@@ -23,7 +23,7 @@ loop-j-preserved c =
     let p = s.args in
     let n = s.loop-j.invariant.0.split.len in
     let r = c.read_entry-y.ensures in (
-      row_next p.away p.at p.g.now p.a-1.now s.loop-j.invariant.0 (omega
+      row_next p.away p.at p.g.now p.a.now s.loop-j.invariant.0 (omega
           (arith, s.smaller-end.ensures, s.requires))
           (c.add_at.ensures
           ∙ ap (λ v. set s.loop-j.a (p.at + s.loop-j.j) (wrap (entries s.loop-j.a (p.at + s.loop-j.j) ⊕ signed
@@ -38,4 +38,4 @@ pub returns : goal.returns
 returns c =
     let s = c in
     let p = s.args in
-    row_ends p.away p.at p.g.now p.a-1.now s.loop-j.invariant.0 (omega (arith, s.smaller-end.ensures))
+    row_ends p.away p.at p.g.now p.a.now s.loop-j.invariant.0 (omega (arith, s.smaller-end.ensures))

@@ -28,16 +28,16 @@ taken c b =
     rw c.loop-i.invariant.3 (within _ _ _ _ s.requires.0 c.smaller-terms.ensures c.loop-i.i b)
 
 pub read_entry-c-requires : goal.read_entry-c-requires
-read_entry-c-requires c = (taken c.before c.loop-i-test.true).0
+read_entry-c-requires c = (taken (goal.at.read_entry-c-requires c).At-loop-i c.loop-i-test.true).0
 
 pub add_times-requires : goal.add_times-requires
 add_times-requires c =
-    let at = c.before.before.before in
+    let at = (goal.at.add_times-requires c).At-loop-i in
     omega (arith, at.loop-i.invariant.1, (taken at c.loop-i-test.true).1)
 
 pub overflow_add-at : goal.overflow_add-at
 overflow_add-at c =
-    let at = c.before.before.before.before.before in
+    let at = (goal.at.overflow_add-at c).At-loop-i in
     omega (
       arith,
       at.loop-i.invariant.1,

@@ -77,13 +77,13 @@ module _ (q : Else-w-lt1) where
 
 pub returns-then-n-size : goal.returns-then-n-size
 returns-then-n-size c = let told =
-    let q = c.before in
+    let q = (goal.at.returns-then-n-size c).Else-w-lt1 in
     let p = start q in
     clauses (told-long p.args.w _ p.args.self.size p.args.a.now (one q) (most q) (good q) c.if-n-size.true) in record { code_value = told.0; count_value = told.1; a_after = told.2 }
 
 pub take_bounded-outcome-requires : goal.take_bounded-outcome-requires
 take_bounded-outcome-requires c =
-    let q = c.before.before.before.before in
+    let q = (goal.at.take_bounded-outcome-requires c).Else-w-lt1 in
     (one q, c.look.ensures, (limit q c.magnitude.ensures).2)
 
 -- the step was taken or not
@@ -96,7 +96,7 @@ module _ (t : After-take_bounded-outcome) where
 
 pub returns-then-outcome : goal.returns-then-outcome
 returns-then-outcome c = let told =
-    let t = c.before.before.before in
+    let t = (goal.at.returns-then-outcome c).After-take_bounded-outcome in
     let q = asked t in
     rw c.refused-then-outcome.ensures
     (clauses (over (start q).args.w (is_limit t) t.take_bounded-outcome.ensures (one q) (most q) (good q)
@@ -104,6 +104,6 @@ returns-then-outcome c = let told =
 
 pub returns : goal.returns
 returns c = let told =
-    let t = c.before.before in
+    let t = (goal.at.returns c).After-take_bounded-outcome in
     let q = asked t in
     clauses (done (start q).args.w (is_limit t) t.take_bounded-outcome.ensures (one q) (most q) (good q) c.if-outcome.false) in record { code_value = told.0; count_value = told.1; a_after = told.2 }

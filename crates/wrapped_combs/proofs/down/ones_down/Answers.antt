@@ -19,7 +19,7 @@ known c = c.loop-t.invariant c.requires.before c.requires.done
 
 pub step_one-requires : goal.step_one-requires
 step_one-requires c =
-    let p = known c.before.before in
+    let p = known (goal.at.step_one-requires c).At-loop-t in
     (omega arith, omega arith)
 
 pub loop-t-preserved : goal.loop-t-preserved
@@ -28,7 +28,7 @@ loop-t-preserved c = λ l p.
     (next_down (c.loop-t.invariant l p) _ (omega arith) (omega arith))
 
 pub shape_of-a : goal.shape_of-a
-shape_of-a c = (known c.before).split.len ∙ sym c.requires.done.split.len
+shape_of-a c = (known (goal.at.shape_of-a c).At-loop-t).split.len ∙ sym c.requires.done.split.len
 
 pub returns : goal.returns
 returns c = λ l p. ended_down (c.loop-t.invariant l p) c.loop-t-test.false

@@ -9,7 +9,7 @@ use Rattle.wrapped_combs.proofs.Passes.{next_down, ended_down}
 use Rattle.wrapped_combs.proofs.down.ones_down.Given as goal
 
 abbrev pub invariant-loop-t : goal.invariant-loop-t
-invariant-loop-t l = (l : List ℤ) → DownTo l.d l l.initial.a l.from → DownTo l.d l l.a l.t
+invariant-loop-t v = (l : List ℤ) → DownTo v.d l v.initial.a v.from → DownTo v.d l v.a v.t
 
 abbrev pub decreases-loop-t : goal.decreases-loop-t
 decreases-loop-t l = l.t

@@ -16,9 +16,9 @@ returns c =
     let v = c in
     let p = v.args in
     let r = v.wrapped_value-arg-1.given in
-    let f : SFits w64 (get_or p.a-1.now (p.k + p.q) 0ℤ) = record { sfits = r } in
-    let g : SFits w64 (get_or p.s-1.now p.q 0ℤ) = record { sfits = v.wrapped_value-arg-2-1.given } in
+    let f : SFits w64 (get_or p.a.now (p.k + p.q) 0ℤ) = record { sfits = r } in
+    let g : SFits w64 (get_or p.s.now p.q 0ℤ) = record { sfits = v.wrapped_value-arg-2-1.given } in
     let is = handed (wrap_fits _) (v.wrapped_value-v.ensures ∙ ap wrap (seen_both f g ◌⊕◌)) in (
-      c.put.ensures ∙ ap (set p.s-1.now p.q) is,
-      c.put-2.ensures ∙ ap (set p.a-1.now (p.k + p.q)) is,
+      c.put.ensures ∙ ap (set p.s.now p.q) is,
+      c.put-2.ensures ∙ ap (set p.a.now (p.k + p.q)) is,
     )

@@ -12,12 +12,12 @@ use Rattle.wrapped_steps.proofs.Sums.{entry_taken, carried_row}
 use Rattle.wrapped_steps.proofs.rows.take_row.Given as goal
 
 abbrev pub invariant-loop-q : goal.invariant-loop-q
-invariant-loop-q l =
-    (l.q ≤ l.d)
-    × (length l.s ≡ length l.initial.s)
-    × (length l.a ≡ length l.initial.a)
-    × Carried l.d l.k l.q l.s l.a
-    × ((l : List ℤ) → UpTo l.d l l.initial.a l.k → UpTo l.d l l.a (l.k + l.q))
+invariant-loop-q v =
+    (v.q ≤ v.d)
+    × (length v.s ≡ length v.initial.s)
+    × (length v.a ≡ length v.initial.a)
+    × Carried v.d v.k v.q v.s v.a
+    × ((l : List ℤ) → UpTo v.d l v.initial.a v.k → UpTo v.d l v.a (v.k + v.q))
 
 abbrev pub decreases-loop-q : goal.decreases-loop-q
 decreases-loop-q l = l.d - l.q

@@ -21,15 +21,15 @@ known c = c.loop-i.invariant c.requires.1.before c.requires.1.done
 
 pub step_one-requires : goal.step_one-requires
 step_one-requires c =
-    let p = known c.before.before in
+    let p = known (goal.at.step_one-requires c).At-loop-i in
     (omega arith, omega arith)
 
 pub overflow_add-i : goal.overflow_add-i
-overflow_add-i c = omega (arith, (known c.before.before.before.before).split.len)
+overflow_add-i c = omega (arith, (known (goal.at.overflow_add-i c).At-loop-i).split.len)
 
 pub loop-i-smaller : goal.loop-i-smaller
 loop-i-smaller c =
-    let g = c.before.before.before.before in
+    let g = (goal.at.loop-i-smaller c).At-loop-i in
     omega (arith, (known g).split.len, g.requires.1.done.split.len)
 
 pub loop-i-preserved : goal.loop-i-preserved
@@ -39,7 +39,7 @@ loop-i-preserved c = λ l p.
     rw c.step_one.ensures (next_up q g.requires.0 (omega arith))
 
 pub shape_of-a : goal.shape_of-a
-shape_of-a c = (known c.before).split.len ∙ sym c.requires.1.done.split.len
+shape_of-a c = (known (goal.at.shape_of-a c).At-loop-i).split.len ∙ sym c.requires.1.done.split.len
 
 pub returns : goal.returns
 returns c = λ l p.

@@ -11,7 +11,7 @@ use Rattle.wrapped_steps.proofs.Passes.{next_up, ended_up}
 use Rattle.wrapped_steps.proofs.up.ones_up.Given as goal
 
 abbrev pub invariant-loop-i : goal.invariant-loop-i
-invariant-loop-i l = (l : List ℤ) → UpTo l.d l l.initial.a l.from → UpTo l.d l l.a l.i
+invariant-loop-i v = (l : List ℤ) → UpTo v.d l v.initial.a v.from → UpTo v.d l v.a v.i
 
 abbrev pub decreases-loop-i : goal.decreases-loop-i
 decreases-loop-i l = length l.initial.a - l.i
