@@ -38,7 +38,7 @@ module _ (c : After-s-1) where
 pub loop-k-init : goal.loop-k-init
 loop-k-init c =
     let p = (start (goal.at.loop-k-init c).After-s-1).args in
-    group_start p.d p.c (many (goal.at.loop-k-init c).After-s-1) (some (goal.at.loop-k-init c).After-s-1) (room (goal.at.loop-k-init c).After-s-1) p.w p.a-1.now c.first_row.new.s
+    group_start p.d p.c (many (goal.at.loop-k-init c).After-s-1) (some (goal.at.loop-k-init c).After-s-1) (room (goal.at.loop-k-init c).After-s-1) p.w p.a.now c.first_row.new.s
     (omega (arith, same (goal.at.loop-k-init c).After-s-1)) (omega (arith, same (goal.at.loop-k-init c).After-s-1)) refl
     (λ j h. c.first_row.ensures j (omega (arith, same (goal.at.loop-k-init c).After-s-1)))
 
@@ -85,8 +85,8 @@ returns-then-q-s c =
     let t = c.take_row-q in
     let g = (goal.at.returns-then-q-s c).At-loop-k in
     let i = g.loop-k.invariant in
-    stopped g t.ensures.0.1 (omega (arith, i.many)) (omega (arith, i.tested.taken.len)) t.ensures.1.0
-    (λ _. (omega (arith, i.many), t.ensures.1.1 (omega arith)))
+    stopped g t.ensures.upper_bound.1 (omega (arith, i.many)) (omega (arith, i.tested.taken.len)) t.ensures.by_index_2
+    (λ _. (omega (arith, i.many), t.ensures.result_value (omega arith)))
 
 pub loop-k-smaller : goal.loop-k-smaller
 loop-k-smaller c = omega (arith, c.loop-k.invariant.most)
@@ -98,11 +98,11 @@ loop-k-preserved c =
     let e = (goal.at.loop-k-preserved c).After-s-1 in
     let p = (start e).args in
     let i = g.loop-k.invariant in
-    let whole : t.result ≡ many e = omega (arith, i.many, t.ensures.0.0) in
+    let whole : t.result ≡ many e = omega (arith, i.many, t.ensures.upper_bound.0) in
     row_ahead p.d p.c (many e) (some e) (room e) g.loop-k.k i
-    (subst (λ x. RowTaken g.loop-k.k x g.loop-k.s g.loop-k.a t.new.1.1.0 t.new.1.1.1.0) whole
-    t.ensures.0.1)
-    (omega (arith, i.many, i.tested.taken.len)) (λ j h. t.ensures.1.0 j (omega arith))
+    (subst (λ x. RowTaken g.loop-k.k x g.loop-k.s g.loop-k.a t.new.s t.new.a) whole
+    t.ensures.upper_bound.1)
+    (omega (arith, i.many, i.tested.taken.len)) (λ j h. t.ensures.by_index_2 j (omega arith))
 
 pub shape_of-s-then-a-k : goal.shape_of-s-then-a-k
 shape_of-s-then-a-k c = omega (arith, c.loop-k.invariant.many)
@@ -134,6 +134,6 @@ returns c =
     let t = c.take_row in
     let g = (goal.at.returns c).At-loop-k in
     let i = g.loop-k.invariant in
-    stopped g t.ensures.0.1 (omega (arith, i.many, t.ensures.0.0))
-    (omega (arith, i.tested.taken.len, t.ensures.0.0)) t.ensures.1.0
-    (λ short. (omega (arith, i.many, i.tested.taken.len), t.ensures.1.1 (omega (arith, i.tested.taken.len))))
+    stopped g t.ensures.upper_bound.1 (omega (arith, i.many, t.ensures.upper_bound.0))
+    (omega (arith, i.tested.taken.len, t.ensures.upper_bound.0)) t.ensures.by_index_2
+    (λ short. (omega (arith, i.many, i.tested.taken.len), t.ensures.result_value (omega (arith, i.tested.taken.len))))

@@ -70,7 +70,7 @@ returns c = let n = c in
     let is = handed (value_fits e) (n.new_value-v.ensures ∙ sum (goal.at.returns c).After-read_entry-y) in record {
       value = (sym (inside e), x_fits (goal.at.returns c).After-read_entry-y);
       s_after = (
-        c.put.ensures ∙ ap (set q.s-1.now q.q) is,
-        c.put-2.ensures ∙ ap (set q.a-1.now (q.k + q.q)) is,
+        c.put.ensures ∙ ap (set q.s.now q.q) is,
+        c.put-2.ensures ∙ ap (set q.a.now (q.k + q.q)) is,
       );
     }

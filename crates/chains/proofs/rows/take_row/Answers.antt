@@ -29,8 +29,12 @@ none : (c : Then-m-q) → c.loop-q.q < c.args.m → ⊥
 none c short = omega arith
 
 pub returns-then-m-q : goal.returns-then-m-q
-returns-then-m-q c = let told =
-    let i = c.loop-q.invariant in ((i.0, i.1), (i.2, λ short. absurd (none (goal.at.returns-then-m-q c).Then-m-q short))) in record { upper_bound = told.0; by_index_2 = told.1; result_value = told.2 }
+returns-then-m-q c =
+    let i = c.loop-q.invariant in record {
+      upper_bound = (i.0, i.1);
+      by_index_2 = i.2;
+      result_value = λ short. absurd (none (goal.at.returns-then-m-q c).Then-m-q short);
+    }
 
 pub take_entry-requires : goal.take_entry-requires
 take_entry-requires c =
@@ -50,19 +54,20 @@ pub shape_of-a-then-not-take_entry : goal.shape_of-a-then-not-take_entry
 shape_of-a-then-not-take_entry c = omega (arith, c.loop-q.invariant.1.len)
 
 pub returns-then-not-take_entry : goal.returns-then-not-take_entry
-returns-then-not-take_entry c = let told =
+returns-then-not-take_entry c =
     let t = c.take_entry in
     let g = c in
     let i = g.loop-q.invariant in
     let r = i.1 in
-    let no = c.if-not-take_entry.true in (
-      (
+    let no = c.if-not-take_entry.true in record {
+      upper_bound = (
         i.0,
-        row-left r (omega (arith, r.sums)) (omega (arith, r.len)) t.result t.ensures.1.0
-            t.ensures.1.1 no,
-      ),
-      (i.2, λ _. next-told r g.args.w t.ensures.0.0 no),
-    ) in record { upper_bound = told.0; by_index_2 = told.1; result_value = told.2 }
+        row-left r (omega (arith, r.sums)) (omega (arith, r.len)) t.result t.ensures.s_after.0
+            t.ensures.s_after.1 no,
+      );
+      by_index_2 = i.2;
+      result_value = λ _. next-told r g.args.w t.ensures.value.0 no;
+    }
 
 pub loop-q-preserved : goal.loop-q-preserved
 loop-q-preserved c =
@@ -72,14 +77,14 @@ loop-q-preserved c =
     let r = g.loop-q.invariant.1 in
     let yes : t.result ≡ true = c.if-not-take_entry.false in (
       omega arith,
-      row_took r (omega (arith, r.sums)) (omega (arith, r.len)) t.result t.ensures.1.0 t.ensures.1.1 yes,
+      row_took r (omega (arith, r.sums)) (omega (arith, r.len)) t.result t.ensures.s_after.0 t.ensures.s_after.1 yes,
       λ j h.
           by_order j g.loop-q.q (g.loop-q.invariant.2 j)
           (λ high.
           let same : g.loop-q.q ≡ j = omega arith in
           subst (FoundInRow p.w p.s.now p.a.now p.k) same (
-            next-told r p.w t.ensures.0.0 yes,
-            rw (next-old r) at t.ensures.0.1,
+            next-told r p.w t.ensures.value.0 yes,
+            rw (next-old r) at t.ensures.value.1,
           )),
     )
 
@@ -93,5 +98,9 @@ ended : (c : After-loop-q) → c.loop-q.q < c.args.m → ⊥
 ended c short = omega (arith, c.loop-q.invariant.1.sums)
 
 pub returns : goal.returns
-returns c = let told =
-    let i = c.loop-q.invariant in ((i.0, i.1), (i.2, λ short. absurd (ended (goal.at.returns c).After-loop-q short))) in record { upper_bound = told.0; by_index_2 = told.1; result_value = told.2 }
+returns c =
+    let i = c.loop-q.invariant in record {
+      upper_bound = (i.0, i.1);
+      by_index_2 = i.2;
+      result_value = λ short. absurd (ended (goal.at.returns c).After-loop-q short);
+    }
