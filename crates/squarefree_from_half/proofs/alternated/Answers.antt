@@ -3,7 +3,6 @@ use Prim.Native.Nat.{◌+◌}
 use native.Mathlib.Omega.{arith}
 use Rattle.definitions.specs.Polynomials.{degree, polynomial}
 use Rattle.squarefree_from_half.proofs.Growing.{all_inside, front_entry, front_length, alternated}
-use borrow.Author.Rules.{rules}
 use Rattle.squarefree_from_half.proofs.alternated.Goals as goal
 
 pub alternate-requires : goal.alternate-requires

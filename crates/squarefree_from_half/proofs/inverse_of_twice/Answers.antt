@@ -6,7 +6,6 @@ use lib.Seq.{length-take-le}
 use Rattle.definitions.specs.Series.{firsts}
 use Rattle.definitions.specs.Polynomials.{I}
 use Rattle.squarefree_from_half.proofs.Growing.{lower-front, copy-front}
-use borrow.Author.Rules.{rules}
 use Rattle.squarefree_from_half.proofs.inverse_of_twice.Goals as goal
 
 pub slice_bounds-alternated-end-2 : goal.slice_bounds-alternated-end-2

@@ -10,7 +10,6 @@ use Rattle.definitions.specs.Polynomials.{degree, polynomial}
 use Rattle.step_laws.specs.Firsts.{firsts_same}
 use Rattle.definitions.specs.Halves.{mirrored_up}
 use Rattle.squarefree_from_half.proofs.Growing.{half-number, mirror_grows}
-use borrow.Author.Rules.{rules}
 use Rattle.squarefree_from_half.proofs.mirrored.Goals as goal
 
 pub mirror-requires : goal.mirror-requires

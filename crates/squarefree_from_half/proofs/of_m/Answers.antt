@@ -1,7 +1,5 @@
 -- `of_m` meets its contract, by parity and kind (Even).
-use borrow.Author.Rules.{rules}
 use native.Mathlib.Omega.{arith}
-use borrow.Author.Tests.{not-true, not-false}
 use Rattle.numbers.specs.Phi.{phi-le}
 use Rattle.numbers.specs.Tests.{kind_two}
 use Rattle.squarefree_from_half.proofs.Even.{odd_length, odd_grown, F-length}

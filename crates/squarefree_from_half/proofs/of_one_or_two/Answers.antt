@@ -1,10 +1,8 @@
 -- `of_one_or_two` meets its contract: the first and the last coefficient are all (Even).
-use Prim.Native.Nat.{◌-◌}
 use mathlib.Core.Path.{◌∙◌, ap}
 use native.Mathlib.Omega.{arith}
 use lib.ListN.{length-set}
 use Rattle.squarefree_from_half.proofs.Even.{tiny-whole, first-seen}
-use borrow.Author.Rules.{rules}
 use Rattle.squarefree_from_half.proofs.of_one_or_two.Goals as goal
 
 pub slice_set_of-a : goal.slice_set_of-a

@@ -1,5 +1,4 @@
 -- `second_copy` meets its contract: zeros up to r, and the second copy (Growing).
-use Prim.Native.Nat.{◌-◌}
 use mathlib.Core.Path.{◌∙◌, ap}
 use native.Mathlib.Omega.{arith}
 use borrow.Rule.Slice.PartMut.{mid_len}
