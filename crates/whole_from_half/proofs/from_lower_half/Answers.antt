@@ -10,7 +10,6 @@ use Rattle.index.proofs.Laws.{r_small}
 use Rattle.squarefree_from_half.specs.Growth.{Lower}
 use Rattle.squarefree_from_half.proofs.Growing.{lower-front}
 use Rattle.whole_from_half.proofs.Laying.{LaidOut, laid_out, r_is, free_is, m_by_parity}
-use borrow.Author.Rules.{rules}
 use Rattle.whole_from_half.proofs.from_lower_half.Goals as goal
 use Rattle.whole_from_half.proofs.from_lower_half.Goals.{After-degree_from-top, Start}
 

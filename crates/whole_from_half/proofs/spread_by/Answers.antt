@@ -5,7 +5,6 @@ use Rattle.definitions.specs.Series.{firsts, spread}
 use Rattle.definitions.specs.Steps.{entries}
 use Rattle.series.specs.Maps.{spread-one}
 use Rattle.step_laws.specs.Firsts.{firsts-entries}
-use borrow.Author.Rules.{rules}
 use Rattle.whole_from_half.proofs.spread_by.Goals as goal
 
 pub returns-then-t-eq1 : goal.returns-then-t-eq1

@@ -6,7 +6,6 @@ use native.Mathlib.Omega.{arith}
 use lib.Dec.{eqb}
 use Rattle.definitions.specs.Numbers.{m_of}
 use Rattle.whole_from_half.proofs.Laying.{LaidOut, laid_out, tiny_m}
-use borrow.Author.Rules.{rules}
 use Rattle.whole_from_half.proofs.without_steps.Goals as goal
 use Rattle.whole_from_half.proofs.without_steps.Goals.{After-degree_from-top, Start}
 
