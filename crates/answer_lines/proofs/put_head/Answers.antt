@@ -15,7 +15,7 @@ returns c = let colon-put = c.before.before in
     let letter-put = code-Put.before.before.before.before in
     let s = letter-put.before.before.before.before in
     let first = rw letter-put.letter_of.ensures at letter-put.put-p.ensures in
-    let told = gain-put.type_inv.a in
+    let told : ? = c.struct_told-1 in
     let gain = rw (to_z-of_z {w = w64} {z = s.args.a.gain} (record { sfits = told.1.1.1.1.1.0.1 })) at
     gain-put.put_signed-p.ensures.puts in record {
       puts = put_headed s.args.kind s.args.n s.args.a first code-Put.put_three-p.ensures.puts

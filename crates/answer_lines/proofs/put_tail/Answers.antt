@@ -29,7 +29,7 @@ returns-then-code-eq-DONE c =
     let last = c.put.ensures in
     record {
       puts = rw (eq-eqb _ _ c.if-code-eq-DONE.true) (then c.put_coefficients-p.ensures.puts last);
-      upper_bound = rw (eq-eqb _ _ c.if-code-eq-DONE.true) (omega (arith, c.put_coefficients-p.ensures.upper_bound, last.place));
+      upper_bound = omega (arith, c.put_coefficients-p.ensures.upper_bound, last.place);
     }
 
 pub returns : goal.returns
@@ -38,5 +38,5 @@ returns c =
     let last = c.put-2.ensures in
     record {
       puts = rw (ne_eqb _ _ c.if-code-eq-DONE.false) (last);
-      upper_bound = rw (ne_eqb _ _ c.if-code-eq-DONE.false) (omega (arith, last.place));
+      upper_bound = omega (arith, last.place);
     }

@@ -7,7 +7,7 @@ use Rattle.line_so_far.proofs.heading.Goals as goal
 pub returns-then-out-lt12 : goal.returns-then-out-lt12
 returns-then-out-lt12 c = record {
   puts = rw (lt-ltb _ 12 c.if-out-lt12.true) (nothing_put 0 c.args.out.now);
-  upper_bound = rw (lt-ltb _ 12 c.if-out-lt12.true) (omega arith);
+  upper_bound = omega arith;
 }
 
 pub returns : goal.returns
@@ -16,5 +16,5 @@ returns c =
     let put = c.put_text.ensures in
     record {
       puts = rw (le-ltb _ 12 c.if-out-lt12.false) (put);
-      upper_bound = rw (le-ltb _ 12 c.if-out-lt12.false) (omega (arith, put.place));
+      upper_bound = omega (arith, put.place);
     }
