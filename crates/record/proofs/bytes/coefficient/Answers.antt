@@ -14,5 +14,5 @@ signed_of-requires c =
 
 pub returns : goal.returns
 returns c =
-    passed c.Signed-of.result c.Signed-of.type-inv ∙ c.Signed-of.ensures
+    passed c.signed_of.result c.signed_of.type_inv ∙ c.signed_of.ensures
     ∙ ap (signed_of c.args.w) c.get.ensures.0

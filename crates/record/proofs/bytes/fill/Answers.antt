@@ -20,7 +20,7 @@ coefficient-c-requires c =
     )
 
 pub offset_bounds-coeffs-i : goal.offset_bounds-coeffs-i
-offset_bounds-coeffs-i c = omega (arith, c.before.before.before.before.well-formed)
+offset_bounds-coeffs-i c = omega (arith, c.well_formed)
 
 pub overflow_add-at : goal.overflow_add-at
 overflow_add-at c =
