@@ -4,7 +4,7 @@ use Prim.Native.Nat.{ℕ, zero, suc, ◌+◌, ◌-◌, ◌<◌, ◌≤◌, ◌^�
 use mathlib.Core.Path.{◌≡◌, refl, sym, ◌∙◌}
 use mathlib.Core.Bool.{true, true≢false}
 use native.Mathlib.Omega.{arith}
-use borrow.Author.Tests.{lt-ltb, le-ltb}
+use borrow.Author.Tests.{lt-ltb, le-ltb, le-leb}
 use lib.Bits.{bit_or}
 use lib.IntN.{ℤ, pos, negsuc, nat_abs, ◌+ℤ◌, ◌-ℤ◌}
 use lib.Signed.{le_z}
@@ -25,6 +25,9 @@ Unsigned g = g < 2 ^ 63
 pub unsigned_test : (g : ℕ) → le_z (pos 0) (to_z w64 g) ≡ true → Unsigned g
 unsigned_test g e =
     by_order g (2 ^ 63) (λ l. l) (λ l. absurd (true≢false (sym e ∙ rw (le-ltb g (2 ^ 63) l) refl)))
+
+pub unsigned_tested : (g : ℕ) → Unsigned g → le_z (pos 0) (to_z w64 g) ≡ true
+unsigned_tested g u = rw (to_z_pos w64 u) (le-leb 0 g (omega arith))
 
 pub unsigned_both : (a b : ℕ) → Unsigned (bit_or a b) → Unsigned a × Unsigned b
 unsigned_both a b u = (omega (arith, (or_above a b).0), omega (arith, (or_above a b).1))

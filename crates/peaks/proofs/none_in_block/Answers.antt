@@ -10,7 +10,7 @@ use Rattle.step_laws.specs.Machine.{limit_fits}
 use Rattle.heights.specs.Above.{NoneAbove}
 use Rattle.heights.proofs.Looks.{none_more}
 use Rattle.entry_steps.specs.Passes.{addable}
-use Rattle.peaks.proofs.Gathers.{Unsigned, unsigned_test, unsigned_both, both_unsigned}
+use Rattle.peaks.proofs.Gathers.{Unsigned, unsigned_test, unsigned_tested, unsigned_both, both_unsigned}
 use Rattle.peaks.proofs.Gathers.{difference_fits, sum_fits}
 use Rattle.peaks.proofs.none_in_block.Goals as goal
 use Rattle.peaks.proofs.none_in_block.Goals.{After-x-1, Start}
@@ -43,10 +43,10 @@ pub loop-q-preserved : goal.loop-q-preserved
 loop-q-preserved c = (
   omega arith,
   λ u.
-      let (others, above) = unsigned_both _ _ u in
+      let (others, above) = unsigned_both _ _ (unsigned_test _ u) in
       let (before, below) = unsigned_both _ _ others in
       subst (NoneAbove (p (goal.at.loop-q-preserved c).After-x-1).args.h (p (goal.at.loop-q-preserved c).After-x-1).args.coeffs.now (p (goal.at.loop-q-preserved c).After-x-1).args.i) (omega arith)
-      (none_more (c.loop-q.invariant.1 before)
+      (none_more (c.loop-q.invariant.1 (unsigned_tested _ before))
       (both_unsigned (p (goal.at.loop-q-preserved c).After-x-1).args.h (x (goal.at.loop-q-preserved c).After-x-1) (p (goal.at.loop-q-preserved c).After-x-1).requires.1 (small (goal.at.loop-q-preserved c).After-x-1) below above)),
 )
 
@@ -54,4 +54,4 @@ pub returns : goal.returns
 returns c = λ e.
     let q = c.loop-q in
     let a = c.args in
-    subst (NoneAbove a.h a.coeffs.now a.i) (omega arith) (q.invariant.1 (unsigned_test q.gathered e))
+    subst (NoneAbove a.h a.coeffs.now a.i) (omega arith) (q.invariant.1 e)
