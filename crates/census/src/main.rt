@@ -11,17 +11,16 @@ ghost use Rattle.io.specs.Counts.{IsPrefixLen};
 ghost use Rattle.census_lines.specs.Printed.{printed};
 
 use census_lines::MOST;
-use libc::{STDIN_FILENO, STDOUT_FILENO};
 use streams::Got;
 
 // Reads until there is a newline, or the input ends, or the buffer is full: no more is looked at. A terminal hands over
 // a line of at most 4,096 bytes, so all of it is read, and none is left for the shell.
-fn read_first_line(input: &mut [u8]) -> Got
+fn read_first_line(rt: &HostRuntime, input: &mut [u8]) -> Got
     ensures { IsPrefixLen result.count input.new }
 {
     let mut at = 0;
     while at < input.len() {
-        let got = streams::read_more(STDIN_FILENO, input, at);
+        let got = streams::read_more(&mut rt.stdin(), input, at);
         let n = got.count;
         if n == 0 {
             return Got {
@@ -44,11 +43,12 @@ fn read_first_line(input: &mut [u8]) -> Got
 }
 
 // Hands a text to a write: all that is printed for an input, which is there for the contract alone.
-fn write_reply(input: &[u8], text: &[u8])
+fn write_reply(rt: &HostRuntime, input: &[u8], text: &[u8])
     requires { text.now ≡ printed input.now }
 {
-    if !streams::write_whole(STDOUT_FILENO, text) {
+    if !streams::write_whole(&mut rt.stdout(), text) {
         streams::say(
+            rt,
             b"census: writing failed, of",
             text.len() as u64,
             b" bytes not all are written\n",
@@ -56,23 +56,24 @@ fn write_reply(input: &[u8], text: &[u8])
     }
 }
 
-fn answer(input: &[u8]) {
+fn answer(rt: &HostRuntime, input: &[u8]) {
     let mut out = [0u8; MOST];
     let made = census_lines::answer_input(input, &mut out);
-    write_reply(input, &out[..made]);
+    write_reply(rt, input, &out[..made]);
 }
 
-fn main() {
+fn main(rt: HostRuntime) {
     let mut input = [0u8; 4096];
-    let got = read_first_line(&mut input);
+    let got = read_first_line(&rt, &mut input);
     let n = got.count;
     if got.failed {
         streams::say(
+            &rt,
             b"census: reading failed after",
             n as u64,
             b" bytes, nothing is written\n",
         );
         return;
     }
-    answer(&input[..n]);
+    answer(&rt, &input[..n]);
 }

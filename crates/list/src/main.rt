@@ -14,7 +14,6 @@ ghost use Rattle.listing.specs.Stream.{after};
 ghost use Rattle.list.specs.Handed.{handed};
 ghost use Rattle.list.specs.Went.{Took, Ended, Listed};
 
-use libc::{STDIN_FILENO, STDOUT_FILENO};
 use listing::Line;
 use streams::Got;
 
@@ -33,8 +32,9 @@ struct Going {
 
 // Which of the two failed, and how many input lines were taken by then: each whose newline a run has passed, and a last
 // line without one once the input has ended and it is listed. They count whether or not their answers were written.
-fn say_failed(what: &[u8; 26], line: Line) {
+fn say_failed(rt: &HostRuntime, what: &[u8; 26], line: Line) {
     streams::say(
+        rt,
         what,
         std::num::wrapping_sub_u64(line.number, 1),
         b" input lines\n",
@@ -44,19 +44,19 @@ fn say_failed(what: &[u8; 26], line: Line) {
 // Hands a text to a write. It is all that the bytes `taken` print after `line` (before the first byte, the heading),
 // and `next` is the line that they leave open: `line` and `taken` are there for the contract alone, which no caller
 // meets that hands over less, or anything else.
-fn write_made(line: Line, taken: &[u8], text: &[u8], next: Line) -> bool
+fn write_made(rt: &HostRuntime, line: Line, taken: &[u8], text: &[u8], next: Line) -> bool
     requires text_value { text.now ≡ handed line taken.now }
     requires next_value { next ≡ after line taken.now }
 {
-    if streams::write_whole(STDOUT_FILENO, text) {
+    if streams::write_whole(&mut rt.stdout(), text) {
         return true;
     }
-    say_failed(&WRITING, next);
+    say_failed(rt, &WRITING, next);
     false
 }
 
 // One run over a piece, and what it made.
-fn list_some(line: Line, piece: &[u8], out: &mut [u8]) -> Going
+fn list_some(rt: &HostRuntime, line: Line, piece: &[u8], out: &mut [u8]) -> Going
     requires in_bounds { MOST ≤ length out.old }
     requires piece_nonzero { 0 < length piece.now }
     ensures took { Took line piece.now result }
@@ -66,7 +66,7 @@ fn list_some(line: Line, piece: &[u8], out: &mut [u8]) -> Going
     let next = p.line;
     let taken = p.taken;
     let made = p.made;
-    let on = write_made(line, &piece[..taken], &out[..made], next);
+    let on = write_made(rt, line, &piece[..taken], &out[..made], next);
     Going {
         line: next,
         taken: taken,
@@ -75,7 +75,7 @@ fn list_some(line: Line, piece: &[u8], out: &mut [u8]) -> Going
 }
 
 // Lists a piece of the input, as much of it at a time as there is room for. Where it goes on, all of it was taken.
-fn list_piece(line: Line, piece: &[u8], out: &mut [u8]) -> Going
+fn list_piece(rt: &HostRuntime, line: Line, piece: &[u8], out: &mut [u8]) -> Going
     requires { MOST ≤ length out.old }
     ensures took { Took line piece.now result }
     ensures taken_value { result.on ≡ true → result.taken ≡ length piece.now }
@@ -84,7 +84,7 @@ fn list_piece(line: Line, piece: &[u8], out: &mut [u8]) -> Going
     let mut from = 0;
     while from < piece.len() {
         let rest = &piece[from..];
-        let g = list_some(s, rest, out);
+        let g = list_some(rt, s, rest, out);
         s = g.line;
         from += g.taken;
         if !g.on {
@@ -104,12 +104,12 @@ fn list_piece(line: Line, piece: &[u8], out: &mut [u8]) -> Going
 
 // Where a read gave nothing: it failed, or the input has ended, and a last line without a newline is listed as if it
 // had one.
-fn list_end(line: Line, failed: bool, out: &mut [u8]) -> Going
+fn list_end(rt: &HostRuntime, line: Line, failed: bool, out: &mut [u8]) -> Going
     requires { MOST ≤ length out.old }
     ensures { Ended line failed result }
 {
     if failed {
-        say_failed(&READING, line);
+        say_failed(rt, &READING, line);
         return Going {
             line: line,
             taken: 0,
@@ -124,7 +124,7 @@ fn list_end(line: Line, failed: bool, out: &mut [u8]) -> Going
             on: false,
         };
     }
-    let g = list_some(line, b"\n", out);
+    let g = list_some(rt, line, b"\n", out);
     let next = g.line;
     Going {
         line: next,
@@ -134,29 +134,29 @@ fn list_end(line: Line, failed: bool, out: &mut [u8]) -> Going
 }
 
 // Lists what a read gave, all of it.
-fn list_read(line: Line, got: Got, chunk: &[u8], out: &mut [u8]) -> Going
+fn list_read(rt: &HostRuntime, line: Line, got: Got, chunk: &[u8], out: &mut [u8]) -> Going
     requires in_bounds { MOST ≤ length out.old }
     requires prefix_len { IsPrefixLen got.count chunk.now }
     ensures { Listed line got chunk.now result }
 {
     let n = got.count;
     if n == 0 {
-        return list_end(line, got.failed, out);
+        return list_end(rt, line, got.failed, out);
     }
-    list_piece(line, &chunk[..n], out)
+    list_piece(rt, line, &chunk[..n], out)
 }
 
 // Reads and lists to the end of the input. A proved loop has to end, so it counts its turns down, from a number that no
 // run uses up. What the reads gave has no name in a contract: that each turn begins with the line that the one before
 // left open, and the first with a new one, is read here and run.
-fn list_all(chunk: &mut [u8], out: &mut [u8])
+fn list_all(rt: &HostRuntime, chunk: &mut [u8], out: &mut [u8])
     requires { MOST ≤ length out.old }
 {
     let mut line = listing::start();
     let mut turns = u64::MAX;
     while turns > 0 {
-        let got = streams::read_some(STDIN_FILENO, chunk);
-        let g = list_read(line, got, chunk, out);
+        let got = streams::read_some(&mut rt.stdin(), chunk);
+        let g = list_read(rt, line, got, chunk, out);
         line = g.line;
         if !g.on {
             return;
@@ -173,12 +173,12 @@ fn large() -> [u8; 131072]
     [0; 131072]
 }
 
-fn main() {
+fn main(rt: HostRuntime) {
     let mut chunk = io::large_buffer();
     let mut out = large();
     let n = listing::heading(&mut out);
     let line = listing::start();
-    if write_made(line, b"", &out[..n], line) {
-        list_all(&mut chunk, &mut out);
+    if write_made(&rt, line, b"", &out[..n], line) {
+        list_all(&rt, &mut chunk, &mut out);
     }
 }

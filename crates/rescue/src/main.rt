@@ -13,7 +13,6 @@ ghost use Rattle.text.specs.Puts.{Puts};
 ghost use Rattle.rescuing.specs.Rescue.{kept, listed};
 ghost use Rattle.rescue.specs.Lines.{line_of, Stretch};
 
-use libc::{STDERR_FILENO, STDIN_FILENO, STDOUT_FILENO};
 use streams::Got;
 use text::{put_item, put_number, put_text};
 
@@ -23,12 +22,12 @@ const MOST: usize = 2000000;
 const NOTHING: [u8; 27] = *b" bytes, nothing is written\n";
 
 // Reads to the end of the input, or until the buffer is full.
-fn read_all(shelf: &mut [u8]) -> Got
+fn read_all(rt: &HostRuntime, shelf: &mut [u8]) -> Got
     ensures { IsPrefixLen result.count shelf.new }
 {
     let mut at = 0;
     while at < shelf.len() {
-        let got = streams::read_more(STDIN_FILENO, shelf, at);
+        let got = streams::read_more(&mut rt.stdin(), shelf, at);
         let n = got.count;
         if n == 0 {
             return Got {
@@ -45,13 +44,14 @@ fn read_all(shelf: &mut [u8]) -> Got
 }
 
 // Hands a text to a write: all that is kept of a shelf, which is there for the contract alone.
-fn write_kept(shelf: &[u8], text: &[u8]) -> bool
+fn write_kept(rt: &HostRuntime, shelf: &[u8], text: &[u8]) -> bool
     requires { text.now ≡ kept shelf.now }
 {
-    if streams::write_whole(STDOUT_FILENO, text) {
+    if streams::write_whole(&mut rt.stdout(), text) {
         return true;
     }
     streams::say(
+        rt,
         b"rescue: writing failed, of",
         text.len() as u64,
         b" bytes not all are written\n",
@@ -71,24 +71,24 @@ fn put_stretch(line: &mut [u8], start: u64, size: u64) -> usize
 }
 
 // Hands a text to a write: the line of stretch i of a shelf, all of which is there for the contract alone.
-fn write_line(shelf: &[u8], i: usize, start: u64, size: u64, text: &[u8]) -> bool
+fn write_line(rt: &HostRuntime, shelf: &[u8], i: usize, start: u64, size: u64, text: &[u8]) -> bool
     requires stretch { Stretch shelf.now i start size }
     requires text_value { text.now ≡ line_of start size }
 {
-    streams::write_whole(STDERR_FILENO, text)
+    streams::write_whole(&mut rt.stderr(), text)
 }
 
 // Says one stretch, in one write.
-fn say_stretch(shelf: &[u8], i: usize, start: u64, size: u64) -> bool
+fn say_stretch(rt: &HostRuntime, shelf: &[u8], i: usize, start: u64, size: u64) -> bool
     requires { Stretch shelf.now i start size }
 {
     let mut line = [0u8; 64];
     let n = put_stretch(&mut line, start, size);
-    write_line(shelf, i, start, size, &line[..n])
+    write_line(rt, shelf, i, start, size, &line[..n])
 }
 
 // Says all stretches, in order. Where a line can't be written nothing more can be done.
-fn say_stretches(shelf: &[u8], list: &[u64], count: usize)
+fn say_stretches(rt: &HostRuntime, shelf: &[u8], list: &[u64], count: usize)
     requires count_in_bounds { 2 * count ≤ length list.now }
     requires list_value { take (2 * count) list.now ≡ listed shelf.now }
 {
@@ -96,7 +96,7 @@ fn say_stretches(shelf: &[u8], list: &[u64], count: usize)
     while i < count {
         let start = list[2 * i];
         let size = list[2 * i + 1];
-        if !say_stretch(shelf, i, start, size) {
+        if !say_stretch(rt, shelf, i, start, size) {
             return;
         }
         i += 1;
@@ -124,7 +124,7 @@ fn coefficient_room() -> [i64; 65536]
 }
 
 // Rescues what was read. The rooms are so large for it that SHORT can't be met.
-fn rescue_read(shelf: &[u8])
+fn rescue_read(rt: &HostRuntime, shelf: &[u8])
     requires { length shelf.now ≤ 2000000 }
 {
     let mut out = byte_room();
@@ -132,22 +132,22 @@ fn rescue_read(shelf: &[u8])
     let mut coeffs = coefficient_room();
     let rescued = rescuing::rescue(shelf, &mut out, &mut list, &mut coeffs);
     let kept = rescued.kept as usize;
-    if write_kept(shelf, &out[..kept]) {
-        say_stretches(shelf, &list, rescued.stretches as usize);
+    if write_kept(rt, shelf, &out[..kept]) {
+        say_stretches(rt, shelf, &list, rescued.stretches as usize);
     }
 }
 
-fn main() {
+fn main(rt: HostRuntime) {
     let mut shelf = byte_room();
-    let got = read_all(&mut shelf);
+    let got = read_all(&rt, &mut shelf);
     let n = got.count;
     if got.failed {
-        streams::say(b"rescue: reading failed after", n as u64, &NOTHING);
+        streams::say(&rt, b"rescue: reading failed after", n as u64, &NOTHING);
         return;
     }
     if n > MOST {
-        streams::say(b"rescue: more than", MOST as u64, &NOTHING);
+        streams::say(&rt, b"rescue: more than", MOST as u64, &NOTHING);
         return;
     }
-    rescue_read(&shelf[..n]);
+    rescue_read(&rt, &shelf[..n]);
 }

@@ -9,7 +9,7 @@ ghost use Rattle.io.specs.Counts.{IsPrefixLen};
 ghost use Rattle.text.specs.Text.{spaced};
 ghost use Rattle.text.specs.Puts.{Puts};
 
-use libc::{EINTR, STDERR_FILENO};
+use std::io::{Error, ErrorKind, Read, Write};
 use text::{put_item, put_text};
 
 // What a read gave: so many bytes at the start of the chunk, none at the end of the input or where it failed.
@@ -19,25 +19,29 @@ pub struct Got {
     pub failed: bool,
 }
 
-// Whether the call that has just given this answer was interrupted before it moved a byte.
-fn interrupted(answer: isize) -> bool {
-    answer < 0 && os::errno() == EINTR
+// Whether a signal interrupted the call before it moved a byte.
+fn interrupted(e: &Error) -> bool {
+    e.kind() == ErrorKind::Interrupted
 }
 
-// One read. A proved loop has to end, so it counts its turns down, from a number that no run uses up.
-pub fn read_some(fd: i32, chunk: &mut [u8]) -> Got
+// One read. A proved loop has to end, so it counts its turns, up to a number that no run comes to.
+pub fn read_some<R: Read>(from: &mut R, chunk: &mut [u8]) -> Got
     ensures { IsPrefixLen result.count chunk.new }
 {
-    let mut turns = u64::MAX;
-    while turns > 0 {
-        let answer = libc::read(fd, chunk);
-        if !interrupted(answer) {
-            return Got {
-                count: io::count(answer, chunk),
-                failed: answer < 0,
-            };
+    for _ in 0..u64::MAX {
+        match from.read(chunk) {
+            Ok(n) => {
+                return Got {
+                    count: n,
+                    failed: false,
+                };
+            }
+            Err(e) => {
+                if !interrupted(&e) {
+                    break;
+                }
+            }
         }
-        turns -= 1;
     }
     Got {
         count: 0,
@@ -46,35 +50,37 @@ pub fn read_some(fd: i32, chunk: &mut [u8]) -> Got
 }
 
 // One read, to where the ones before have come. What they gave stays.
-pub fn read_more(fd: i32, buffer: &mut [u8], at: usize) -> Got
+pub fn read_more<R: Read>(from: &mut R, buffer: &mut [u8], at: usize) -> Got
     requires { at ≤ length buffer.old }
     ensures count_in_bounds { at + result.count ≤ length buffer.new }
     ensures buffer_unchanged { take at buffer.new ≡ take at buffer.old }
 {
-    read_some(fd, &mut buffer[at..])
+    read_some(from, &mut buffer[at..])
 }
 
 // One write: how many bytes it took, none where it failed.
-fn write_some(fd: i32, bytes: &[u8]) -> usize
+fn write_some<W: Write>(to: &mut W, bytes: &[u8]) -> usize
     ensures { result ≤ length bytes.now }
 {
-    let mut turns = u64::MAX;
-    while turns > 0 {
-        let answer = libc::write(fd, bytes);
-        if !interrupted(answer) {
-            return io::count(answer, bytes);
+    for _ in 0..u64::MAX {
+        match to.write(bytes) {
+            Ok(n) => return n,
+            Err(e) => {
+                if !interrupted(&e) {
+                    break;
+                }
+            }
         }
-        turns -= 1;
     }
     0
 }
 
 // All of the bytes: true only where the counts that the writes answered add up to their number; false where a write
 // failed or took nothing, when a part may have been written. Those counts have no name in a contract, so it has none.
-pub fn write_whole(fd: i32, bytes: &[u8]) -> bool {
+pub fn write_whole<W: Write>(to: &mut W, bytes: &[u8]) -> bool {
     let mut done = 0;
     while done < bytes.len() {
-        let n = write_some(fd, &bytes[done..]);
+        let n = write_some(to, &bytes[done..]);
         if n == 0 {
             return false;
         }
@@ -96,10 +102,10 @@ fn put_line(out: &mut [u8], before: &[u8], count: u64, after: &[u8]) -> usize
 }
 
 // The same to standard error, in one write. Where that fails too, nothing more can be done.
-pub fn say(before: &[u8], count: u64, after: &[u8])
+pub fn say(rt: &HostRuntime, before: &[u8], count: u64, after: &[u8])
     requires { length before.now + 21 + length after.now ≤ 128 }
 {
     let mut line = [0u8; 128];
     let n = put_line(&mut line, before, count, after);
-    write_whole(STDERR_FILENO, &line[..n]);
+    write_whole(&mut rt.stderr(), &line[..n]);
 }

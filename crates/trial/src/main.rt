@@ -8,8 +8,11 @@
 
 ghost use Rattle.std.specs.Prelude.{◌≡◌, length};
 
-use libc::{STDIN_FILENO, STDOUT_FILENO};
 use trial_lines::Row;
+use trial_output::STDOUT;
+
+// Standard input.
+const STDIN: i32 = 0;
 
 // A door of two buffers, one of half records, the one of a rescue, of a response or of a census, or one of one buffer.
 fn ask(
@@ -57,7 +60,7 @@ fn answer(line: &[u8], buf: &mut [i64], scratch: &mut [i64], space: &mut [u8]) {
             &mut space[..m],
         );
     } else {
-        io::write_all(STDOUT_FILENO, b"?\n");
+        io::write_all(STDOUT, b"?\n");
     }
 }
 
@@ -85,6 +88,6 @@ fn main() {
     let buf: &mut [i64] = &mut entries;
     let mut others = [0i64; 131088];
     let scratch: &mut [i64] = &mut others;
-    let n = io::read_full(STDIN_FILENO, &mut input);
+    let n = io::read_full(STDIN, &mut input);
     answer_all(&input[..n], buf, scratch, &mut space);
 }

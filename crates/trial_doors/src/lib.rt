@@ -4,8 +4,8 @@
 
 #![tactic(auto)]
 
-use libc::STDOUT_FILENO;
 use trial_lines::Row;
+use trial_output::STDOUT;
 
 // The names of the requests, as `trial_lines::name` reads them.
 const POLYNOMIAL: u64 = 579882274169900;
@@ -57,7 +57,7 @@ pub fn ask(name: u64, asked: Row, entries: &mut [i64]) {
         COMB => comb(asked, entries),
         ACCUMULATE => accumulate(asked, entries),
         _ => {
-            io::write_all(STDOUT_FILENO, b"?\n");
+            io::write_all(STDOUT, b"?\n");
         }
     }
 }

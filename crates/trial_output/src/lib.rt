@@ -7,7 +7,9 @@
 ghost use Rattle.std.specs.Prelude.{◌≤◌};
 
 use heights::magnitude;
-use libc::STDOUT_FILENO;
+
+// Standard output.
+pub const STDOUT: i32 = 1;
 
 // The modulus of a sum over a buffer: a prime, and half of one less is a prime too.
 const PRIME: u64 = 144115188075851879;
@@ -20,9 +22,9 @@ pub fn numbers(row: &[u64]) {
     let mut i = 0;
     while i < row.len() {
         if 0 < i {
-            io::write_all(STDOUT_FILENO, b" ");
+            io::write_all(STDOUT, b" ");
         }
-        io::print_decimal(STDOUT_FILENO, row[i]);
+        io::print_decimal(STDOUT, row[i]);
         i += 1;
     }
 }
@@ -30,16 +32,16 @@ pub fn numbers(row: &[u64]) {
 // Numbers alone in a line.
 pub fn line(row: &[u64]) {
     numbers(row);
-    io::write_all(STDOUT_FILENO, b"\n");
+    io::write_all(STDOUT, b"\n");
 }
 
 // A number below 0 or not, after a text.
 pub fn signed(before: &[u8], c: i64) {
-    io::write_all(STDOUT_FILENO, before);
+    io::write_all(STDOUT, before);
     if c < 0 {
-        io::write_all(STDOUT_FILENO, b"-");
+        io::write_all(STDOUT, b"-");
     }
-    io::print_decimal(STDOUT_FILENO, magnitude(c));
+    io::print_decimal(STDOUT, magnitude(c));
 }
 
 fn spelled(a: &[i64]) {
@@ -76,34 +78,34 @@ fn sum(a: &[i64]) -> u64 {
 
 // What stands in some entries.
 fn buffer(a: &[i64]) {
-    io::write_all(STDOUT_FILENO, b" :");
+    io::write_all(STDOUT, b" :");
     if a.len() <= FEW {
         spelled(a);
     } else {
-        io::write_all(STDOUT_FILENO, b" #");
-        io::print_decimal(STDOUT_FILENO, sum(a));
+        io::write_all(STDOUT, b" #");
+        io::print_decimal(STDOUT, sum(a));
     }
 }
 
 // What stands in some entries, and the end of the line.
 pub fn entries(a: &[i64]) {
     buffer(a);
-    io::write_all(STDOUT_FILENO, b"\n");
+    io::write_all(STDOUT, b"\n");
 }
 
 // What stands in two buffers of entries, one after the other, and the end of the line.
 pub fn two(a: &[i64], b: &[i64]) {
     buffer(a);
     buffer(b);
-    io::write_all(STDOUT_FILENO, b"\n");
+    io::write_all(STDOUT, b"\n");
 }
 
 // What stands in some bytes.
 pub fn hex(a: &[u8]) {
-    io::write_all(STDOUT_FILENO, b" : x");
+    io::write_all(STDOUT, b" : x");
     let mut i = 0;
     while i < a.len() {
-        io::print_hex(STDOUT_FILENO, a[i] as u64, 2);
+        io::print_hex(STDOUT, a[i] as u64, 2);
         i += 1;
     }
 }
@@ -111,5 +113,5 @@ pub fn hex(a: &[u8]) {
 // What stands in some bytes, and the end of the line.
 pub fn bytes(a: &[u8]) {
     hex(a);
-    io::write_all(STDOUT_FILENO, b"\n");
+    io::write_all(STDOUT, b"\n");
 }

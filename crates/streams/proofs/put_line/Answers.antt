@@ -1,7 +1,6 @@
 -- `streams::put_line` meets its contract: three parts, one after the other.
 use native.Mathlib.Omega.{arith}
 use Rattle.text.proofs.Putting.{then}
-use borrow.Author.Rules.{rules}
 use Rattle.streams.proofs.put_line.Goals as goal
 
 pub returns : goal.returns

@@ -2,7 +2,6 @@
 use mathlib.Core.Path.{sym}
 use native.Mathlib.Omega.{arith}
 use lib.Seq.{length-take-le}
-use borrow.Author.Rules.{rules}
 use Rattle.streams.proofs.say.Goals as goal
 
 pub slice_bounds-write_whole-end : goal.slice_bounds-write_whole-end
