@@ -1,12 +1,15 @@
 -- `none_in_block`: where no sign has come together so far, no magnitude so far is above h.
-use Prim.Native.Nat.{◌+◌, ◌-◌, ◌≤◌}
+use Prim.Native.Nat.{ℕ, ◌+◌, ◌-◌, ◌≤◌}
 use mathlib.Core.Path.{subst}
 use native.Mathlib.Omega.{arith}
 use lib.ListN.{get_or}
-use lib.IntN.{ℤ, nat_abs}
+use lib.Bits.{bit_or}
+use lib.IntN.{ℤ, nat_abs, ◌+ℤ◌, ◌-ℤ◌}
+use mir.Syntax.{w64}
+use mir.Val.{to_z, of_z}
 use Rattle.definitions.specs.Integers.{0ℤ}
 use Rattle.definitions.specs.Steps.{entries}
-use Rattle.step_laws.specs.Machine.{limit_fits}
+use Rattle.step_laws.specs.Machine.{limit_fits, seen}
 use Rattle.heights.specs.Above.{NoneAbove}
 use Rattle.heights.proofs.Looks.{none_more}
 use Rattle.entry_steps.specs.Passes.{addable}
@@ -40,15 +43,20 @@ pub overflow_add-gathered : goal.overflow_add-gathered
 overflow_add-gathered c = sum_fits (p (goal.at.overflow_add-gathered c).After-x-1).args.h (x (goal.at.overflow_add-gathered c).After-x-1) (p (goal.at.overflow_add-gathered c).After-x-1).requires.1 (small (goal.at.overflow_add-gathered c).After-x-1)
 
 pub loop-q-preserved : goal.loop-q-preserved
-loop-q-preserved c = (
-  omega arith,
-  λ u.
-      let (others, above) = unsigned_both _ _ (unsigned_test _ u) in
-      let (before, below) = unsigned_both _ _ others in
-      subst (NoneAbove (p (goal.at.loop-q-preserved c).After-x-1).args.h (p (goal.at.loop-q-preserved c).After-x-1).args.coeffs.now (p (goal.at.loop-q-preserved c).After-x-1).args.i) (omega arith)
-      (none_more (c.loop-q.invariant.1 (unsigned_tested _ before))
-      (both_unsigned (p (goal.at.loop-q-preserved c).After-x-1).args.h (x (goal.at.loop-q-preserved c).After-x-1) (p (goal.at.loop-q-preserved c).After-x-1).requires.1 (small (goal.at.loop-q-preserved c).After-x-1) below above)),
-)
+loop-q-preserved c =
+    let e = (goal.at.loop-q-preserved c).After-x-1 in
+    let a = (p e).args in
+    let minus : ℕ = of_z w64 (to_z w64 a.h -ℤ seen (x e)) in
+    let plus : ℕ = of_z w64 (to_z w64 a.h +ℤ seen (x e)) in
+    let g = c.loop-q.gathered-bits in (
+      omega arith,
+      λ u.
+          let (others, above) = unsigned_both (bit_or g minus) plus (unsigned_test (bit_or (bit_or g minus) plus) u) in
+          let (before, below) = unsigned_both g minus others in
+          subst (NoneAbove a.h a.coeffs.now a.i) (omega arith)
+          (none_more (c.loop-q.invariant.1 (unsigned_tested g before))
+          (both_unsigned a.h (x e) (p e).requires.1 (small e) below above)),
+    )
 
 pub returns : goal.returns
 returns c = λ e.
