@@ -41,7 +41,7 @@ returns c =
     let r = c in
     let t = r.take_tested-t in
     let q = c in
-    let p = t.ensures.0 in
+    let p = t.ensures.tested_to in
     let short : q.args.d < t.result = omega arith in
-    undone (t.result - 1) (omega arith) (omega arith) (t.ensures.1 short)
+    undone (t.result - 1) (omega arith) (omega arith) (t.ensures.result_value short)
     (c.undo.ensures q.args.a.now p.read)

@@ -28,7 +28,7 @@ step_entry_within-requires c =
 refused : (c : Then-not-step_entry_within)
     → c.step_entry_within.new.a ≡ c.loop-t.a
 refused c =
-    let s = c.step_entry_within in rw (c.if-not-step_entry_within.true) at s.ensures.1
+    let s = c.step_entry_within in rw (c.if-not-step_entry_within.true) at s.ensures.a_after
 
 pub shape_of-a-then-not-step_entry_within : goal.shape_of-a-then-not-step_entry_within
 shape_of-a-then-not-step_entry_within c = ap length (refused (goal.at.shape_of-a-then-not-step_entry_within c).Then-not-step_entry_within) ∙ c.loop-t.invariant.read.done.split.len
@@ -50,9 +50,9 @@ loop-t-preserved c =
     let g = c in
     let s = c.step_entry_within in
     let passed = c.if-not-step_entry_within.false in
-    rw (s.ensures.1, passed)
-    (tested-next g.loop-t.invariant _ (omega arith) (omega arith) (sym (rw passed at s.ensures.0.0))
-    s.ensures.0.1)
+    rw (s.ensures.a_after, passed)
+    (tested-next g.loop-t.invariant _ (omega arith) (omega arith) (sym (rw passed at s.ensures.value.0))
+    s.ensures.value.1)
 
 pub shape_of-a : goal.shape_of-a
 shape_of-a c = c.loop-t.invariant.read.done.split.len
