@@ -35,7 +35,7 @@ returns-in-4 c =
 pub returns-in_default : goal.returns-in_default
 returns-in_default c =
     let start = (goal.at.returns-in_default c).Start in
-    let r = c.in_default.rest in
+    let r = c.in_default.in_default-own.rest in
     negative start 8 _ (width_last start.args.w start.requires.0 r.0.0.1 r.0.1 r.1)
     c.if-negate.true
     (λ small. (λ z. omega arith, λ p. omega arith))

@@ -7,7 +7,7 @@ use Rattle.half_passes.proofs.put_other.Goals.{In_default}
 last : (c : In_default) → c.args.w ≡ 8
 last c =
     let start = c in
-    let r = c.in_default.rest in
+    let r = c.in_default.in_default-own.rest in
     width_last start.args.w start.requires.0 r.0.0.1 r.0.1 r.1
 
 pub put_at-requires : goal.put_at-requires

@@ -6,7 +6,7 @@ use Rattle.half_passes.proofs.uneven_in.Goals.{In_default}
 
 last : (c : In_default) → c.args.w ≡ 8
 last c =
-    let r = c.in_default.rest in
+    let r = c.in_default.in_default-own.rest in
     width_last c.args.w c.requires.0 r.0.0.1 r.0.1 r.1
 
 pub uneven_at-requires : goal.uneven_at-requires
