@@ -1,7 +1,7 @@
 -- `chain_groups::take_known` meets its contract: each arm takes as many chains as it has sums, and of size 1
 -- there is one chain, the first.
 use mathlib.Core.Path.{◌≡◌, refl, sym, ap}
-use Prim.Native.Nat.{ℕ, ◌+◌}
+use Prim.Native.Nat.{ℕ, ◌+◌, ◌≤◌}
 use native.Mathlib.Omega.{arith}
 use borrow.Author.Rules.{rules}
 use Rattle.chains.specs.Tested.{GroupAsked}
@@ -35,11 +35,11 @@ returns-then-d-eq1 c =
 -- none of the others is one
 one : (c : In_default) → c.args.g ≡ 1
 one c =
-    let r = c.in_default.rest in
     let p = c.requires in
     let w = p.1 in
-    sym (one_left (omega (arith, p.0.some)) (w.1 (less w.0 r.0.0.0.0.0.0.0.1)) r.0.0.0.0.0.0.1
-    r.0.0.0.0.0.1 r.0.0.0.0.1 r.0.0.0.1 r.0.0.1 r.0.1 r.1)
+    let some = p.0.some in
+    let few : c.args.g ≤ 8 = w.1 (less w.0 (λ e. omega arith)) in
+    omega arith
 
 pub take_group-requires-in-16 : goal.take_group-requires-in-16
 take_group-requires-in-16 c = asked (goal.at.take_group-requires-in-16 c).Start (omega arith)
