@@ -10,7 +10,7 @@
  * are rescued. And plotted: the response of any coefficients at a point of the complex plane, in double. And counted: a
  * census tells which heights the F(n) of a range of n have.
  *
- * Link with libbonvedrick.a (`rt staticlib bonvedrick` writes target/staticlib/libbonvedrick.a, for x86-64).
+ * Link with libbonvedrick.a (`tools/made bonvedrick` writes target/staticlib/libbonvedrick.a, for x86-64).
  *
  * WHAT HOLDS FOR EVERY FUNCTION
  *
