@@ -48,7 +48,7 @@ step_entry_within-requires c =
 refused : (c : Then-not-step_entry_within)
     → c.step_entry_within.new.a ≡ c.loop-x.a
 refused c =
-    let s = c.step_entry_within in rw (c.if-not-step_entry_within.true) at s.ensures.1
+    let s = c.step_entry_within in rw (c.if-not-step_entry_within.true) at s.ensures.a_after
 
 pub shape_of-a-then-not-step_entry_within : goal.shape_of-a-then-not-step_entry_within
 shape_of-a-then-not-step_entry_within c = ap length (refused (goal.at.shape_of-a-then-not-step_entry_within c).Then-not-step_entry_within) ∙ c.loop-x.invariant.2.len
@@ -67,7 +67,7 @@ returns-then-not-step_entry_within c =
         omega arith,
         ap (in_range p.args.w)
             (sym (second_is p.args.d p.requires.0 p.args.a.now i.2 i.0 short))
-            ∙ sym (rw (c.if-not-step_entry_within.true) at s.ensures.0.0),
+            ∙ sym (rw (c.if-not-step_entry_within.true) at s.ensures.value.0),
       );
     }
 
@@ -87,14 +87,14 @@ loop-x-preserved c =
     let is = second_is p.args.d p.requires.0 p.args.a.now i.2 i.0 b in (
       omega (arith, i.0),
       omega arith,
-      rw (s.ensures.1, passed) (moved_up i.2 g.loop-x.x (g.loop-x.x + 1) b refl refl _ is),
+      rw (s.ensures.a_after, passed) (moved_up i.2 g.loop-x.x (g.loop-x.x + 1) b refl refl _ is),
       λ k below.
           by_order k g.loop-x.x (i.3 k)
           (λ high.
           let same : g.loop-x.x ≡ k = omega arith in
           subst (Found p.args.w p.args.d p.args.a.now) same (λ _. (
-            ap (in_range p.args.w) (sym is) ∙ sym (rw passed at s.ensures.0.0),
-            rw (i.2.above g.loop-x.x (omega arith) b) at s.ensures.0.1,
+            ap (in_range p.args.w) (sym is) ∙ sym (rw passed at s.ensures.value.0),
+            rw (i.2.above g.loop-x.x (omega arith) b) at s.ensures.value.1,
           ))),
     )
 
