@@ -4,7 +4,6 @@ use borrow.Author.Tests.{eq-eqb, ne_eqb}
 use Rattle.text.specs.Text.{spaced}
 use Rattle.answer_lines.specs.Printed.{tail_of}
 use Rattle.text.proofs.Putting.{then}
-use borrow.Author.Rules.{rules}
 use Rattle.answer_lines.proofs.put_tail.Goals as goal
 
 pub overflow_add-count : goal.overflow_add-count

@@ -4,7 +4,6 @@ use mathlib.Core.List.{[], ◌∷◌}
 use lib.IntN.{pos}
 use Rattle.text.specs.Text.{spaced}
 use Rattle.text.proofs.Putting.{then, spaced-append}
-use borrow.Author.Rules.{rules}
 use Rattle.answer_lines.proofs.put_three.Goals as goal
 
 pub returns : goal.returns

@@ -2,7 +2,6 @@
 use native.Mathlib.Omega.{arith}
 use Rattle.answer_lines.specs.Printed.{wrong_line}
 use Rattle.text.proofs.Putting.{then}
-use borrow.Author.Rules.{rules}
 use Rattle.answer_lines.proofs.put_wrong.Goals as goal
 
 pub returns : goal.returns

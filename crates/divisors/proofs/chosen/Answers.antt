@@ -5,7 +5,6 @@ use mathlib.Core.Bool.{cond}
 use lib.Bits.{and_mask}
 use borrow.Author.Tests.{eq-eqb, ne_eqb}
 use Rattle.divisors.specs.Masks.{bit}
-use borrow.Author.Rules.{rules}
 use Rattle.divisors.proofs.chosen.Goals as goal
 
 pub returns-then-mask-i-eq1 : goal.returns-then-mask-i-eq1

@@ -4,7 +4,6 @@ use mathlib.Core.Path.{◌≡◌, ap}
 use native.Mathlib.Nat.{one-mul, mod-eq_of_lt}
 use native.Mathlib.Omega.{arith}
 use lib.Pow.{pow_pos, pow_mono}
-use borrow.Author.Rules.{rules}
 use Rattle.divisors.proofs.full.Goals as goal
 
 whole : (count : ℕ) → count ≤ 5 → 1 * 2 ^ count % 4294967296 ≡ 2 ^ count

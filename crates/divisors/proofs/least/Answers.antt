@@ -3,7 +3,6 @@ use Prim.Native.Nat.{◌-◌, ◌^◌, ◌≤◌, ◌<◌}
 use mathlib.Core.Path.{◌≡◌}
 use native.Mathlib.Omega.{arith}
 use lib.Pow.{pow_mono}
-use Rattle.divisors.specs.Least.{LeastTo}
 use Rattle.divisors.proofs.Searching.{least_start, least_step, least_end}
 use Rattle.divisors.proofs.least.Goals as goal
 use Rattle.divisors.proofs.least.Goals.{In-loop-mask}

@@ -1,10 +1,7 @@
 -- `least` meets its contract. The invariant: the least above `after` among r and what the masks below `mask` name.
-use Prim.Native.Nat.{◌-◌, ◌^◌, ◌≤◌, ◌<◌}
+use Prim.Native.Nat.{◌-◌, ◌^◌, ◌≤◌}
 use mathlib.Core.Path.{◌≡◌}
-use native.Mathlib.Omega.{arith}
-use lib.Pow.{pow_mono}
 use Rattle.divisors.specs.Least.{LeastTo}
-use Rattle.divisors.proofs.Searching.{least_start, least_step, least_end}
 use Rattle.divisors.proofs.least.Given as goal
 
 abbrev pub invariant-loop-mask : goal.invariant-loop-mask

@@ -1,5 +1,5 @@
 -- `product` meets its contract. The invariant: the product of the chosen among the first i.
-use Prim.Native.Nat.{◌+◌, ◌*◌, ◌-◌, ◌≤◌}
+use Prim.Native.Nat.{◌+◌, ◌*◌, ◌≤◌}
 use mathlib.Core.Path.{◌≡◌, refl, ap, ◌∙◌}
 use native.Mathlib.Omega.{arith}
 use Rattle.divisors.specs.Masks.{mask_to}

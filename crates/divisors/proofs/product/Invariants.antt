@@ -1,9 +1,7 @@
 -- `product` meets its contract. The invariant: the product of the chosen among the first i.
-use Prim.Native.Nat.{◌+◌, ◌*◌, ◌-◌, ◌≤◌}
-use mathlib.Core.Path.{◌≡◌, refl, ap, ◌∙◌}
-use native.Mathlib.Omega.{arith}
+use Prim.Native.Nat.{◌-◌, ◌≤◌}
+use mathlib.Core.Path.{◌≡◌}
 use Rattle.divisors.specs.Masks.{mask_to}
-use Rattle.divisors.proofs.Searching.{mask-more}
 use Rattle.divisors.proofs.product.Given as goal
 
 abbrev pub invariant-loop-i : goal.invariant-loop-i

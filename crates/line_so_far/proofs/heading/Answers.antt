@@ -1,5 +1,5 @@
 -- `line_so_far::heading` meets its contract: nothing, or the text that the constant holds.
-use Rattle.std.proofs.Common.{arith, rules, le-ltb, lt-ltb}
+use Rattle.std.proofs.Common.{arith, le-ltb, lt-ltb}
 use Rattle.line_so_far.specs.Heading.{heading}
 use Rattle.text.proofs.Putting.{nothing_put}
 use Rattle.line_so_far.proofs.heading.Goals as goal

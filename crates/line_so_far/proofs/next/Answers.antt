@@ -1,6 +1,5 @@
 -- `line_so_far::next` meets its contract.
 use Rattle.line_so_far.specs.OpenLine.{next_line}
-use Rattle.std.proofs.Common.{rules}
 use Rattle.line_so_far.proofs.next.Goals as goal
 
 pub returns : goal.returns

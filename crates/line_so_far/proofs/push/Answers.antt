@@ -1,5 +1,5 @@
 -- `line_so_far::push` meets its contract, by the test of the length.
-use Rattle.std.proofs.Common.{rules, le-ltb, lt-ltb}
+use Rattle.std.proofs.Common.{le-ltb, lt-ltb}
 use Rattle.line_so_far.specs.OpenLine.{pushed}
 use Rattle.line_so_far.proofs.push.Goals as goal
 

@@ -2,13 +2,12 @@
 use mathlib.Core.Path.{sym, ◌∙◌, ap}
 use mathlib.Core.Bool.{and-false}
 use native.Mathlib.Omega.{arith}
-use borrow.Author.Tests.{not-true, not-false, eq-eqb, ne_eqb}
+use borrow.Author.Tests.{eq-eqb, ne_eqb}
 use lib.ListN.{get_or}
 use lib.Dec.{eqb}
 use Rattle.request_lines.specs.Request.{is_good_with}
 use Rattle.digits.proofs.Digits.{nine_range}
 use Rattle.request_lines.proofs.Reading.{known, unknown}
-use borrow.Author.Rules.{rules}
 use Rattle.request_lines.proofs.is_good_with.Goals as goal
 
 pub returns-then-kind-eq0 : goal.returns-then-kind-eq0

@@ -4,7 +4,6 @@ use mathlib.Core.Path.{◌≡◌, sym, ◌∙◌, ap}
 use lib.Dec.{lit<}
 use Rattle.request_lines.specs.Request.{kind_of, is_good}
 use Rattle.request_lines.proofs.Reading.{most_nine, good_as, too_many_good, limit, reads_good, reads_wrong}
-use borrow.Author.Rules.{rules}
 use Rattle.request_lines.proofs.read_line.Goals as goal
 use Rattle.request_lines.proofs.read_line.Goals.{After-is_good_with}
 

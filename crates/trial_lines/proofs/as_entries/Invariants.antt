@@ -1,5 +1,5 @@
 -- `trial_lines::as_entries` is safe and ends: it counts up to the list's length, and there are as many entries.
-use Rattle.std.proofs.Common.{◌≡◌, ◌-◌, length, rules}
+use Rattle.std.proofs.Common.{◌≡◌, ◌-◌, length}
 use Rattle.trial_lines.proofs.as_entries.Given as goal
 
 abbrev pub invariant-loop-i : goal.invariant-loop-i

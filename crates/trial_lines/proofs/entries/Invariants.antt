@@ -1,5 +1,5 @@
 -- `trial_lines::entries` is safe and ends: the buffer keeps its length, and the place stays within it.
-use Rattle.std.proofs.Common.{◌≡◌, ◌-◌, ◌≤◌, length, arith, rules}
+use Rattle.std.proofs.Common.{◌≡◌, ◌-◌, ◌≤◌, length}
 use Rattle.trial_lines.proofs.entries.Given as goal
 
 abbrev pub invariant-loop-count : goal.invariant-loop-count

@@ -1,5 +1,5 @@
 -- `trial_lines::indices` is safe and ends: there are twelve places.
-use Rattle.std.proofs.Common.{◌≡◌, ◌-◌, ◌≤◌, length, arith, length-take, rules}
+use Rattle.std.proofs.Common.{arith, length-take}
 use Rattle.trial_lines.proofs.indices.Goals as goal
 
 pub returns-then-count-gt0 : goal.returns-then-count-gt0

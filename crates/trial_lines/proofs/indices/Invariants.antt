@@ -1,5 +1,5 @@
 -- `trial_lines::indices` is safe and ends: there are twelve places.
-use Rattle.std.proofs.Common.{◌≡◌, ◌-◌, ◌≤◌, length, arith, length-take, rules}
+use Rattle.std.proofs.Common.{◌≡◌, ◌-◌, ◌≤◌, length}
 use Rattle.trial_lines.proofs.indices.Given as goal
 
 abbrev pub invariant-loop-count : goal.invariant-loop-count

@@ -1,5 +1,5 @@
 -- `trial_lines::name` is safe and ends: the place stays within the line.
-use Rattle.std.proofs.Common.{◌-◌, ◌≤◌, length, arith, rules}
+use Rattle.std.proofs.Common.{◌-◌, ◌≤◌, length}
 use Rattle.trial_lines.proofs.name.Given as goal
 
 abbrev pub invariant-loop-i : goal.invariant-loop-i

@@ -1,5 +1,5 @@
 -- `trial_lines::number` is safe and ends: it reads on to the end of the line at most.
-use Rattle.std.proofs.Common.{◌-◌, ◌≤◌, length, arith, rules}
+use Rattle.std.proofs.Common.{◌-◌, ◌≤◌, length}
 use Rattle.trial_lines.proofs.number.Given as goal
 
 abbrev pub invariant-loop-i : goal.invariant-loop-i

@@ -1,5 +1,4 @@
 -- `divisors::Walk::next` meets its contract, by the laws of `Walking`.
-use borrow.Author.Rules.{rules}
 use Rattle.divisors.proofs.Walking.{walk-few, walk-row, walk_done, walk-next}
 use Rattle.divisors.proofs.Walk.next.Goals as goal
 

@@ -1,5 +1,4 @@
 -- `divisors::Walk::over` meets its contract: all ones make 2^count - 1 divisors below r.
-use borrow.Author.Rules.{rules}
 use Rattle.divisors.proofs.Walk.over.Goals as goal
 
 pub returns : goal.returns
