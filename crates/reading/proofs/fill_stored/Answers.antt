@@ -36,5 +36,5 @@ returns c =
     let start = (goal.at.returns c).Start in
     let k = stored.stored_in.ensures.0 in
     filled_in _ _ _ _ stored.width_in.ensures k start.args.coeffs.now _
-    (omega (arith, (good start).ranges, k, stored-le start.args.form (count_in start.args.bytes.now)))
+    (omega (arith, (good start).fits, k, stored-le start.args.form (count_in start.args.bytes.now)))
     c.fill.ensures

@@ -35,7 +35,7 @@ count_in-count-requires c = (right _ _ (good (goal.at.count_in-count-requires c)
 
 -- what stands in the buffer, from the place past the reading of the count
 abbrev from : After-count_in-count → Start
-from c = c.before.before.before.before.before
+from c = c.before.before.before.before.before.before
 
 half_is : (c : After-count_in-count) → length (stored_in Half (from c).args.bytes.now) ≡ half_of c.count_in-count.result
 half_is c = long (from c) ∙ ap half_of (sym c.count_in-count.ensures)

@@ -27,6 +27,6 @@ stored_of-requires c = small (goal.at.stored_of-requires c).After-count_in
 
 pub returns : goal.returns
 returns c = (
-  c.Stored-of.ensures.0 ∙ ap (stored c.args.form) c.count_in.ensures,
+  c.stored_of.ensures.0 ∙ ap (stored c.args.form) c.count_in.ensures,
   omega (arith, small (goal.at.returns c).After-count_in),
 )
