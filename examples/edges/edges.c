@@ -1801,8 +1801,10 @@ int main(void) {
     halves();
     rescues();
     responses();
-    censuses();
     names();
     printf("%d outcomes, all as told in bonvedrick.h\n", calls);
+    calls = 0;
+    censuses();
+    printf("%d outcomes of the census, all as told there\n", calls);
     return 0;
 }
