@@ -25,4 +25,4 @@ returns c =
     let l = c.loop-j in
     let a = c.args in
     let same : l.j ≡ a.to = omega arith in
-    subst (λ k. LightTo a.high a.f.now a.b.now a.i k (to_z w64 l.sum)) same l.invariant.2
+    subst (λ k. LightTo a.high a.f.now a.b.now a.i k l.sum) same l.invariant.2

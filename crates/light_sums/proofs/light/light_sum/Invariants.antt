@@ -16,7 +16,7 @@ use Rattle.light_sums.proofs.light.light_sum.Given as goal
 
 abbrev pub invariant-loop-j : goal.invariant-loop-j
 invariant-loop-j l =
-    (l.from ≤ l.j) × (l.j ≤ l.to) × LightTo true l.f l.b l.i l.j (to_z w64 l.high) × LightTo false l.f l.b l.i l.j (to_z w64 l.low)
+    (l.from ≤ l.j) × (l.j ≤ l.to) × LightTo true l.f l.b l.i l.j l.high × LightTo false l.f l.b l.i l.j l.low
 
 abbrev pub decreases-loop-j : goal.decreases-loop-j
 decreases-loop-j l = l.to - l.j

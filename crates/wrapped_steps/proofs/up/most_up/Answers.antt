@@ -12,7 +12,7 @@ large one a b c = omega arith
 
 pub fours_up-requires : goal.fours_up-requires
 fours_up-requires c =
-    let r = c.in_default.rest in
+    let r = c.in_default-own.rest in
     let p = c.requires in
     (large p.0 r.1 r.0.1 r.0.0.1, p.1)
 
