@@ -1,7 +1,6 @@
 -- `halves::low_half`: what is left of v without its high half.
 use mathlib.Core.Path.{◌≡◌, refl, ◌∙◌, ap}
 use native.Mathlib.Omega.{arith}
-use borrow.Author.Rules.{rules}
 use mir.Facts.{to_z-of_z}
 use Rattle.light_sums.specs.Parts.{half}
 use Rattle.light_sums.specs.Terms.{high_half, low_half}

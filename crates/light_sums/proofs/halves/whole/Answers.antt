@@ -1,7 +1,6 @@
 -- `halves::whole`: what the low part has above its low half is carried over to the high one.
 use mathlib.Core.Path.{◌≡◌, refl, ◌∙◌, ap, ap₂}
 use native.Mathlib.Omega.{arith}
-use borrow.Author.Rules.{rules}
 use lib.IntN.{pos}
 use mir.Facts.{to_z-of_z}
 use Rattle.definitions.specs.Integers.{◌⊕◌, ◌⊗◌}

@@ -1,5 +1,4 @@
 -- `light::add_rest`: term by term.
-use Prim.Native.Nat.{◌-◌, ◌≤◌}
 use mathlib.Core.Path.{◌≡◌, subst}
 use native.Mathlib.Omega.{arith}
 use mir.Syntax.{w64}
@@ -25,4 +24,4 @@ returns c =
     let l = c.loop-j in
     let a = c.args in
     let same : l.j ≡ a.to = omega arith in
-    subst (λ k. LightTo a.high a.f.now a.b.now a.i k l.sum) same l.invariant.2
+    subst (λ k. LightTo a.high a.f.now a.b.now a.i k (to_z w64 l.sum-bits)) same l.invariant.2

@@ -1,11 +1,6 @@
 -- `light::add_rest`: term by term.
 use Prim.Native.Nat.{◌-◌, ◌≤◌}
-use mathlib.Core.Path.{◌≡◌, subst}
-use native.Mathlib.Omega.{arith}
-use mir.Syntax.{w64}
-use mir.Val.{to_z}
 use Rattle.light_sums.specs.Light.{LightTo}
-use Rattle.light_sums.proofs.Lights.{sum-seen}
 use Rattle.light_sums.proofs.light.add_rest.Given as goal
 
 abbrev pub invariant-loop-j : goal.invariant-loop-j

@@ -1,7 +1,6 @@
 -- `light::add_term`: one term more. Each entry that is read fits, so its half is no larger than 2^32.
 use Prim.Native.Nat.{◌-◌}
 use mathlib.Core.Path.{◌≡◌, ◌∙◌, ap, ap₂}
-use borrow.Author.Rules.{rules}
 use lib.IntN.{ℤ}
 use mir.Syntax.{w64}
 use mir.Val.{SFits}

@@ -1,7 +1,6 @@
 -- `light::half_of`: one half or the other.
 use mathlib.Core.Path.{◌∙◌, ap}
 use mathlib.Core.Bool.{true, false}
-use borrow.Author.Rules.{rules}
 use mir.Facts.{to_z-of_z}
 use Rattle.step_laws.specs.Machine.{handed}
 use Rattle.light_sums.specs.Terms.{high_half, low_half}
