@@ -2,7 +2,6 @@
 use mathlib.Core.Path.{sym}
 use Rattle.entry_steps.specs.Sorts.{sort_means}
 use Rattle.wrapped_combs.specs.Laws.{wrapped_long}
-use borrow.Author.Rules.{rules}
 use Rattle.wrapped_steps.proofs.wrapped_step.Goals as goal
 
 pub returns-then-a-d : goal.returns-then-a-d

@@ -1,11 +1,7 @@
 -- `wrapped_steps::rows::rows` meets its contract. The invariant: the accumulate got up to k, where a row begins, and
 -- the sums are the row before.
-use mathlib.Core.Path.{◌≡◌, refl}
-use Prim.Native.Nat.{◌-◌}
+use mathlib.Core.Path.{refl}
 use native.Mathlib.Omega.{arith}
-use lib.ListN.{length}
-use Rattle.wrapped_steps.specs.Upward.{UpTo}
-use Rattle.wrapped_steps.specs.Rows.{Carried}
 use Rattle.wrapped_steps.proofs.Passes.{start_up}
 use Rattle.wrapped_steps.proofs.Sums.{carried_first}
 use Rattle.wrapped_steps.proofs.rows.rows.Goals as goal

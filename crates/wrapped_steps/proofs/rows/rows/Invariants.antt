@@ -1,13 +1,10 @@
 -- `wrapped_steps::rows::rows` meets its contract. The invariant: the accumulate got up to k, where a row begins, and
 -- the sums are the row before.
-use mathlib.Core.Path.{◌≡◌, refl}
+use mathlib.Core.Path.{◌≡◌}
 use Prim.Native.Nat.{◌-◌}
-use native.Mathlib.Omega.{arith}
 use lib.ListN.{length}
 use Rattle.wrapped_steps.specs.Upward.{UpTo}
 use Rattle.wrapped_steps.specs.Rows.{Carried}
-use Rattle.wrapped_steps.proofs.Passes.{start_up}
-use Rattle.wrapped_steps.proofs.Sums.{carried_first}
 use Rattle.wrapped_steps.proofs.rows.rows.Given as goal
 
 abbrev pub invariant-loop-a : goal.invariant-loop-a

@@ -8,7 +8,6 @@ use Rattle.definitions.specs.Integers.{◌⊕◌, 0ℤ}
 use Rattle.step_laws.specs.Machine.{seen_both, handed}
 use Rattle.wrapped_sums.specs.Wrapped.{wrap}
 use Rattle.wrapped_sums.specs.Residues.{wrap_fits}
-use borrow.Author.Rules.{rules}
 use Rattle.wrapped_steps.proofs.rows.take_entry.Goals as goal
 
 pub returns : goal.returns

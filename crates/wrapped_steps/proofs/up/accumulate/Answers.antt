@@ -1,5 +1,4 @@
 -- `wrapped_steps::up::accumulate` meets its contract: most places, and then the rest one by one.
-use borrow.Author.Rules.{rules}
 use Rattle.wrapped_steps.proofs.up.accumulate.Goals as goal
 
 pub returns : goal.returns

@@ -1,8 +1,5 @@
 -- `wrapped_steps::up::fours_up` meets its contract, which is the loop's invariant: the accumulate got up to k.
-use Prim.Native.Nat.{◌-◌}
 use native.Mathlib.Omega.{arith}
-use lib.ListN.{length}
-use Rattle.wrapped_steps.specs.Upward.{UpTo}
 use Rattle.wrapped_steps.proofs.Passes.{start_up, four_up}
 use Rattle.wrapped_steps.proofs.up.fours_up.Goals as goal
 

@@ -2,7 +2,6 @@
 use mathlib.Core.Path.{◌≡◌}
 use Prim.Native.Nat.{ℕ, ◌≤◌}
 use native.Mathlib.Omega.{arith}
-use borrow.Author.Rules.{rules}
 use Rattle.wrapped_steps.proofs.Passes.{sized}
 use Rattle.wrapped_steps.proofs.up.most_up.Goals as goal
 
@@ -12,9 +11,9 @@ large one a b c = omega arith
 
 pub fours_up-requires : goal.fours_up-requires
 fours_up-requires c =
-    let r = c.in_default-own.rest in
+    let r = c.in_default.in_default-own in
     let p = c.requires in
-    (large p.0 r.1 r.0.1 r.0.0.1, p.1)
+    (large p.0 r.rest.1 r.rest.0.1 r.rest.0.0.1, p.1)
 
 pub returns-in-15 : goal.returns-in-15
 returns-in-15 c = sized (omega arith) c.known_rows.ensures

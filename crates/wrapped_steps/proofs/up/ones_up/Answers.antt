@@ -1,11 +1,7 @@
 -- `wrapped_steps::up::ones_up` meets its contract. The invariant: of whatever list the accumulate got up to `from`, it
 -- got up to i.
 use mathlib.Core.Path.{sym, ◌∙◌}
-use mathlib.Core.List.{List}
-use Prim.Native.Nat.{◌-◌}
 use native.Mathlib.Omega.{arith}
-use lib.ListN.{length}
-use lib.IntN.{ℤ}
 use Rattle.wrapped_steps.specs.Upward.{UpTo}
 use Rattle.wrapped_steps.proofs.Passes.{next_up, ended_up}
 use Rattle.wrapped_steps.proofs.up.ones_up.Goals as goal
