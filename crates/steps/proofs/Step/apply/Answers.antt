@@ -12,15 +12,11 @@ use Rattle.definitions.specs.Steps.{Sort, step_over, step_list, below_one, step_
 use Rattle.step_laws.specs.Told.{Told, told-zero, told_large, told_limit, told_over, told_done, told-long}
 use Rattle.step_laws.specs.Machine.{seen, below_one_lem}
 use Rattle.step_laws.specs.WorkingLimit.{Workable, read_limit}
+use Rattle.entry_steps.specs.Sorts.{sort_means}
 use Rattle.bounded_steps.specs.Outcome.{StepOutcomeIs}
 use Rattle.bounded_steps.specs.declared.StepOutcome.{StepOutcome}
 use Rattle.steps.proofs.Step.apply.Goals as goal
 use Rattle.steps.proofs.Step.apply.Goals.{After-take_bounded-outcome, Else-w-lt1, Start}
-
--- the contract's three clauses
-clauses : {w : ℤ} {s : Sort} {d : ℕ} {l : List ℤ} {code count : ℕ} {m : List ℤ} → Told w s d l code count m
-    → (code ≡ step_code w s d l) × ((count ≡ step_count w s d l) × (m ≡ step_leaves w s d l))
-clauses t = (t.code, (t.count, t.leaves))
 
 -- what a step of good size under a good limit tells
 module _ (w : ℤ) {s : Sort} {d b : ℕ} {l m : List ℤ} {r : StepOutcome} {limit : ℕ} (is : limit ≡ nat_abs w)
@@ -38,24 +34,32 @@ module _ (w : ℤ) {s : Sort} {d b : ℕ} {l m : List ℤ} {r : StepOutcome} {li
   done e = rw (leaves_is e) (told_done w s d l one most good (over_is e))
 
 pub returns-then-size-eq0 : goal.returns-then-size-eq0
-returns-then-size-eq0 c = let told =
+returns-then-size-eq0 c =
     let q = c in
-    rw c.refused.ensures
-    (clauses (told-zero q.args.w _ q.args.self.size q.args.a.now c.if-size-eq0.true)) in record { code_value = told.0; count_value = told.1; a_after = told.2 }
+    let t = told-zero q.args.w (sort_means q.args.self.sort) q.args.self.size q.args.a.now c.if-size-eq0.true in record {
+      code_value = rw c.refused.ensures t.code;
+      count_value = rw c.refused.ensures t.count;
+      a_after = t.leaves;
+    }
 
 pub returns-then-size-gt65535 : goal.returns-then-size-gt65535
-returns-then-size-gt65535 c = let told =
+returns-then-size-gt65535 c =
     let q = c in
-    rw c.refused-then-size-gt65535.ensures
-    (clauses (told_large q.args.w _ q.args.self.size q.args.a.now c.if-size-gt65535.true)) in record { code_value = told.0; count_value = told.1; a_after = told.2 }
+    let t = told_large q.args.w (sort_means q.args.self.sort) q.args.self.size q.args.a.now c.if-size-gt65535.true in record {
+      code_value = rw c.refused-then-size-gt65535.ensures t.code;
+      count_value = rw c.refused-then-size-gt65535.ensures t.count;
+      a_after = t.leaves;
+    }
 
 pub returns-then-w-lt1 : goal.returns-then-w-lt1
-returns-then-w-lt1 c = let told =
-    let t = c in
+returns-then-w-lt1 c =
     let q = c in
-    rw c.refused-then-w-lt1.ensures
-    (clauses (told_limit q.args.w _ q.args.self.size q.args.a.now (omega arith) t.if-size-gt65535.false
-    (below_one_lem q.args.w q.ranges.w t.if-w-lt1.true))) in record { code_value = told.0; count_value = told.1; a_after = told.2 }
+    let t = told_limit q.args.w (sort_means q.args.self.sort) q.args.self.size q.args.a.now (omega arith)
+        q.if-size-gt65535.false (below_one_lem q.args.w q.ranges.w q.if-w-lt1.true) in record {
+      code_value = rw c.refused-then-w-lt1.ensures t.code;
+      count_value = rw c.refused-then-w-lt1.ensures t.count;
+      a_after = t.leaves;
+    }
 
 -- the size and the limit are good
 module _ (q : Else-w-lt1) where
@@ -66,20 +70,21 @@ module _ (q : Else-w-lt1) where
   one = omega arith
 
   most : start.args.self.size ≤ 65535
-  most = q.if-size-gt65535.left
+  most = q.if-size-gt65535.false
 
   good : below_one start.args.w ≡ false
-  good = below_one_lem start.args.w start.ranges.w q.if-w-lt1.left
+  good = below_one_lem start.args.w start.ranges.w q.if-w-lt1.false
 
   limit : {m : ℕ} → m ≡ nat_abs (seen start.args.w)
       → (m ≡ nat_abs start.args.w) × (pos m ≡ start.args.w) × Workable m
   limit = read_limit start.args.w start.ranges.w good
 
 pub returns-then-n-size : goal.returns-then-n-size
-returns-then-n-size c = let told =
+returns-then-n-size c =
     let q = (goal.at.returns-then-n-size c).Else-w-lt1 in
     let p = start q in
-    clauses (told-long p.args.w _ p.args.self.size p.args.a.now (one q) (most q) (good q) c.if-n-size.true) in record { code_value = told.0; count_value = told.1; a_after = told.2 }
+    let t = told-long p.args.w (sort_means p.args.self.sort) p.args.self.size p.args.a.now (one q) (most q) (good q)
+        c.if-n-size.true in record { code_value = t.code; count_value = t.count; a_after = t.leaves }
 
 pub take_bounded-outcome-requires : goal.take_bounded-outcome-requires
 take_bounded-outcome-requires c =
@@ -95,15 +100,17 @@ module _ (t : After-take_bounded-outcome) where
   is_limit = (limit asked t.magnitude.ensures).0
 
 pub returns-then-outcome : goal.returns-then-outcome
-returns-then-outcome c = let told =
-    let t = (goal.at.returns-then-outcome c).After-take_bounded-outcome in
-    let q = asked t in
-    rw c.refused-then-outcome.ensures
-    (clauses (over (start q).args.w (is_limit t) t.take_bounded-outcome.ensures (one q) (most q) (good q)
-    c.if-outcome.true)) in record { code_value = told.0; count_value = told.1; a_after = told.2 }
+returns-then-outcome c =
+    let at = (goal.at.returns-then-outcome c).After-take_bounded-outcome in
+    let q = asked at in
+    let t = over (start q).args.w (is_limit at) at.take_bounded-outcome.ensures (one q) (most q) (good q) c.if-outcome.true in record {
+      code_value = rw c.refused-then-outcome.ensures t.code;
+      count_value = rw c.refused-then-outcome.ensures t.count;
+      a_after = t.leaves;
+    }
 
 pub returns : goal.returns
-returns c = let told =
-    let t = (goal.at.returns c).After-take_bounded-outcome in
-    let q = asked t in
-    clauses (done (start q).args.w (is_limit t) t.take_bounded-outcome.ensures (one q) (most q) (good q) c.if-outcome.false) in record { code_value = told.0; count_value = told.1; a_after = told.2 }
+returns c =
+    let at = (goal.at.returns c).After-take_bounded-outcome in
+    let q = asked at in
+    let t = done (start q).args.w (is_limit at) at.take_bounded-outcome.ensures (one q) (most q) (good q) c.if-outcome.false in record { code_value = t.code; count_value = t.count; a_after = t.leaves }
