@@ -13,7 +13,7 @@ returns-then-a-d c = too_long c.requires c.if-a-d.true
 pub comb_before_zeros-requires : goal.comb_before_zeros-requires
 comb_before_zeros-requires c =
     let e = c in
-    (e.requires, c.if-not-o.true, e.if-a-d.false)
+    (e.requires, not-true _ c.if-not-o.true, e.if-a-d.false)
 
 pub returns-then-not-o : goal.returns-then-not-o
 returns-then-not-o c =
@@ -22,7 +22,7 @@ returns-then-not-o c =
 pub comb_of_repeated-requires : goal.comb_of_repeated-requires
 comb_of_repeated-requires c =
     let e = c in
-    (e.requires, c.if-not-o.false, e.if-a-d.false, c.if-d-o-eq0.true)
+    (e.requires, not-false _ c.if-not-o.false, e.if-a-d.false, c.if-d-o-eq0.true)
 
 pub returns-then-d-o-eq0 : goal.returns-then-d-o-eq0
 returns-then-d-o-eq0 c =
@@ -31,7 +31,7 @@ returns-then-d-o-eq0 c =
 pub accumulate_before_zeros-requires : goal.accumulate_before_zeros-requires
 accumulate_before_zeros-requires c =
     let e = c in
-    (e.requires, c.if-not-o-2.true, e.if-a-d.false, c.if-o-d.true)
+    (e.requires, not-true _ c.if-not-o-2.true, e.if-a-d.false, c.if-o-d.true)
 
 pub returns-then-not-o-2 : goal.returns-then-not-o-2
 returns-then-not-o-2 c =
@@ -47,7 +47,7 @@ pub accumulate_of_repeated-requires : goal.accumulate_of_repeated-requires
 accumulate_of_repeated-requires c =
     let e = c in (
       e.requires,
-      c.if-not-o-2.false,
+      not-false _ c.if-not-o-2.false,
       e.if-a-d.false,
       c.if-o-d.true,
     )
