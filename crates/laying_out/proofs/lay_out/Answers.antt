@@ -10,7 +10,6 @@ use Rattle.definitions.specs.KeptHalf.{half_degree}
 use Rattle.definitions.specs.Answer.{height, peak}
 use Rattle.index.proofs.Laws.{parts_half}
 use Rattle.laying_out.proofs.Ending.{peak-room, half_room, part_length, top_is, laid_tall, laid_done}
-use borrow.Author.Rules.{rules}
 use Rattle.laying_out.proofs.lay_out.Goals as goal
 use Rattle.laying_out.proofs.lay_out.Goals.{After-half_degree-half, After-peak_within-top, Start}
 
