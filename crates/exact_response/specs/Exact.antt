@@ -11,7 +11,7 @@ use native.Mathlib.Omega.{arith}
 use Rattle.std.specs.Float.Ieee.{Float, binary64, sub, mul, of_int, in_float, le, lt, eq}
 use Rattle.std.specs.Float.{fin}
 use Rattle.definitions.specs.Codes.{DONE}
-use Rattle.definitions.specs.Integers.{◌⊕◌, ◌⊗◌, ⊖, ◌⊝◌, 0ℤ}
+use Rattle.definitions.specs.Integers.{◌⊗◌, ⊖, ◌⊝◌, 0ℤ}
 use Rattle.step_laws.specs.Signed.{abs_⊕, abs_⊝}
 use Rattle.light_sums.specs.Weight.{weight, abs_⊗}
 use Rattle.whole_floats.specs.Holds.{most, signed, Holds, holds_of_int, holds_add, holds_sub, holds_mul, holds_eq}

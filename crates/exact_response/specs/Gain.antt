@@ -1,7 +1,7 @@
 -- At 1 the response of a polynomial is its gain (`gain_at_one`), where the magnitudes of its coefficients add up to at
 -- most 2^53. They do where the degree plus one, times the height, is no more (`by_height`), which an answer tells; and
 -- for every index of at most three odd primes, both kinds (`few-primes`).
-use Rattle.std.specs.Prelude.{◌≡◌, refl, Bool, true, false, List, [], ◌∷◌, ℕ, zero, suc, ◌+◌, ◌*◌, ◌≤◌, ◌<◌, T, eqb, ℤ}
+use Rattle.std.specs.Prelude.{◌≡◌, refl, Bool, true, false, List, [], ◌∷◌, ℕ, zero, suc, ◌*◌, ◌≤◌, ◌<◌, T, eqb, ℤ}
 use Rattle.std.proofs.Common.{ap, ◌∙◌, arith}
 use Rattle.std.proofs.Math.Nat as NatL
 use Rattle.std.specs.Float.{binary64}
