@@ -10,46 +10,39 @@ use Rattle.record.proofs.Passes.{length-body}
 use Rattle.widths.proofs.Least.{width_fits}
 use Rattle.forms.proofs.Writing.{size-made, record_made, height-take}
 use Rattle.writing.proofs.store.Goals as goal
-use Rattle.writing.proofs.store.Goals.{After-put_header, After-stored_of-k, Start}
-
--- the function's start, from the places past the number of what is stored and past the header
-abbrev from : After-stored_of-k → Start
-from c = c.before.before
-
-abbrev stored_at : After-put_header → After-stored_of-k
-stored_at c = c.before.before.before
+use Rattle.writing.proofs.store.Goals.{After-stored_of-k}
 
 pub overflow_cast-w : goal.overflow_cast-w
 overflow_cast-w c =
-    let start = from (goal.at.overflow_cast-w c).After-stored_of-k in
+    let start = (goal.at.overflow_cast-w c).After-stored_of-k in
     omega (arith, (width_fits start.args.coeffs.now start.args.w start.requires.1 start.requires.2).high)
 
 pub put_header-requires : goal.put_header-requires
 put_header-requires c =
     let stored = (goal.at.put_header-requires c).After-stored_of-k in
-    let start = from stored in
+    let start = stored in
     omega (
       arith,
-      size-made start.args.form start.args.coeffs.now _ _ start.requires.1 stored.Stored-of.ensures.0,
+      size-made start.args.form start.args.coeffs.now _ _ start.requires.1 stored.stored_of-k.ensures.0,
       start.requires.4,
     )
 
 -- what is stored is a part of all
-cut : (c : After-stored_of-k) → length (take c.Stored-of.result (from c).args.coeffs.now)
-    ≡ c.Stored-of.result
-cut c = length-take-le c.Stored-of.result (from c).args.coeffs.now c.Stored-of.ensures.1
+cut : (c : After-stored_of-k) → length (take c.stored_of-k.result c.args.coeffs.now)
+    ≡ c.stored_of-k.result
+cut c = length-take-le c.stored_of-k.result c.args.coeffs.now c.stored_of-k.ensures.1
 
 pub slice_bounds-put_body-end : goal.slice_bounds-put_body-end
-slice_bounds-put_body-end c = sym (cut (stored_at (goal.at.slice_bounds-put_body-end c).After-put_header))
+slice_bounds-put_body-end c = sym (cut (goal.at.slice_bounds-put_body-end c).After-stored_of-k)
 
 pub put_body-requires : goal.put_body-requires
 put_body-requires c =
-    let header = (goal.at.put_body-requires c).After-put_header in
-    let stored = stored_at header in
-    let start = from stored in
+    let header = c in
+    let stored = (goal.at.put_body-requires c).After-stored_of-k in
+    let start = stored in
     let cs = start.args.coeffs.now in
     let w = start.args.w in
-    let k = stored.Stored-of.result in
+    let k = stored.stored_of-k.result in
     let f = width_fits cs w start.requires.1 start.requires.2 in (
       f.low,
       f.high,
@@ -57,7 +50,7 @@ put_body-requires c =
       omega (
         arith,
         length-body w (take k cs) ∙ ap (λ (n : ℕ). n * w) (cut stored),
-        size-made start.args.form cs w k start.requires.1 stored.Stored-of.ensures.0,
+        size-made start.args.form cs w k start.requires.1 stored.stored_of-k.ensures.0,
         header.put_header.auto.bytes,
         start.requires.4,
       ),
@@ -65,12 +58,12 @@ put_body-requires c =
 
 pub returns : goal.returns
 returns c =
-    let header = (goal.at.returns c).After-put_header in
-    let stored = stored_at header in
-    let start = from stored in
+    let header = c in
+    let stored = (goal.at.returns c).After-stored_of-k in
+    let start = stored in
     let a = start.args in
-    record_made a.form a.kind a.n a.w stored.Stored-of.result a.coeffs.now a.bytes.now _ _
-    start.requires.1 stored.Stored-of.ensures.0 start.requires.4
+    record_made a.form a.kind a.n a.w stored.stored_of-k.result a.coeffs.now a.bytes.now _ _
+    start.requires.1 stored.stored_of-k.ensures.0 start.requires.4
     (header.put_header.ensures
     ∙ ap (λ (m : ℕ). sets a.bytes.now 0 (header_of m a.kind a.w a.n (length a.coeffs.now)))
     header.mark_of.ensures)

@@ -36,4 +36,4 @@ write_with-requires c =
     (known (goal.at.write_with-requires c).Else-not-known_kind, sym tested.good_index.ensures ∙ tested.if-not-good_index.false)
 
 pub returns : goal.returns
-returns c = let told = c.write_with.ensures in record { answer = told.0; leaves = told.1 }
+returns c = record { answer = c.write_with.ensures.answer; leaves = c.write_with.ensures.leaves }

@@ -1,5 +1,5 @@
 -- `write_with`: each return by the tests that led there (Writing).
-use Prim.Native.Nat.{◌+◌, ◌*◌, ◌≤◌}
+use Prim.Native.Nat.{ℕ, ◌+◌, ◌*◌, ◌≤◌}
 use mathlib.Core.Path.{◌≡◌, sym, ◌∙◌, ap}
 use mathlib.Core.Bool.{false}
 use lib.ListN.{length}
@@ -19,54 +19,40 @@ use Rattle.forms.proofs.Told.{told}
 use Rattle.forms.proofs.Writing.{count-wrong, too_low, halves_unlike, no_room, stored-whole, size-made}
 use Rattle.forms.proofs.Writing.{degree-told, all_told}
 use Rattle.writing.proofs.write_with.Goals as goal
-use Rattle.writing.proofs.write_with.Goals.{After-degree_of-degree, After-least_width-w, After-stored_of, Else-count-degree, Else-uneven_for, Else-w-eq0, Start}
+use Rattle.writing.proofs.write_with.Goals.{After-degree_of-degree, After-least_width-w, After-stored_of, Else-count-degree, Else-w-eq0}
 
--- the function's start, from the places past the degree, the count and OVER
-abbrev from : After-degree_of-degree → Start
-from c = c.before.before
-
-abbrev from1 : Else-count-degree → Start
-from1 c = from c.before
-
-abbrev from2 : Else-w-eq0 → Start
-from2 c = from1 c.before.before.before
-
--- past UNEVEN, and past the number of what is stored
-abbrev over_of : Else-uneven_for → Else-w-eq0
-over_of c = c.before.before
-
-abbrev from3 : After-stored_of → Start
-from3 c = from2 (over_of c.before)
-
--- what is known there
-degree_is : (c : After-degree_of-degree) → c.degree_of-degree.result ≡ degree (from c).args.kind (from c).args.n
-degree_is c = told-right _ _ _ c.degree_of-degree.ensures (index_good _ (from c).requires.1).1
+-- what is known past the degree, the count and OVER
+degree_is : (c : After-degree_of-degree) → c.degree_of-degree.result ≡ degree c.args.kind c.args.n
+degree_is c = told-right _ _ _ c.degree_of-degree.ensures (index_good _ c.requires.1).1
 
 low : (c : After-degree_of-degree) → c.degree_of-degree.result ≤ 65535
-low c = told_small (from c).args.kind (from c).args.n _ c.degree_of-degree.ensures
+low c = told_small c.args.kind c.args.n _ c.degree_of-degree.ensures
 
-counted : (c : Else-count-degree) → length (from1 c).args.coeffs.now ≡ degree (from1 c).args.kind (from1 c).args.n + 1
-counted c = c.if-count-degree.false ∙ ap (λ d. d + 1) (degree_is c.before)
+counted : (c : Else-count-degree) → length c.args.coeffs.now ≡ degree c.args.kind c.args.n + 1
+counted c =
+    c.if-count-degree.false
+    ∙ ap (λ d. d + 1) (told-right _ _ _ c.degree_of-degree.ensures (index_good _ c.requires.1).1)
 
-made : (c : After-least_width-w) → c.least_width-w.result ≡ width (from1 c.before.before).args.coeffs.now
+made : (c : After-least_width-w) → c.least_width-w.result ≡ width c.args.coeffs.now
 made c = width-made _ _ _ (ap (λ top. top.height) c.peak-top.ensures) c.least_width-w.ensures
 
-fit : (c : Else-w-eq0) → Fitting (from2 c).args.coeffs.now c.least_width-w.result
-fit c = width_fits _ _ (made c.before) (nonzero _ c.if-w-eq0.false)
+fit : (c : Else-w-eq0) → Fitting c.args.coeffs.now c.least_width-w.result
+fit c =
+    width_fits _ _ (width-made _ _ _ (ap (λ top. top.height) c.peak-top.ensures) c.least_width-w.ensures)
+    (nonzero _ c.if-w-eq0.false)
 
-short : (c : Else-w-eq0) → length (from2 c).args.coeffs.now ≤ 65536
-short c =
-    let e = c in
-    omega (arith, e.if-count-degree.false, low c.before.before.before.before)
+short : (c : Else-w-eq0) → length c.args.coeffs.now ≤ 65536
+short c = omega (arith, c.if-count-degree.false, told_small c.args.kind c.args.n _ c.degree_of-degree.ensures)
 
-whole : (c : After-stored_of) → 10 + c.Stored-of.result * (over_of c.before).least_width-w.result
-    ≡ size (from3 c).args.form (from3 c).args.coeffs.now
-whole c = size-made _ _ _ _ (made (over_of c.before).before) c.Stored-of.ensures.0
+-- and past the number of what is stored
+whole : (c : After-stored_of) → 10 + c.stored_of.result * c.least_width-w.result
+    ≡ size c.args.form c.args.coeffs.now
+whole c =
+    size-made _ _ _ _ (width-made _ _ _ (ap (λ top. top.height) c.peak-top.ensures) c.least_width-w.ensures)
+    c.stored_of.ensures.0
 
-small : (c : After-stored_of) → c.Stored-of.result * (over_of c.before).least_width-w.result ≤ 524288
-small c =
-    let over = over_of c.before in
-    few _ _ (omega (arith, c.Stored-of.ensures.1, short over)) (fit over).high
+small : (over : Else-w-eq0) (k : ℕ) → k ≤ length over.args.coeffs.now → k * over.least_width-w.result ≤ 524288
+small over k part = few _ _ (omega (arith, part, short over)) (fit over).high
 
 pub overflow_add-degree : goal.overflow_add-degree
 overflow_add-degree c = omega (arith, low (goal.at.overflow_add-degree c).After-degree_of-degree)
@@ -75,7 +61,7 @@ pub returns-then-count-degree : goal.returns-then-count-degree
 unfolding write_tells byte_of
 returns-then-count-degree c = let told =
     let e = (goal.at.returns-then-count-degree c).After-degree_of-degree in
-    let start = from e in
+    let start = e in
     told c.refused.ensures (count-wrong start.args.form _ _ _ _ start.requires.0 start.requires.1
     (λ m. c.if-count-degree.true (m ∙ ap (λ d. d + 1) (sym (degree_is e))))) in record { answer = told.0; leaves = told.1 }
 
@@ -84,7 +70,7 @@ unfolding write_tells byte_of
 returns-then-w-eq0 c = let told =
     let looked = (goal.at.returns-then-w-eq0 c).After-least_width-w in
     let e = (goal.at.returns-then-w-eq0 c).Else-count-degree in
-    let start = from1 e in
+    let start = e in
     told (c.refused-then-w-eq0.ensures ∙ degree-told _ _ _ (degree_is (goal.at.returns-then-w-eq0 c).After-degree_of-degree))
     (too_low start.args.form _ _ _ _ start.requires.0 start.requires.1 (counted e)
     (width-none _ (sym (made looked) ∙ c.if-w-eq0.true))) in record { answer = told.0; leaves = told.1 }
@@ -98,42 +84,42 @@ returns-then-uneven_for c = let told =
     let looked = c in
     let over = (goal.at.returns-then-uneven_for c).Else-w-eq0 in
     let e = (goal.at.returns-then-uneven_for c).Else-count-degree in
-    let start = from1 e in
+    let start = e in
     told c.refused-then-uneven_for.ensures
     (halves_unlike start.args.form _ _ _ _ start.requires.0 start.requires.1 (counted e) (fit over).within
     (sym looked.uneven_for.ensures ∙ c.if-uneven_for.true)) in record { answer = told.0; leaves = told.1 }
 
 pub stored_of-requires : goal.stored_of-requires
-stored_of-requires c = short (over_of (goal.at.stored_of-requires c).Else-uneven_for)
+stored_of-requires c = short (goal.at.stored_of-requires c).Else-w-eq0
 
 pub overflow_mul-size : goal.overflow_mul-size
-overflow_mul-size c = omega (arith, small (goal.at.overflow_mul-size c).After-stored_of)
+overflow_mul-size c = omega (arith, small (goal.at.overflow_mul-size c).Else-w-eq0 c.stored_of.result c.stored_of.ensures.1)
 
 pub overflow_add-size : goal.overflow_add-size
-overflow_add-size c = omega (arith, small (goal.at.overflow_add-size c).After-stored_of)
+overflow_add-size c = omega (arith, small (goal.at.overflow_add-size c).Else-w-eq0 c.stored_of.result c.stored_of.ensures.1)
 
 -- the halves match
-even : (c : After-stored_of) → uneven_for (from3 c).args.form (from3 c).args.kind (from3 c).args.n
-    (from3 c).args.coeffs.now ≡ false
+even : (c : After-stored_of) → uneven_for c.args.form c.args.kind c.args.n
+    c.args.coeffs.now ≡ false
 even c = sym c.uneven_for.ensures ∙ c.if-uneven_for.false
 
 pub returns-then-bytes-size : goal.returns-then-bytes-size
 unfolding write_tells byte_of
 returns-then-bytes-size c = let told =
     let stored = (goal.at.returns-then-bytes-size c).After-stored_of in
-    let over = over_of (goal.at.returns-then-bytes-size c).Else-uneven_for in
-    let e = over.before.before.before in
-    let start = from1 e in
-    told (c.refused-then-bytes-size.ensures ∙ degree-told _ _ _ (degree_is e.before))
+    let over = (goal.at.returns-then-bytes-size c).Else-w-eq0 in
+    let e = (goal.at.returns-then-bytes-size c).Else-count-degree in
+    let start = e in
+    told (c.refused-then-bytes-size.ensures ∙ degree-told _ _ _ (degree_is (goal.at.returns-then-bytes-size c).After-degree_of-degree))
     (no_room start.args.form _ _ _ _ start.requires.0 start.requires.1 (counted e) (fit over).within (even stored)
     (omega (arith, whole stored))) in record { answer = told.0; leaves = told.1 }
 
 pub store-requires : goal.store-requires
 store-requires c =
     let stored = (goal.at.store-requires c).After-stored_of in
-    let over = over_of (goal.at.store-requires c).Else-uneven_for in (
-      omega (arith, kind_small _ (from2 over).requires.0),
-      made over.before,
+    let over = (goal.at.store-requires c).Else-w-eq0 in (
+      omega (arith, kind_small _ over.requires.0),
+      made (goal.at.store-requires c).After-least_width-w,
       (fit over).low,
       short over,
       omega (arith, whole stored),
@@ -142,11 +128,11 @@ store-requires c =
 pub returns : goal.returns
 returns c = let told =
     let stored = (goal.at.returns c).After-stored_of in
-    let over = over_of (goal.at.returns c).Else-uneven_for in
-    let e = over.before.before.before in
-    let start = from1 e in
+    let over = (goal.at.returns c).Else-w-eq0 in
+    let e = (goal.at.returns c).Else-count-degree in
+    let start = e in
     let a = start.args in
     let p = stored-whole a.form a.kind a.n a.coeffs.now a.bytes.now start.requires.0 start.requires.1
     (counted e) (fit over).within (even stored) (omega (arith, whole stored)) in
-    told (all_told a.form _ _ _ _ _ (degree_is e.before) (whole stored))
+    told (all_told a.form _ _ _ _ _ (degree_is (goal.at.returns c).After-degree_of-degree) (whole stored))
     (p.0, c.store.ensures ∙ p.1) in record { answer = told.0; leaves = told.1 }
