@@ -5,4 +5,4 @@ use borrow.Author.Rules.{rules}
 use Rattle.browsing.proofs.browse.Goals as goal
 
 pub returns : goal.returns
-returns c = c.Numbers-of.ensures ∙ ap told c.shown_at.ensures
+returns c = c.numbers_of.ensures ∙ ap told c.shown_at.ensures
