@@ -36,7 +36,7 @@ pub bounds-out-1 : goal.bounds-out-1
 bounds-out-1 c =
     let copied = c in
     let start = c in
-    omega (arith, copied.copy.auto.1.1.0, start.requires.1, size_least Half start.args.bytes.now)
+    omega (arith, copied.copy.auto.out, start.requires.1, size_least Half start.args.bytes.now)
 
 pub returns : goal.returns
 returns c =

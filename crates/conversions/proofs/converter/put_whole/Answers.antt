@@ -12,14 +12,10 @@ use Rattle.forms.proofs.Done.{Read_right, looked}
 use Rattle.forms.proofs.Reading.{size_in_lem}
 use Rattle.conversions.proofs.Converting.{half_least, placed, whole-stored}
 use Rattle.conversions.proofs.converter.put_whole.Goals as goal
-use Rattle.conversions.proofs.converter.put_whole.Goals.{After-slice_known-2-1, Start}
+use Rattle.conversions.proofs.converter.put_whole.Goals.{Start}
 
 good : (s : Start) → Read_right Half s.args.bytes.now (count_in s.args.bytes.now)
 good s = looked Half _ s.requires.0
-
--- the function's start, from the place past the front
-abbrev from : After-slice_known-2-1 → Start
-from c = c.before.before.before.before.before.before
 
 pub put_front-requires : goal.put_front-requires
 put_front-requires c =
@@ -27,19 +23,19 @@ put_front-requires c =
     (start.requires.0, omega (arith, start.requires.1, half_least Whole start.args.bytes.now))
 
 pub width_in-w-requires : goal.width_in-w-requires
-width_in-w-requires c = (right _ _ (good (from (goal.at.width_in-w-requires c).After-slice_known-2-1)).header).long
+width_in-w-requires c = (right _ _ (good (goal.at.width_in-w-requires c).Start).header).long
 
 pub count_in-count-requires : goal.count_in-count-requires
-count_in-count-requires c = (right _ _ (good (from (goal.at.count_in-count-requires c).After-slice_known-2-1)).header).long
+count_in-count-requires c = (right _ _ (good (goal.at.count_in-count-requires c).Start).header).long
 
 pub negates_in-requires : goal.negates_in-requires
-negates_in-requires c = (right _ _ (good (from (goal.at.negates_in-requires c).After-slice_known-2-1)).header).long
+negates_in-requires c = (right _ _ (good (goal.at.negates_in-requires c).Start).header).long
 
 pub put_other-requires : goal.put_other-requires
 put_other-requires c =
     let counted = c in
     let wide = c in
-    let start = from (goal.at.put_other-requires c).After-slice_known-2-1 in
+    let start = (goal.at.put_other-requires c).Start in
     let bs = start.args.bytes.now in
     let g = good start in
     let ew = wide.width_in-w.ensures in
@@ -50,7 +46,7 @@ put_other-requires c =
         arith,
         size_in_lem Whole bs _ _ ew ek,
         start.requires.1,
-        wide.put_front.auto.1.1.0,
+        wide.put_front.auto.out,
       ),
     )
 
@@ -59,8 +55,8 @@ returns c =
     let negates = c in
     let counted = c in
     let wide = c in
-    let front = (goal.at.returns c).After-slice_known-2-1 in
-    let start = from front in
+    let front = c in
+    let start = c in
     let known = c in
     let bs = start.args.bytes.now in
     whole-stored bs (bytes_each bs (λ i. (known.type_inv.bytes i).fits)) start.requires.0
