@@ -1,5 +1,5 @@
-// A reader: the lent shelf together with its place. The borrow checker covers no function over it: each is proved by a
-// walk of its MIR, by hand. The work is done by `turn_at` and `stretch_of`, whose parameters are plain.
+// A reader: the lent shelf together with its place. The work is done by `turn_at` and `stretch_of`, whose parameters
+// are plain.
 ghost use Rattle.std.specs.Prelude.{◌≡◌};
 ghost use Rattle.browsing.specs.Browse.{start_of, length_of, part_of, lies};
 ghost use Rattle.browsing.specs.Reading.{opened, turn_of, moved};
