@@ -1,6 +1,5 @@
 -- `digit`: by the digit's place.
 use mathlib.Core.Path.{◌≡◌, ◌∙◌, ap}
-use borrow.Author.Rules.{rules}
 use lib.IntN.{ℤ, pos}
 use lib.Signed.{shr_z}
 use mir.Syntax.{w64}

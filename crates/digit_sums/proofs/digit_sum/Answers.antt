@@ -1,8 +1,7 @@
 -- `digit_sum`: the sum of the products of two digits, term by term.
-use Prim.Native.Nat.{◌-◌, ◌≤◌}
+use Prim.Native.Nat.{◌-◌}
 use mathlib.Core.Path.{◌≡◌, ◌∙◌, ap, ap₂}
 use native.Mathlib.Omega.{arith}
-use borrow.Author.Rules.{rules}
 use lib.IntN.{ℤ}
 use mir.Syntax.{w64}
 use mir.Val.{to_z, SFits}
@@ -57,7 +56,7 @@ module _ (c : After-digit-y) where
       handed (digit_fits at.args.c second y_fits)
       (c.digit-y.ensures ∙ ap (digit_of at.args.c) (handed y_fits c.read_entry-in-loop-j.ensures.0))
 
-  next : SFits w64 p × SFits w64 (to_z w64 at.loop-j.s ⊕ p)
+  next : SFits w64 p × SFits w64 (to_z w64 at.loop-j.s-bits ⊕ p)
   next = more_asks at.loop-j.invariant.2 x_fits y_fits (omega (arith, at.requires.0.few, at.requires.1))
 
 pub add_product-s-requires : goal.add_product-s-requires
@@ -66,9 +65,9 @@ add_product-s-requires c = rw (x-seen (goal.at.add_product-s-requires c).After-d
 pub loop-j-preserved : goal.loop-j-preserved
 loop-j-preserved c =
     let q = (goal.at.loop-j-preserved c).After-digit-y in
-    let is : seen c.add_product-s.result ≡ to_z w64 (at q).loop-j.s ⊕ p q =
+    let is : seen c.add_product-s.result ≡ to_z w64 (at q).loop-j.s-bits ⊕ p q =
     handed (next q).1
-    (c.add_product-s.ensures ∙ ap₂ (λ s t. to_z w64 (at q).loop-j.s ⊕ s ⊗ t) (x-seen q) (y-seen q)) in
+    (c.add_product-s.ensures ∙ ap₂ (λ s t. to_z w64 (at q).loop-j.s-bits ⊕ s ⊗ t) (x-seen q) (y-seen q)) in
     (omega arith, omega arith, rw is (more (at q).loop-j.invariant.2 (x_fits q) (y_fits q)))
 
 pub returns : goal.returns
@@ -77,5 +76,5 @@ returns c =
     let a = c.args in
     let t = c.requires.0 in
     let same : l.j ≡ a.to = omega arith in
-    let end : DigitsTo a.f.now a.b.now a.i a.to a.a a.c (to_z w64 l.s) = rw same at l.invariant.2 in
+    let end : DigitsTo a.f.now a.b.now a.i a.to a.a a.c (to_z w64 l.s-bits) = rw same at l.invariant.2 in
     (done a.a a.c t end, omega (arith, end.small, t.few, c.requires.1))

@@ -1,6 +1,5 @@
 -- `heavy_sum`: from the first place on, nothing being carried to it.
 use mathlib.Core.Path.{◌∙◌, ap}
-use borrow.Author.Rules.{rules}
 use Rattle.definitions.specs.Series.{◌·◌}
 use Rattle.definitions.specs.Steps.{entries}
 use Rattle.integers.specs.Whole.{zero_⊕}

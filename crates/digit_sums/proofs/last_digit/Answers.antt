@@ -1,7 +1,6 @@
 -- `last_digit`: what is left of v without what is above its last digit.
 use mathlib.Core.Path.{◌≡◌, refl, ◌∙◌, ap}
 use native.Mathlib.Omega.{arith}
-use borrow.Author.Rules.{rules}
 use lib.Signed.{shr_z}
 use mir.Facts.{to_z-of_z}
 use Rattle.light_sums.specs.Parts.{base}

@@ -40,10 +40,10 @@ module _ (c : After-digit_sum) where
   one_seen : seen c.digit_sum.result ≡ one
   one_seen = handed (small_fits one (omega (arith, one_small))) c.digit_sum.ensures.0
 
-  both_small : nat_abs (to_z w64 at.loop-a.s ⊕ one) ≤ (at.loop-a.a + 1) * 1152921504606846976
-  both_small = omega (arith, abs_⊕ (to_z w64 at.loop-a.s) one, at.loop-a.invariant.2, one_small)
+  both_small : nat_abs (to_z w64 at.loop-a.s-bits ⊕ one) ≤ (at.loop-a.a + 1) * 1152921504606846976
+  both_small = omega (arith, abs_⊕ (to_z w64 at.loop-a.s-bits) one, at.loop-a.invariant.2, one_small)
 
-  next : SFits w64 (to_z w64 at.loop-a.s ⊕ one)
+  next : SFits w64 (to_z w64 at.loop-a.s-bits ⊕ one)
   next = small_fits _ (omega (arith, both_small, at.requires.2, c.loop-a-test.true))
 
 pub plus-s-requires : goal.plus-s-requires
@@ -53,8 +53,8 @@ pub loop-a-preserved : goal.loop-a-preserved
 loop-a-preserved c =
     let q = (goal.at.loop-a-preserved c).After-digit_sum in
     let a = (at q).args in
-    let is : seen c.plus-s.result ≡ to_z w64 (at q).loop-a.s ⊕ one q =
-    handed (next q) (c.plus-s.ensures ∙ ap (λ n. to_z w64 (at q).loop-a.s ⊕ n) (one_seen q)) in (
+    let is : seen c.plus-s.result ≡ to_z w64 (at q).loop-a.s-bits ⊕ one q =
+    handed (next q) (c.plus-s.ensures ∙ ap (λ n. to_z w64 (at q).loop-a.s-bits ⊕ n) (one_seen q)) in (
       omega arith,
       is ∙ ap (λ n. n ⊕ one q) (at q).loop-a.invariant.1
           ∙ sym (place_more (entries a.f.now) (entries a.b.now) a.i a.k (at q).loop-a.a),
