@@ -7,7 +7,7 @@
 
 #![tactic(auto)]
 
-ghost use Rattle.std.specs.Prelude.{◌≡◌, ◌*◌, ◌≤◌, length, take};
+ghost use Rattle.std.specs.Prelude.{◌≡◌, ◌+◌, ◌*◌, ◌≤◌, length, take};
 ghost use Rattle.io.specs.Counts.{IsPrefixLen};
 ghost use Rattle.text.specs.Puts.{Puts};
 ghost use Rattle.rescuing.specs.Rescue.{kept, listed};
@@ -21,13 +21,22 @@ const MOST: usize = 2000000;
 
 const NOTHING: [u8; 27] = *b" bytes, nothing is written\n";
 
+// One read of standard input, to where the ones before have come. What they gave stays.
+fn read_more(rt: &HostRuntime, shelf: &mut [u8], at: usize) -> Got
+    requires { at ≤ length shelf.old }
+    ensures count_in_bounds { at + result.count ≤ length shelf.new }
+    ensures shelf_unchanged { take at shelf.new ≡ take at shelf.old }
+{
+    streams::read_more(&mut rt.stdin(), shelf, at)
+}
+
 // Reads to the end of the input, or until the buffer is full.
 fn read_all(rt: &HostRuntime, shelf: &mut [u8]) -> Got
     ensures { IsPrefixLen result.count shelf.new }
 {
     let mut at = 0;
     while at < shelf.len() {
-        let got = streams::read_more(&mut rt.stdin(), shelf, at);
+        let got = read_more(rt, shelf, at);
         let n = got.count;
         if n == 0 {
             return Got {

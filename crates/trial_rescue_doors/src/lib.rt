@@ -11,6 +11,19 @@ use trial_lines::{Row, as_entries, room};
 // The name of the request, as `trial_lines::name` reads it.
 const RESCUE: u64 = 609848997;
 
+// A list that is lent, and as many entries.
+fn numbers() -> [u64; 65536]
+    ensures { 65536 ≡ length result }
+{
+    trial_lines::list_room()
+}
+
+fn blank() -> [i64; 65536]
+    ensures { 65536 ≡ length result }
+{
+    trial_lines::entry_room()
+}
+
 // The list is told by way of as many entries.
 fn rescue(entries: &mut [i64], bytes: &[u8], out: &mut [u8], list: &mut [u64], told: &mut [i64])
     requires { length told.old ≡ length list.old }
@@ -47,8 +60,8 @@ fn rescue_in(
 
 fn rescued(asked: Row, entries: &mut [i64], bytes: &[u8]) {
     let mut space = trial_lines::filled();
-    let mut list = trial_lines::list_room();
-    let mut told = trial_lines::entry_room();
+    let mut list = numbers();
+    let mut told = blank();
     rescue_in(asked, entries, bytes, &mut space, &mut list, &mut told);
 }
 

@@ -16,10 +16,10 @@ read_more-got-requires c = c.loop-at.invariant.0
 
 -- a read keeps the buffer's length, and what it gave lies in there
 module _ (c : After-read_more-got) where
-  kept : length c.read_more-got.new.buffer ≡ length c.args.shelf.now
-  kept = c.read_more-got.auto.1.0 ∙ c.loop-at.invariant.1
+  kept : length c.read_more-got.new.shelf ≡ length c.args.shelf.now
+  kept = c.read_more-got.auto.shelf ∙ c.loop-at.invariant.1
 
-  within : c.loop-at.at ≤ length c.read_more-got.new.buffer
+  within : c.loop-at.at ≤ length c.read_more-got.new.shelf
   within = omega (arith, c.read_more-got.ensures.count_in_bounds)
 
 pub shape_of-shelf-then-n-eq0 : goal.shape_of-shelf-then-n-eq0
@@ -36,7 +36,7 @@ overflow_add-at c = omega (arith, c.read_more-got.ensures.count_in_bounds, kept 
 pub loop-at-smaller : goal.loop-at-smaller
 loop-at-smaller c =
     let read = c in
-    omega (arith, read.read_more-got.ensures.count_in_bounds, read.read_more-got.auto.1.0)
+    omega (arith, read.read_more-got.ensures.count_in_bounds, read.read_more-got.auto.shelf)
 
 pub loop-at-preserved : goal.loop-at-preserved
 loop-at-preserved c =
