@@ -87,10 +87,10 @@ answer_in-requires c =
     )
 
 pub returns : goal.returns
-returns c = let told =
+returns c =
     let e = (goal.at.returns c).Else-w-lt1 in
-    let h = read_limit (asked e).args.h (asked e).ranges.h (good_h e)
-    c.magnitude.ensures in
-    let w = read_limit (asked e).args.w (asked e).ranges.w (good_w e)
-    c.magnitude-2.ensures in
-    rw (h.1, w.1) at c.answer_in.ensures in record { value = told.0; buf_after = told.1 }
+    let h = read_limit (asked e).args.h (asked e).ranges.h (good_h e) c.magnitude.ensures in
+    let w = read_limit (asked e).args.w (asked e).ranges.w (good_w e) c.magnitude-2.ensures in record {
+      value = rw (h.1, w.1) at c.answer_in.ensures.value;
+      buf_after = rw (h.1, w.1) at c.answer_in.ensures.buf_after;
+    }
