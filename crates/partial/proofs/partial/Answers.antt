@@ -66,6 +66,7 @@ stop_at-requires c =
     }
 
 pub returns : goal.returns
-returns c = let told =
-    let p = c in
-    rw (to_z-of_z p.ranges.w) at c.stop_at.ensures in record { value = told.0; buf_after = told.1 }
+returns c = record {
+  value = rw (to_z-of_z c.ranges.w) at c.stop_at.ensures.value;
+  buf_after = rw (to_z-of_z c.ranges.w) at c.stop_at.ensures.buf_after;
+}

@@ -88,7 +88,7 @@ module _ (e : Else-w-lt1) where
   w = (start walked).args.w
 
   good : below_one w ≡ false
-  good = below_one_lem w (start walked).ranges.w e.if-w-lt1.left
+  good = below_one_lem w (start walked).ranges.w e.if-w-lt1.false
 
   limit : {m : ℕ} → m ≡ nat_abs (seen w) → (m ≡ nat_abs w) × (pos m ≡ w) × Workable m
   limit = read_limit w (start walked).ranges.w good
@@ -126,10 +126,10 @@ returns-then-outcome c = let m = c in
     }
 
 pub returns : goal.returns
-returns c = let told =
+returns c =
     let m = c in
     let e = (goal.at.returns c).Else-w-lt1 in
     let q = walked e in
-    Stopping.made_done (kind q) (n q) (start q).args.j (w e) _ (start q).requires (old q) _ (d_is q)
+    let s = Stopping.made_done (kind q) (n q) (start q).args.j (w e) _ (start q).requires (old q) _ (d_is q)
     (few_due q (omega arith)) (good e) (omega arith) _ _ (limit e m.magnitude.ensures).0
-    (walk_of_r q m.make_kept_half-outcome.ensures) c.if-outcome.false in record { value = told.0; buf_after = told.1 }
+    (walk_of_r q m.make_kept_half-outcome.ensures) c.if-outcome.false in record { value = s.0; buf_after = s.1 }
