@@ -18,7 +18,7 @@ use Rattle.step_laws.specs.Firsts.{is_firsts}
 use Rattle.step_laws.specs.Outside.{outside_is, inside_all}
 use Rattle.entry_steps.specs.Passes.{Split}
 use Rattle.entry_steps.proofs.Split.{moved_down}
-use Rattle.light_sums.specs.Told.{told, outside, told_in, told-not, told_same}
+use Rattle.light_sums.specs.Told.{told, told_in, told-not, told_same}
 use Rattle.exact_products.specs.Products.{Ready}
 
 pub record Made (f old l : List ℤ) (i : ℕ) : Type 0 where

@@ -1,7 +1,6 @@
 -- `coefficient`: the terms that are left out are 0.
 use Rattle.light_sums.specs.Terms.{Terms}
 use Rattle.exact_products.specs.Products.{ready_terms}
-use borrow.Author.Rules.{rules}
 use Rattle.exact_products.proofs.coefficient.Goals as goal
 use Rattle.exact_products.proofs.coefficient.Goals.{After-past_terms-to}
 

@@ -1,8 +1,7 @@
 -- `weight_of`: the weight of the entries passed is below 2^63, or it stops.
-use Prim.Native.Nat.{◌-◌, ◌≤◌, ◌<◌, ◌+◌}
+use Prim.Native.Nat.{◌+◌}
 use mathlib.Core.Path.{◌≡◌, sym, ◌∙◌, ap}
 use native.Mathlib.Omega.{arith}
-use borrow.Author.Rules.{rules}
 use lib.ListN.{length}
 use lib.IntN.{nat_abs}
 use Rattle.definitions.specs.Steps.{entries}

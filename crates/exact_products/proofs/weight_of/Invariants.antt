@@ -1,13 +1,9 @@
 -- `weight_of`: the weight of the entries passed is below 2^63, or it stops.
-use Prim.Native.Nat.{◌-◌, ◌≤◌, ◌<◌, ◌+◌}
-use mathlib.Core.Path.{◌≡◌, sym, ◌∙◌, ap}
-use native.Mathlib.Omega.{arith}
-use borrow.Author.Rules.{rules}
+use Prim.Native.Nat.{◌-◌, ◌≤◌, ◌<◌}
+use mathlib.Core.Path.{◌≡◌}
 use lib.ListN.{length}
-use lib.IntN.{nat_abs}
 use Rattle.definitions.specs.Steps.{entries}
-use Rattle.step_laws.specs.Machine.{handed}
-use Rattle.light_sums.specs.Weight.{weight, weight_to, weight_to_more, weight_to-most, weight_to-none, weight_to-whole}
+use Rattle.light_sums.specs.Weight.{weight_to}
 use Rattle.exact_products.proofs.weight_of.Given as goal
 
 abbrev pub invariant-loop-i : goal.invariant-loop-i

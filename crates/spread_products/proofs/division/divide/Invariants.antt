@@ -1,15 +1,9 @@
 -- `divide` meets its contract. The invariant: the division of what came in has got to i.
 use Prim.Native.Nat.{◌-◌}
-use mathlib.Core.Path.{◌∙◌, ap}
 use mathlib.Core.List.{List}
-use native.Mathlib.Omega.{arith}
 use lib.IntN.{ℤ}
-use lib.ListN.{length, set}
-use Rattle.step_laws.specs.Machine.{handed}
-use Rattle.wrapped_sums.specs.Residues.{wrap_fits}
+use lib.ListN.{length}
 use Rattle.spread_products.specs.Quotients.{DividedTo}
-use Rattle.spread_products.proofs.Dividing.{next_one, ended}
-use borrow.Author.Rules.{rules}
 use Rattle.spread_products.proofs.division.divide.Given as goal
 
 abbrev pub invariant-loop-i : goal.invariant-loop-i

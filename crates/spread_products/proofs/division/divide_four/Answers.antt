@@ -3,7 +3,6 @@ use Rattle.step_laws.specs.Machine.{handed}
 use Rattle.entry_steps.proofs.FourEntries.{four_is}
 use Rattle.wrapped_sums.specs.Residues.{wrap_fits}
 use Rattle.spread_products.specs.Quotients.{next_quotient}
-use borrow.Author.Rules.{rules}
 use Rattle.spread_products.proofs.division.divide_four.Goals as goal
 
 pub returns : goal.returns

@@ -1,12 +1,9 @@
 -- `division::divide_fours` meets its contract. The invariant: of whatever list the division got to `from`, it got to i.
 use Prim.Native.Nat.{◌-◌}
-use mathlib.Core.Path.{sym, ◌∙◌}
 use mathlib.Core.List.{List}
-use native.Mathlib.Omega.{arith}
 use lib.ListN.{length}
 use lib.IntN.{ℤ}
 use Rattle.spread_products.specs.Quotients.{DividedTo}
-use Rattle.spread_products.proofs.Dividing.{next_four}
 use Rattle.spread_products.proofs.division.divide_fours.Given as goal
 
 abbrev pub invariant-loop-i : goal.invariant-loop-i

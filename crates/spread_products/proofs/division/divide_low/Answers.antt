@@ -1,6 +1,5 @@
 -- `division::divide_low` meets its contract. The invariant: the division has got to i, and each entry from there on is
 -- the old one.
-use Prim.Native.Nat.{◌-◌, ◌≤◌}
 use mathlib.Core.Path.{◌∙◌, ap}
 use native.Mathlib.Omega.{arith}
 use lib.ListN.{set}
@@ -12,8 +11,7 @@ use Rattle.wrapped_sums.specs.Residues.{wrap_fits}
 use mir.Facts.{to_z-of_z}
 use mir.Syntax.{w64}
 use mir.Val.{SFits}
-use Rattle.spread_products.proofs.Dividing.{Lower, low-start, low-next, low_ends}
-use borrow.Author.Rules.{rules}
+use Rattle.spread_products.proofs.Dividing.{low-start, low-next, low_ends}
 use Rattle.spread_products.proofs.division.divide_low.Goals as goal
 
 pub loop-i-init : goal.loop-i-init

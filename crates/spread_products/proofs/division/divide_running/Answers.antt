@@ -1,9 +1,7 @@
 -- `division::divide_running` meets its contract. The invariant: the division has got to i, and what is carried is the
 -- quotient's entry before it.
-use Prim.Native.Nat.{◌-◌}
-use mathlib.Core.Path.{◌≡◌, ◌∙◌, ap}
+use mathlib.Core.Path.{◌∙◌, ap}
 use native.Mathlib.Omega.{arith}
-use lib.ListN.{length}
 use mir.Syntax.{w64}
 use mir.Val.{SFits, to_z}
 use mir.Facts.{to_z-of_z}
@@ -12,15 +10,7 @@ use Rattle.definitions.specs.Steps.{entries}
 use Rattle.step_laws.specs.Machine.{handed}
 use Rattle.wrapped_sums.specs.Wrapped.{wrap}
 use Rattle.wrapped_sums.specs.Residues.{wrap_fits}
-use Rattle.spread_products.proofs.Dividing.{
-  Lower,
-  low-start,
-  carried_at,
-  carried_first,
-  running_next,
-  running_ends,
-}
-use borrow.Author.Rules.{rules}
+use Rattle.spread_products.proofs.Dividing.{low-start, carried_first, running_next, running_ends}
 use Rattle.spread_products.proofs.division.divide_running.Goals as goal
 
 pub loop-i-init : goal.loop-i-init
@@ -38,7 +28,7 @@ loop-i-preserved c =
           c.minus-arg-1.given;
     } in
     let v = handed (wrap_fits _) (c.minus-carried.ensures
-    ∙ ap (λ x. wrap (to_z w64 s.loop-i.carried ⊝ x)) (to_z-of_z f)) in
+    ∙ ap (λ x. wrap (to_z w64 s.loop-i.carried-bits ⊝ x)) (to_z-of_z f)) in
     let n = running_next s.args.a.now s.loop-i.invariant.0 s.loop-i.invariant.1 (omega
     (arith, s.loop-i.invariant.0.len)) v in
     (rw c.put.ensures n.1, n.0)

@@ -8,7 +8,6 @@ use Rattle.definitions.specs.Steps.{entries}
 use Rattle.step_laws.specs.Machine.{seen_both, handed}
 use Rattle.wrapped_sums.specs.Wrapped.{wrap}
 use Rattle.wrapped_sums.specs.Residues.{wrap_fits}
-use borrow.Author.Rules.{rules}
 use Rattle.spread_products.proofs.division.next_quotient.Goals as goal
 
 pub returns : goal.returns

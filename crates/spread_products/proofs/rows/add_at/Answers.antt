@@ -7,7 +7,6 @@ use mir.Facts.{to_z-of_z}
 use Rattle.definitions.specs.Integers.{◌⊕◌}
 use Rattle.wrapped_sums.specs.Wrapped.{wrap}
 use Rattle.spread_products.specs.Rows.{signed}
-use borrow.Author.Rules.{rules}
 use Rattle.spread_products.proofs.rows.add_at.Goals as goal
 
 pub returns : goal.returns

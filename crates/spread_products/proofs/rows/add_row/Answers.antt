@@ -1,5 +1,5 @@
 -- `rows::add_row` meets its contract. The invariant: the row has got to the place j of g.
-use Prim.Native.Nat.{◌+◌, ◌-◌, ◌≤◌}
+use Prim.Native.Nat.{◌+◌}
 use mathlib.Core.Path.{◌∙◌, ap}
 use native.Mathlib.Omega.{arith}
 use Rattle.definitions.specs.Integers.{◌⊕◌}
@@ -8,8 +8,7 @@ use Rattle.wrapped_sums.specs.Wrapped.{wrap}
 use Rattle.spread_products.specs.Rows.{signed}
 use lib.ListN.{set}
 use Rattle.step_laws.specs.Machine.{handed}
-use Rattle.spread_products.proofs.Adding.{RowTo, row-start, row_next, row_ends}
-use borrow.Author.Rules.{rules}
+use Rattle.spread_products.proofs.Adding.{row-start, row_next, row_ends}
 use Rattle.spread_products.proofs.rows.add_row.Goals as goal
 
 pub loop-j-init : goal.loop-j-init

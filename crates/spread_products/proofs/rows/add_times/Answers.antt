@@ -1,14 +1,9 @@
 -- `rows::add_times` meets its contract. The invariant: q rows were added.
-use Prim.Native.Nat.{◌-◌, ◌≤◌}
 use mathlib.Core.Path.{ap}
 use native.Mathlib.Omega.{arith}
-use lib.IntN.{pos, nat_abs}
-use lib.Signed.{lt_z}
-use mir.Syntax.{w64}
-use mir.Val.{to_z}
+use lib.IntN.{nat_abs}
 use mir.Facts.{to_z-of_z}
-use Rattle.spread_products.proofs.Adding.{RowsAdded, no_rows, one_more, all_rows}
-use borrow.Author.Rules.{rules}
+use Rattle.spread_products.proofs.Adding.{no_rows, one_more, all_rows}
 use Rattle.spread_products.proofs.rows.add_times.Goals as goal
 
 pub loop-q-init : goal.loop-q-init

@@ -5,7 +5,6 @@ use Rattle.step_laws.specs.Machine.{seen_both, handed}
 use Rattle.wrapped_sums.specs.Wrapped.{wrap}
 use Rattle.wrapped_sums.specs.Residues.{wrap_fits}
 use Rattle.spread_products.specs.Rows.{signed}
-use borrow.Author.Rules.{rules}
 use Rattle.spread_products.proofs.rows.signed_sum.Goals as goal
 
 pub returns-then-away : goal.returns-then-away

@@ -1,12 +1,12 @@
 -- `times_spread` meets its contract. The invariant: the product has got to the term i, whose place is i p.
-use Prim.Native.Nat.{◌*◌, ◌-◌, ◌<◌, ◌≤◌}
-use mathlib.Core.Path.{◌≡◌, refl, ◌∙◌}
+use Prim.Native.Nat.{◌*◌, ◌<◌}
+use mathlib.Core.Path.{refl, ◌∙◌}
 use native.Mathlib.Nat as NatL
 use native.Mathlib.Omega.{arith}
 use lib.ListN.{length}
 use Rattle.step_laws.specs.Machine.{handed}
 use Rattle.spread_products.proofs.Spreading.{within, beyond}
-use Rattle.spread_products.proofs.Spreading.{ProductTo, product-start, product-next, product_ends}
+use Rattle.spread_products.proofs.Spreading.{product-start, product-next, product_ends}
 use Rattle.spread_products.proofs.rows.times_spread.Goals as goal
 use Rattle.spread_products.proofs.rows.times_spread.Goals.{At-loop-i}
 

@@ -1,12 +1,8 @@
 -- `times_spread` meets its contract. The invariant: the product has got to the term i, whose place is i p.
-use Prim.Native.Nat.{◌*◌, ◌-◌, ◌<◌, ◌≤◌}
-use mathlib.Core.Path.{◌≡◌, refl, ◌∙◌}
-use native.Mathlib.Nat as NatL
-use native.Mathlib.Omega.{arith}
+use Prim.Native.Nat.{◌*◌, ◌-◌, ◌≤◌}
+use mathlib.Core.Path.{◌≡◌}
 use lib.ListN.{length}
-use Rattle.step_laws.specs.Machine.{handed}
-use Rattle.spread_products.proofs.Spreading.{within, beyond}
-use Rattle.spread_products.proofs.Spreading.{ProductTo, product-start, product-next, product_ends}
+use Rattle.spread_products.proofs.Spreading.{ProductTo}
 use Rattle.spread_products.proofs.rows.times_spread.Given as goal
 
 abbrev pub invariant-loop-i : goal.invariant-loop-i
