@@ -53,10 +53,12 @@ module _ (k n c : ℕ) where
   by_end : {low h m d : ℕ} {l : List ℕ} → Ascending k low l → RowIn h m d (l ++ (k ∷ n ∷ c ∷ []))
       → RowIn h m d l ⊎ ((h ≡ k) × (m ≡ n) × (d ≡ c))
   by_end end here = inr (refl, refl, refl)
+  by_end {h = h} {m = m} {d = d} (end {low = low}) (later i) = elim i [ ]
   by_end (row f b more) here = inl here
   by_end (row f b more) (later i) = ⊎_elim (λ x. inl (later x)) (λ e. inr e) (by_end more i)
 
 in_front : {k low h n c : ℕ} {l : List ℕ} (more : List ℕ) → Ascending k low l → RowIn h n c l → RowIn h n c (l ++ more)
+in_front {k = k} {h = h} {n = n} {c = c} more (end {low = low}) i = elim i [ ]
 in_front more (row f b rest) here = here
 in_front more (row f b rest) (later i) = later (in_front more rest i)
 
@@ -191,6 +193,7 @@ pub record Means (a b h n c : ℕ) : Type 0 where
 row_below : (ns : List ℕ) (k h n c : ℕ) → RowIn h n c (rows_below k ns)
     → row_of h (with_height h ns) ≡ h ∷ n ∷ c ∷ []
 unfolding rows_below
+row_below ns zero h n c i = elim i [ ]
 row_below ns (suc k) h n c i =
     ⊎_elim (row_below ns k h n c) (λ e. ap (λ x. row_of x (with_height x ns)) e.0 ∙ (e.1 ∙ rw e.0 refl))
     (row_by k (rows_below k ns) (below_ascends ns k) (with_height k ns) i)

@@ -14,22 +14,20 @@ use Rattle.counting.proofs.census.Goals as goal
 use Rattle.counting.proofs.census.Goals.{Else-not-good_range}
 
 pub returns-then-not-good_range : goal.returns-then-not-good_range
-returns-then-not-good_range c = let told =
-    let q = c in
-    let r = out_of_range _ _ _ q.args.work.now
-    (sym q.good_range.ensures ∙ c.if-not-good_range.true) in
-    (c.refused.ensures ∙ sym r.0, (sym r.1, sym r.2)) in record { answer = told.0; leaves = told.1; clears = told.2 }
+returns-then-not-good_range c =
+    let r = out_of_range _ _ _ c.args.work.now (sym c.good_range.ensures ∙ c.if-not-good_range.true) in
+    record { answer = c.refused.ensures ∙ sym r.0; leaves = sym r.1; clears = sym r.2 }
 
 -- the bounds are good
 good : (e : Else-not-good_range) → good_range e.args.a e.args.b ≡ true
 good e = sym e.good_range.ensures ∙ e.if-not-good_range.false
 
 pub returns-then-work-lt-USED : goal.returns-then-work-lt-USED
-returns-then-work-lt-USED c = let told =
+returns-then-work-lt-USED c =
     let e = (goal.at.returns-then-work-lt-USED c).Else-not-good_range in
-    let a = e.args in
+    let a = c.args in
     let r = too_short a.a a.b a.rows.now a.work.now (good e) (omega arith) in
-    (c.refused-then-work-lt-USED.ensures ∙ sym r.0, (sym r.1, sym r.2)) in record { answer = told.0; leaves = told.1; clears = told.2 }
+    record { answer = c.refused-then-work-lt-USED.ensures ∙ sym r.0; leaves = sym r.1; clears = sym r.2 }
 
 pub slice_bounds-census_in-end-2 : goal.slice_bounds-census_in-end-2
 slice_bounds-census_in-end-2 c =
@@ -41,16 +39,14 @@ census_in-requires c =
     (good e, length-take-le 4096 e.args.work.now (omega arith))
 
 pub returns : goal.returns
-returns c = let told =
-    let m = c in
+returns c =
     let e = (goal.at.returns c).Else-not-good_range in
-    let a = e.args in
+    let a = c.args in
     let g = good e in
-    let enough : 4096 ≤ length a.work.now = omega arith in (
-      m.census_in.ensures.value ∙ sym (same_answer a.a a.b a.rows.now a.work.now g enough),
-      (
-        m.census_in.ensures.rows_after.0 ∙ sym (same_leaves a.a a.b a.rows.now a.work.now g enough),
-        ap (λ l. l ++ drop 4096 a.work.now) m.census_in.ensures.rows_after.1
-            ∙ sym (all_clear a.a a.b a.rows.now a.work.now g enough),
-      ),
-    ) in record { answer = told.0; leaves = told.1; clears = told.2 }
+    let enough : 4096 ≤ length a.work.now = omega arith in
+    record {
+      answer = c.census_in.ensures.value ∙ sym (same_answer a.a a.b a.rows.now a.work.now g enough);
+      leaves = c.census_in.ensures.rows_after ∙ sym (same_leaves a.a a.b a.rows.now a.work.now g enough);
+      clears = ap (λ l. l ++ drop 4096 a.work.now) c.census_in.ensures.work_after
+          ∙ sym (all_clear a.a a.b a.rows.now a.work.now g enough);
+    }

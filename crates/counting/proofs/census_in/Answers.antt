@@ -38,56 +38,42 @@ slice_bounds-lay_rows-count c =
 
 pub slice_bounds-lay_rows-start : goal.slice_bounds-lay_rows-start
 slice_bounds-lay_rows-start c =
-    let f = c.before.before in
-    let s = f.before.before.before in
-    let g = range_good _ _ s.requires.0 in
-    search (rules, g.0, g.1, g.2, s.requires.1, f.fill-additions.ensures.work_len_unchanged.0)
+    let g = range_good _ _ c.requires.0 in
+    search (rules, g.0, g.1, g.2, c.requires.1, c.fill-additions.ensures.work_len_unchanged)
 
 pub slice_bounds-lay_rows-end : goal.slice_bounds-lay_rows-end
 slice_bounds-lay_rows-end c =
-    let f = c.before.before in
-    let s = f.before.before.before in
-    let g = range_good _ _ s.requires.0 in
-    search (rules, g.0, g.1, g.2, s.requires.1, f.fill-additions.ensures.work_len_unchanged.0)
+    let g = range_good _ _ c.requires.0 in
+    search (rules, g.0, g.1, g.2, c.requires.1, c.fill-additions.ensures.work_len_unchanged)
 
 pub lay_rows-laid-requires : goal.lay_rows-laid-requires
 lay_rows-laid-requires c =
-    let f = c in
-    let s = c in
-    let g = range_good _ _ s.requires.0 in
-    heights_are _ _ _ g.0 g.1 g.2 (f.fill-additions.ensures.work_len_unchanged.0 ∙ s.requires.1) f.fill-additions.ensures.work_len_unchanged.1
+    let g = range_good _ _ c.requires.0 in
+    heights_are _ _ _ g.0 g.1 g.2 (c.fill-additions.ensures.work_len_unchanged ∙ c.requires.1)
+    c.fill-additions.ensures.work_after
 
 -- the rows, as they were laid out
 module _ (y : After-lay_rows-laid) where
-  abbrev filled : After-fill-additions
-  filled = y.before.before.before.before
-
-  abbrev start : Start
-  start = y.before.before.before.before.before.before.before
-
-  laid : LaidIs (census start.args.a start.args.b) start.args.rows.now y.lay_rows-laid.new.rows
-      y.lay_rows-laid.result
+  laid : LaidIs (census y.args.a y.args.b) y.args.rows.now y.lay_rows-laid.new.rows y.lay_rows-laid.result
   laid =
-      let g = range_good _ _ start.requires.0 in
-      let e = rows_are start.args.a start.args.b filled.fill-additions.new.work g.0 g.1 g.2
-      (filled.fill-additions.ensures.work_len_unchanged.0 ∙ start.requires.1) in
+      let g = range_good _ _ y.requires.0 in
+      let e = rows_are y.args.a y.args.b y.fill-additions.new.work g.0 g.1 g.2
+      (y.fill-additions.ensures.work_len_unchanged ∙ y.requires.1) in
       rw e at y.lay_rows-laid.ensures
 
-  zeroed : zeros (length filled.fill-additions.new.work) ≡ zeros 4096
-  zeroed = ap zeros (filled.fill-additions.ensures.work_len_unchanged.0 ∙ start.requires.1)
+  zeroed : zeros (length y.fill-additions.new.work) ≡ zeros 4096
+  zeroed = ap zeros (y.fill-additions.ensures.work_len_unchanged ∙ y.requires.1)
 
 pub returns-then-not-laid : goal.returns-then-not-laid
-returns-then-not-laid c = let told =
+returns-then-not-laid c =
     let y = (goal.at.returns-then-not-laid c).After-lay_rows-laid in
-    let l = laid y in
-    let r = not_fit _ _ (start y).requires.0 _ _ _ l (c.if-not-laid.true) in
-    (c.refused.ensures ∙ sym r.0, (r.1, c.clear.ensures ∙ zeroed y)) in record { value = told.0; rows_after = told.1; work_after = told.2 }
+    let r = not_fit _ _ c.requires.0 _ _ _ (laid y) (not-true c.lay_rows-laid.result.fit c.if-not-laid.true) in
+    record { value = c.refused.ensures ∙ sym r.0; rows_after = r.1; work_after = c.clear.ensures ∙ zeroed y }
 
 pub returns : goal.returns
-returns c = let told =
+returns c =
     let y = (goal.at.returns c).After-lay_rows-laid in
-    let l = laid y in
-    let r = fits_all _ _ (start y).requires.0 _ _ _ l (c.if-not-laid.false) in
-    let told = ap {B = Counted} (λ n. record { code = DONE; rows = y.lay_rows-laid.result.count; additions = n })
-    (filled y).fill-additions.ensures.value in
-    (told ∙ sym r.0, (r.1, c.clear.ensures ∙ zeroed y)) in record { value = told.0; rows_after = told.1; work_after = told.2 }
+    let r = fits_all _ _ c.requires.0 _ _ _ (laid y) (not-false c.lay_rows-laid.result.fit c.if-not-laid.false) in
+    let told = ap {B = Counted} (λ n. record { code = DONE; rows = c.lay_rows-laid.result.count; additions = n })
+    c.fill-additions.ensures.value in
+    record { value = told ∙ sym r.0; rows_after = r.1; work_after = c.clear.ensures ∙ zeroed y }

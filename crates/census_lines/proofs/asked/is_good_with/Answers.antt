@@ -17,7 +17,7 @@ returns-then-not-between c = simp (← c.between.ensures, c.if-not-between.true)
 
 pub returns-then-not-between-2 : goal.returns-then-not-between-2
 unfolding is_good_with
-returns-then-not-between-2 c = simp (← c.between-2.ensures, not-true c.between-2.result c.if-not-between-2.true, and-false)
+returns-then-not-between-2 c = simp (← c.between-2.ensures, c.if-not-between-2.true, and-false)
 
 pub returns-then-byte_at-ne32 : goal.returns-then-byte_at-ne32
 unfolding is_good_with

@@ -15,7 +15,7 @@ use Rattle.census_lines.proofs.reply.answer_input.Goals.{After-read_bounds-asked
 pub returns-then-out-lt-MOST : goal.returns-then-out-lt-MOST
 returns-then-out-lt-MOST c = record {
   puts = rw (lt-ltb _ _ c.if-out-lt-MOST.true) (nothing_put 0 c.args.out.now);
-  upper_bound = rw (lt-ltb _ _ c.if-out-lt-MOST.true) (omega arith);
+  upper_bound = omega arith;
 }
 
 pub slice_bounds-read_bounds-end : goal.slice_bounds-read_bounds-end
@@ -35,13 +35,9 @@ returns-then-not-asked c =
       puts = rw (
         le-ltb _ _ asked.if-out-lt-MOST.false,
         ← replied_wrong _ asked.read_bounds-asked.result (asked_is asked)
-            (c.if-not-asked.true),
+            (not-true asked.read_bounds-asked.result.good c.if-not-asked.true),
       ) (put);
-      upper_bound = rw (
-        le-ltb _ _ asked.if-out-lt-MOST.false,
-        ← replied_wrong _ asked.read_bounds-asked.result (asked_is asked)
-            (c.if-not-asked.true),
-      ) (omega (arith, put.place));
+      upper_bound = omega (arith, put.place);
     }
 
 pub returns : goal.returns
@@ -52,11 +48,7 @@ returns c =
       puts = rw (
         le-ltb _ _ asked.if-out-lt-MOST.false,
         ← replied _ asked.read_bounds-asked.result (asked_is asked)
-            (c.if-not-asked.false),
+            (not-false asked.read_bounds-asked.result.good c.if-not-asked.false),
       ) (put.puts);
-      upper_bound = rw (
-        le-ltb _ _ asked.if-out-lt-MOST.false,
-        ← replied _ asked.read_bounds-asked.result (asked_is asked)
-            (c.if-not-asked.false),
-      ) (omega (arith, put.upper_bound));
+      upper_bound = omega (arith, put.upper_bound);
     }

@@ -11,14 +11,10 @@ use Rattle.census_lines.proofs.reply.put_reply.Goals.{After-census-counted}
 
 pub returns-then-code-ne-DONE : goal.returns-then-code-ne-DONE
 returns-then-code-ne-DONE c =
-    let put = c.put_refusal in
-    let counted = c.census-counted in
-    let s = c in
-    record {
-      puts = rw (← refused s.args.a s.args.b s.args.rows.now _ counted.result s.requires.0 s.requires.1
-          counted.ensures.0 c.if-code-ne-DONE.true) (put.ensures.0);
-      upper_bound = rw (← refused s.args.a s.args.b s.args.rows.now _ counted.result s.requires.0 s.requires.1
-          counted.ensures.0 c.if-code-ne-DONE.true) (omega (arith, put.ensures.1));
+    let counted = c.census-counted in record {
+      puts = rw (← refused c.args.a c.args.b c.args.rows.now _ counted.result c.requires.0 c.requires.1
+          counted.ensures.answer c.if-code-ne-DONE.true) c.put_refusal.ensures.puts;
+      upper_bound = omega (arith, c.put_refusal.ensures.upper_bound);
     }
 
 -- on code 0 there are at most 64 rows
@@ -33,7 +29,7 @@ put_rows-requires c =
     let counted = (goal.at.put_rows-requires c).After-census-counted in
     let small = few_rows counted c.if-code-ne-DONE.false in
     let s = c in (
-      omega (arith, counted.census-counted.auto.1.1.0, s.requires.0),
+      omega (arith, c.census-counted.auto.rows, s.requires.0),
       omega (
         arith,
         c.put_heading-p.auto.out,
@@ -44,15 +40,10 @@ put_rows-requires c =
 
 pub returns : goal.returns
 returns c =
-    let put = c.put_rows in
-    let headed = c in
-    let heading = headed.put_heading-p in
-    let done = headed.if-code-ne-DONE.false in
     let counted = (goal.at.returns c).After-census-counted in
-    let s = c in
-    record {
-      puts = rw (← delivered s.args.a s.args.b s.args.rows.now _ counted.census-counted.result s.requires.0 s.requires.1
-          counted.census-counted.ensures.answer done _ counted.census-counted.ensures.leaves.0) (then heading.ensures.0 put.ensures.0);
-      upper_bound = rw (← delivered s.args.a s.args.b s.args.rows.now _ counted.census-counted.result s.requires.0 s.requires.1
-          counted.census-counted.ensures.answer done _ counted.census-counted.ensures.leaves.0) (omega (arith, few_rows counted done, heading.ensures.1, put.ensures.1));
+    let done = c.if-code-ne-DONE.false in record {
+      puts = rw (← delivered c.args.a c.args.b c.args.rows.now _ c.census-counted.result c.requires.0 c.requires.1
+          c.census-counted.ensures.answer done _ c.census-counted.ensures.leaves)
+          (then c.put_heading-p.ensures.puts c.put_rows.ensures.puts);
+      upper_bound = omega (arith, few_rows counted done, c.put_heading-p.ensures.upper_bound, c.put_rows.ensures.upper_bound);
     }

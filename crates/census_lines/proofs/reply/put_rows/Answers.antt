@@ -20,16 +20,12 @@ loop-i-init c = (
 )
 
 pub loop-i-preserved : goal.loop-i-preserved
-loop-i-preserved c =
-    let at-loop = c.before.before.before.before.before.before.before.before in
-    let t = at-loop.loop-i in
-    let l = at-loop.args.rows.now in
-    let put = c.put_row-p in (
-      omega arith,
-      rw (line_more l t.i (omega arith)) (then t.invariant.1 put.ensures.0),
-      omega (arith, put.ensures.1),
-      put.auto.0 ∙ t.invariant.3,
-    )
+loop-i-preserved c = (
+  omega arith,
+  rw (line_more c.args.rows.now c.loop-i.i (omega arith)) (then c.loop-i.invariant.1 c.put_row-p.ensures.puts),
+  omega (arith, c.put_row-p.ensures.upper_bound),
+  c.put_row-p.auto.out ∙ c.loop-i.invariant.3,
+)
 
 pub shape_of-out : goal.shape_of-out
 shape_of-out c = c.loop-i.invariant.3
@@ -39,6 +35,6 @@ returns c =
     let t = c.loop-i in
     let e : t.i ≡ c.args.count = omega arith in
     record {
-      puts = rw (← e) (t.invariant.1);
-      upper_bound = rw (← e) (t.invariant.2);
+      puts = rw (← e) t.invariant.1;
+      upper_bound = rw (← e) t.invariant.2;
     }

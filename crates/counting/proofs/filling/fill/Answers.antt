@@ -17,7 +17,7 @@ use Rattle.counting.specs.Passes.{heights_of}
 use Rattle.counting.proofs.Indices.{from_none, from_more, heights_none, filled_more}
 use Rattle.counting.proofs.Indices.{additions-none, additions_more, additions-few, additions_small}
 use Rattle.counting.proofs.filling.fill.Goals as goal
-use Rattle.counting.proofs.filling.fill.Goals.{After-measure-measured, At-loop-n, Start}
+use Rattle.counting.proofs.filling.fill.Goals.{After-measure-measured}
 
 pub overflow_add-n : goal.overflow_add-n
 overflow_add-n c = record { fits = omega (arith, c.requires.2) }
@@ -42,20 +42,14 @@ measure-measured-requires c =
 
 -- what an index measured, at its turn
 module _ (m : After-measure-measured) where
-  abbrev turn : At-loop-n
-  turn = m.before.before.before
-
-  abbrev start : Start
-  start = m.before.before.before.before
-
   abbrev n : ℕ
-  n = turn.loop-n.n - 1
+  n = m.loop-n.n - 1
 
   low : 0 < n
-  low = omega (arith, start.requires.0)
+  low = omega (arith, m.requires.0)
 
   small : height 1 n ≤ largest
-  small = height_fits n low (omega (arith, turn.loop-n.invariant.1, start.requires.2)) 1
+  small = height_fits n low (omega (arith, m.loop-n.invariant.1, m.requires.2)) 1
 
   told : m.measure-measured.result.height ≡ height 1 n
   told = ap (λ r. r.height) m.measure-measured.ensures.value
@@ -63,23 +57,23 @@ module _ (m : After-measure-measured) where
   value : to_z w64 m.measure-measured.result.height ≡ pos (height 1 n)
   value = ap (to_z w64) told ∙ to_z_pos w64 (omega (arith, small))
 
-  again : suc n ≡ turn.loop-n.n
+  again : suc n ≡ m.loop-n.n
   again = omega arith
 
   added : m.measure-measured.result.additions ≡ additions_for 1 n
   added = ap (λ r. r.additions) m.measure-measured.ensures.value
 
   high : n ≤ 65535
-  high = omega (arith, turn.loop-n.invariant.1, start.requires.2)
+  high = omega (arith, m.loop-n.invariant.1, m.requires.2)
 
   -- the additions so far
-  all-few : all_additions (from_to turn.loop-n.n start.args.b) ≤ 4096 * 2097152
+  all-few : all_additions (from_to m.loop-n.n m.args.b) ≤ 4096 * 2097152
   unfolding from_to
   all-few =
-      let most : suc start.args.b - turn.loop-n.n ≤ 4096 = omega (arith, start.requires.2) in
+      let most : suc m.args.b - m.loop-n.n ≤ 4096 = omega (arith, m.requires.2) in
       NatL.le_trans
-      (additions_small turn.loop-n.n (suc start.args.b - turn.loop-n.n) (omega arith)
-      (omega (arith, turn.loop-n.invariant.1, start.requires.2)))
+      (additions_small m.loop-n.n (suc m.args.b - m.loop-n.n) (omega arith)
+      (omega (arith, m.loop-n.invariant.1, m.requires.2)))
       (NatL.mul-le-mul_right 2097152 most)
 
 pub overflow_cast-work : goal.overflow_cast-work
@@ -95,7 +89,7 @@ offset_bounds-work-n c =
 pub bounds-work-n : goal.bounds-work-n
 bounds-work-n c =
     let m = (goal.at.bounds-work-n c).After-measure-measured in
-    omega (arith, m.measure-measured.ensures.work_len_unchanged.0, (turn m).loop-n.invariant.2, (turn m).loop-n.invariant.1, (start m).requires.3)
+    omega (arith, m.measure-measured.ensures.work_len_unchanged, m.loop-n.invariant.2, m.loop-n.invariant.1, m.requires.3)
 
 pub overflow_add-additions : goal.overflow_add-additions
 overflow_add-additions c =
@@ -104,7 +98,7 @@ overflow_add-additions c =
       fits = omega (
         arith,
         added m,
-        (turn m).loop-n.invariant.3,
+        m.loop-n.invariant.3,
         additions-few (n m) (low m) (high m),
         all-few m,
       );
@@ -113,28 +107,31 @@ overflow_add-additions c =
 pub loop-n-preserved : goal.loop-n-preserved
 loop-n-preserved c =
     let m = (goal.at.loop-n-preserved c).After-measure-measured in
-    let l = (turn m).loop-n in
-    let s = start m in
+    let l = m.loop-n in
     let inside : n m < length m.measure-measured.new.work =
-    omega (arith, m.measure-measured.ensures.work_len_unchanged.0, l.inv.2, l.inv.1, s.requires.3) in
-    let one = from_more (n m) s.args.b (omega (arith, l.inv.1)) in (
+    omega (arith, m.measure-measured.ensures.work_len_unchanged, l.invariant.2, l.invariant.1, m.requires.3) in
+    let one = from_more (n m) m.args.b (omega (arith, l.invariant.1)) in (
       omega arith,
-      omega (arith, l.inv.1),
-      length-set m.measure-measured.new.work (n m) _ ∙ (m.measure-measured.ensures.work_len_unchanged.0 ∙ l.inv.2),
+      omega (arith, l.invariant.1),
+      length-set m.measure-measured.new.work (n m) _ ∙ (m.measure-measured.ensures.work_len_unchanged ∙ l.invariant.2),
       NatL.add_comm l.additions m.measure-measured.result.additions
-          ∙ (ap₂ ◌+◌ (added m) (l.inv.3 ∙ ap (λ k. all_additions (from_to k s.args.b)) (sym (again m)))
+          ∙ (ap₂ ◌+◌ (added m) (l.invariant.3 ∙ ap (λ k. all_additions (from_to k m.args.b)) (sym (again m)))
           ∙ sym (ap all_additions one ∙ additions_more (n m) _)),
-      ap (λ v. take (suc s.args.b - n m) (drop (n m) (set m.measure-measured.new.work (n m) v))) (value m)
-          ∙ filled_more m.measure-measured.new.work l.work-1 (n m) s.args.b (omega (arith, l.inv.1)) inside
-          m.measure-measured.ensures.work_len_unchanged.1 (subst (λ k. take (suc s.args.b - k) (drop k l.work-1) ≡ heights_of
-          (from_to k s.args.b)) (sym (again m)) l.inv.4),
+      ap (λ v. take (suc m.args.b - n m) (drop (n m) (set m.measure-measured.new.work (n m) v))) (value m)
+          ∙ filled_more m.measure-measured.new.work l.work (n m) m.args.b (omega (arith, l.invariant.1)) inside
+          m.measure-measured.ensures.work_unchanged (subst (λ k. take (suc m.args.b - k) (drop k l.work) ≡ heights_of
+          (from_to k m.args.b)) (sym (again m)) l.invariant.4),
     )
 
 pub shape_of-work : goal.shape_of-work
 shape_of-work c = c.loop-n.invariant.2
 
 pub returns : goal.returns
-returns c = let told =
+returns c =
     let l = c.loop-n in
     let all : l.n ≡ c.args.a = omega (arith, l.invariant.0) in
-    (rw all at l.invariant.3, (l.invariant.2, rw all at l.invariant.4)) in record { value = told.0; work_len_unchanged = told.1; work_after = told.2 }
+    record {
+      value = rw all at l.invariant.3;
+      work_len_unchanged = l.invariant.2;
+      work_after = rw all at l.invariant.4;
+    }
