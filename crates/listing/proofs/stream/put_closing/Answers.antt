@@ -13,7 +13,7 @@ pub returns-then-n-gt40 : goal.returns-then-n-gt40
 unfolding closing
 returns-then-n-gt40 c = record {
   puts = rw (lt-leb _ _ c.if-n-gt40.true) (c.put_wrong.ensures.puts);
-  upper_bound = rw (lt-leb _ _ c.if-n-gt40.true) (omega (arith, c.put_wrong.ensures.upper_bound));
+  upper_bound = omega (arith, c.put_wrong.ensures.upper_bound);
 }
 
 -- an array's length
@@ -28,5 +28,7 @@ slice_bounds-put_reply-end c = sym (length-take-le _ _ (omega (arith, long (goal
 
 pub returns : goal.returns
 unfolding closing
-returns c = let told = rw (le-leb _ _ c.if-n-gt40.false)
-    c.put_reply.ensures in record { puts = told.0; upper_bound = told.1 }
+returns c = record {
+  puts = rw (le-leb _ _ c.if-n-gt40.false) c.put_reply.ensures.puts;
+  upper_bound = c.put_reply.ensures.upper_bound;
+}

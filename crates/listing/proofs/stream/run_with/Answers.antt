@@ -44,8 +44,8 @@ loop-i-preserved-then-b-eq10 c =
           (closes _ _ _ t.invariant.0
           c.loop-i-test.true
           c.if-b-eq10.true
-          c.if-out-made-lt-MOST.false p.ensures.0 p.ensures.1),
-      p.auto.1.1.1.0 ∙ t.invariant.1,
+          c.if-out-made-lt-MOST.false p.ensures.puts p.ensures.upper_bound),
+      p.auto.entries ∙ t.invariant.1,
     )
 
 pub loop-i-preserved : goal.loop-i-preserved
