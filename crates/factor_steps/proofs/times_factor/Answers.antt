@@ -2,7 +2,6 @@
 use native.Mathlib.Omega.{arith}
 use Rattle.factor_steps.specs.Multiplied.{both_multiply, multiplied_as, due_small}
 use Rattle.factor_steps.proofs.OfParts.{even_larger, even_same, even_terms, odd_same, odd_terms}
-use borrow.Author.Rules.{rules}
 use Rattle.factor_steps.proofs.times_factor.Goals as goal
 
 pub overflow_mul-t : goal.overflow_mul-t

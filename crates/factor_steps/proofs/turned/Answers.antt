@@ -1,7 +1,6 @@
 -- `factor_steps::turned` meets its contract: each arm is the other sort.
 use mathlib.Core.Path.{refl}
 use Rattle.cyclotomic.specs.Terms.{other}
-use borrow.Author.Rules.{rules}
 use Rattle.factor_steps.proofs.turned.Goals as goal
 
 pub returns-in-Comb : goal.returns-in-Comb
