@@ -1,6 +1,5 @@
 -- `lower_half` meets its contract, by kind.
 use Rattle.numbers.specs.Tests.{kind_two}
-use borrow.Author.Rules.{rules}
 use Rattle.second_engine.proofs.lower_half.Goals as goal
 
 pub first-requires : goal.first-requires

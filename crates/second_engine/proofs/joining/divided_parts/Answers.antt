@@ -1,6 +1,5 @@
 -- `joining::divided_parts` meets its contract: what holds the product holds the quotient after the division.
 use Rattle.spread_products.proofs.Dividing.{made-quotient}
-use borrow.Author.Rules.{rules}
 use Rattle.second_engine.proofs.joining.divided_parts.Goals as goal
 
 pub returns : goal.returns

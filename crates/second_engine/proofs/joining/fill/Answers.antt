@@ -1,6 +1,5 @@
 -- `joining::fill` meets its contract: the mirror of the part.
 use Rattle.second_engine.proofs.Filling.{part_inside, filled}
-use borrow.Author.Rules.{rules}
 use Rattle.second_engine.proofs.joining.fill.Goals as goal
 
 pub mirror-requires : goal.mirror-requires

@@ -6,7 +6,6 @@ use lib.Seq.{length-take-le}
 use Rattle.definitions.specs.Second.{other_kind}
 use Rattle.second_engine.proofs.Joined.{p-pos, r-pos, m_small, p_small, below_le, free-r, still, made-half}
 use Rattle.second_engine.proofs.Joined.{size-first, first-whole, first-end, is_first}
-use borrow.Author.Rules.{rules}
 use Rattle.second_engine.proofs.joining.join_first.Goals as goal
 
 pub overflow_sub-whole : goal.overflow_sub-whole

@@ -5,7 +5,6 @@ use lib.Seq.{length-take-le}
 use Rattle.definitions.specs.Second.{other_kind}
 use Rattle.second_engine.proofs.Joined.{p-pos, r-pos, m_small, p_small, below_le, free-r, still, made-half}
 use Rattle.second_engine.proofs.Joined.{size_inverse, inverse_whole, inverse_end, is_inverse}
-use borrow.Author.Rules.{rules}
 use Rattle.second_engine.proofs.joining.join_inverse.Goals as goal
 
 pub overflow_add-whole : goal.overflow_add-whole

@@ -3,7 +3,6 @@ use mathlib.Core.Path.{sym}
 use native.Mathlib.Omega.{arith}
 use lib.Seq.{length-take-le}
 use Rattle.second_engine.proofs.Joined.{part_series, front_series}
-use borrow.Author.Rules.{rules}
 use Rattle.second_engine.proofs.joining.times_parts.Goals as goal
 
 pub slice_bounds-times_spread-end-2 : goal.slice_bounds-times_spread-end-2
