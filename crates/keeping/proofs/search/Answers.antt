@@ -5,75 +5,69 @@ use mathlib.Core.Bool.{false}
 use native.Mathlib.Omega.{arith}
 use borrow.Author.Rules.{rules}
 use lib.ListN.{length, drop}
+use Rattle.keeping.specs.declared.Tried.{Tried}
 use Rattle.keeping.specs.Trying.{tried_of}
 use Rattle.keeping.proofs.Searching.{Underway, begun, at_end, at_kept, at_cramped, goes_on, passes_to}
 use Rattle.keeping.proofs.search.Goals as goal
-use Rattle.keeping.proofs.search.Goals.{After-try_at-how, At-loop-at}
+use Rattle.keeping.proofs.search.Goals.{At-loop-at}
 
 -- a place that was tried, in the loop's turn
-abbrev before : After-try_at-how → At-loop-at
-before a = a.before.before.before
-
-how : (a : After-try_at-how) → a.try_at-how.result
-    ≡ tried_of (length (before a).args.coeffs.now)
-    (drop (before a).loop-at.at (before a).args.shelf.now)
-how a =
-    a.try_at-how.ensures.value
-    ∙ ap (λ (k : ℕ). tried_of k (drop (before a).loop-at.at (before a).args.shelf.now))
-    (before a).loop-at.invariant.2
-
-kept-long : (a : After-try_at-how) → length a.try_at-how.new.coeffs
-    ≡ length (before a).args.coeffs.now
-kept-long a = a.try_at-how.ensures.coeffs_len_unchanged ∙ (before a).loop-at.invariant.2
-
-left : (a : After-try_at-how) → (before a).loop-at.at < length (before a).args.shelf.now
-left a = omega arith
+how : (g : At-loop-at) (r : Tried) → r ≡ tried_of (length g.loop-at.coeffs) (drop g.loop-at.at g.args.shelf.now)
+    → r ≡ tried_of (length g.args.coeffs.now) (drop g.loop-at.at g.args.shelf.now)
+how g r e = e ∙ ap (λ (k : ℕ). tried_of k (drop g.loop-at.at g.args.shelf.now)) g.loop-at.invariant.2
 
 pub loop-at-init : goal.loop-at-init
 loop-at-init c = (begun _ _ _ c.requires, refl, refl)
 
 pub next_mark-at-requires : goal.next_mark-at-requires
-next_mark-at-requires c = omega (arith, left (goal.at.next_mark-at-requires c).After-try_at-how)
+next_mark-at-requires c = omega arith
 
 pub loop-at-smaller : goal.loop-at-smaller
 loop-at-smaller c =
     let n = c.next_mark-at.ensures in
-    omega (arith, n.0, n.1, left (goal.at.loop-at-smaller c).After-try_at-how)
+    omega (arith, n.0, n.1)
 
 pub loop-at-preserved : goal.loop-at-preserved
 loop-at-preserved c =
     let told = c in
-    let a = (goal.at.loop-at-preserved c).After-try_at-how in
+    let g = (goal.at.loop-at-preserved c).At-loop-at in
     let n = c.next_mark-at.ensures in (
       passes_to _ _ _ _ _
-          (goes_on _ _ _ _ (before a).loop-at.invariant.0 (left a) (sym told.in-Passed.is ∙ how a)) n.0 n.1
+          (goes_on _ _ _ _ c.loop-at.invariant.0 (omega arith) (sym told.in-Passed.is ∙ how g _ c.try_at-how.ensures.value)) n.0 n.1
           n.2,
-      (before a).loop-at.invariant.1,
-      kept-long a,
+      c.loop-at.invariant.1,
+      c.try_at-how.ensures.coeffs_len_unchanged ∙ c.loop-at.invariant.2,
     )
 
 pub shape_of-coeffs-then-shelf-at : goal.shape_of-coeffs-then-shelf-at
 shape_of-coeffs-then-shelf-at c = c.loop-at.invariant.2
 
 pub returns-then-shelf-at : goal.returns-then-shelf-at
-returns-then-shelf-at c = let told =
-    let e = at_end _ _ _ _ c.loop-at.invariant.0 c.if-shelf-at.true in
-    rw c.loop-at.invariant.1 (e.0, (e.1, c.loop-at.invariant.2)) in record { cramped_value = told.0; place_value = told.1; coeffs_len_unchanged = told.2 }
+returns-then-shelf-at c =
+    let e = at_end _ _ _ _ c.loop-at.invariant.0 c.if-shelf-at.true in record {
+      cramped_value = rw c.loop-at.invariant.1 e.0;
+      place_value = rw c.loop-at.invariant.1 e.1;
+      coeffs_len_unchanged = c.loop-at.invariant.2;
+    }
 
 pub shape_of-coeffs-in-Kept : goal.shape_of-coeffs-in-Kept
-shape_of-coeffs-in-Kept c = kept-long (goal.at.shape_of-coeffs-in-Kept c).After-try_at-how
+shape_of-coeffs-in-Kept c = c.try_at-how.ensures.coeffs_len_unchanged ∙ c.loop-at.invariant.2
 
 pub returns-in-Kept : goal.returns-in-Kept
-returns-in-Kept c = let told =
-    let a = (goal.at.returns-in-Kept c).After-try_at-how in
-    let e = at_kept _ _ _ _ (before a).loop-at.invariant.0 (left a) (sym c.in-Kept.is ∙ how a) in
-    rw (before a).loop-at.invariant.1 (e.0, (e.1, kept-long a)) in record { cramped_value = told.0; place_value = told.1; coeffs_len_unchanged = told.2 }
+returns-in-Kept c =
+    let g = (goal.at.returns-in-Kept c).At-loop-at in
+    let e = at_kept _ _ _ _ c.loop-at.invariant.0 (omega arith) (sym c.in-Kept.is ∙ how g _ c.try_at-how.ensures.value) in
+    record {
+      cramped_value = rw c.loop-at.invariant.1 e.0;
+      place_value = rw c.loop-at.invariant.1 e.1;
+      coeffs_len_unchanged = c.try_at-how.ensures.coeffs_len_unchanged ∙ c.loop-at.invariant.2;
+    }
 
 pub shape_of-coeffs-in-Cramped : goal.shape_of-coeffs-in-Cramped
-shape_of-coeffs-in-Cramped c = kept-long (goal.at.shape_of-coeffs-in-Cramped c).After-try_at-how
+shape_of-coeffs-in-Cramped c = c.try_at-how.ensures.coeffs_len_unchanged ∙ c.loop-at.invariant.2
 
 pub returns-in-Cramped : goal.returns-in-Cramped
-returns-in-Cramped c = let told =
-    let a = (goal.at.returns-in-Cramped c).After-try_at-how in
-    let e = at_cramped _ _ _ _ (before a).loop-at.invariant.0 (left a) (sym c.in-Cramped.is ∙ how a) in
-    (e.0, (e.1, kept-long a)) in record { cramped_value = told.0; place_value = told.1; coeffs_len_unchanged = told.2 }
+returns-in-Cramped c =
+    let g = (goal.at.returns-in-Cramped c).At-loop-at in
+    let e = at_cramped _ _ _ _ c.loop-at.invariant.0 (omega arith) (sym c.in-Cramped.is ∙ how g _ c.try_at-how.ensures.value) in
+    record { cramped_value = e.0; place_value = e.1; coeffs_len_unchanged = c.try_at-how.ensures.coeffs_len_unchanged ∙ c.loop-at.invariant.2 }

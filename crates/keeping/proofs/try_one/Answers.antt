@@ -35,15 +35,15 @@ is_same-requires c =
     (read (goal.at.is_same-requires c).Else-look-ne-DONE, omega (arith, else.if-coeffs-count_in.false, else.count_in.ensures))
 
 pub returns-then-is_same : goal.returns-then-is_same
-returns-then-is_same c = let same = c in
-    let asks = is-same-requires same.before same.is_same.lifetimes in record {
-      value = tried_whole _ _ asks.0 true asks.1 (sym c.if-is_same.true ∙ same.is_same.ensures.value);
-      coeffs_len_unchanged = same.is_same.ensures.coeffs_len_unchanged;
-    }
+returns-then-is_same c = record {
+  value = tried_whole _ _ (read (goal.at.returns-then-is_same c).Else-look-ne-DONE) true
+      (omega (arith, c.if-coeffs-count_in.false, c.count_in.ensures)) (sym c.if-is_same.true ∙ c.is_same.ensures.value);
+  coeffs_len_unchanged = c.is_same.ensures.coeffs_len_unchanged;
+}
 
 pub returns : goal.returns
-returns c = let same = c in
-    let asks = is-same-requires same.before same.is_same.lifetimes in record {
-      value = tried_whole _ _ asks.0 false asks.1 (sym c.if-is_same.false ∙ same.is_same.ensures.value);
-      coeffs_len_unchanged = same.is_same.ensures.coeffs_len_unchanged;
-    }
+returns c = record {
+  value = tried_whole _ _ (read (goal.at.returns c).Else-look-ne-DONE) false
+      (omega (arith, c.if-coeffs-count_in.false, c.count_in.ensures)) (sym c.if-is_same.false ∙ c.is_same.ensures.value);
+  coeffs_len_unchanged = c.is_same.ensures.coeffs_len_unchanged;
+}

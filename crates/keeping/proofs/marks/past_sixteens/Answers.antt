@@ -20,7 +20,7 @@ loop-at-preserved c =
     let loop = c in
     let a = loop.args in (
       omega (arith, loop.loop-at.invariant.0),
-      marked-ahead-requires c.before.before c.marked_ahead.lifetimes,
+      omega arith,
       unmarked_more a.shelf.now a.from loop.loop-at.at (loop.loop-at.at + 16) loop.loop-at.invariant.2
           (c.marked_ahead.ensures c.if-marked_ahead.false),
     )

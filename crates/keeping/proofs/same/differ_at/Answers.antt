@@ -28,13 +28,13 @@ returns-then-differ_some c =
     let cs = coefficients_at a.w (length a.coeffs.now) (drop 10 a.bytes.now) in
     let here = found _ _ _ loop.loop-i.invariant.0 c.differ_some.ensures in
     sym (differ_on cs a.coeffs.now (loop.loop-i.i + 16) (length a.coeffs.now) (sym here ∙ c.if-differ_some.true)
-    (differ-some-requires c.before.before c.differ_some.lifetimes).3)
+    (omega arith))
 
 pub loop-i-preserved : goal.loop-i-preserved
 loop-i-preserved c =
     let loop = c in (
       sym (found _ _ _ loop.loop-i.invariant.0 c.differ_some.ensures) ∙ c.if-differ_some.false,
-      (differ-some-requires c.before.before c.differ_some.lifetimes).3,
+      omega arith,
     )
 
 pub differ_some-requires-2 : goal.differ_some-requires-2

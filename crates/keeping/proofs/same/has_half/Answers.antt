@@ -17,11 +17,11 @@ use Rattle.keeping.proofs.Halving.{counted-degree, half-own, comparable_half, ha
 use Rattle.keeping.proofs.Halving.{stored-right}
 use borrow.Author.Rules.{rules}
 use Rattle.keeping.proofs.same.has_half.Goals as goal
-use Rattle.keeping.proofs.same.has_half.Goals.{After-first_half-height, After-least_width, Start}
+use Rattle.keeping.proofs.same.has_half.Goals.{After-first_half-height, Start}
 
 -- the record, from the place where its first half has been made
 abbrev start : After-first_half-height → Start
-start f = f.before.before.before.before.before
+start f = f.before.before.before.before.before.before
 
 abbrev bs : After-first_half-height → List ℕ
 bs f = (start f).args.bytes.now
@@ -37,7 +37,7 @@ index_in-requires c = (header _ c.requires.0).long
 
 pub slice_bounds-first_half-end-2 : goal.slice_bounds-first_half-end-2
 slice_bounds-first_half-end-2 c =
-    sym (length-take-le _ _ (slice-relend-prefix-first-half c.before))
+    sym (length-take-le _ _ (omega (arith, c.count_in-count.ensures, c.requires.1, (header _ c.requires.0).count)))
 
 pub first_half-height-requires : goal.first_half-height-requires
 first_half-height-requires c =
@@ -49,7 +49,7 @@ first_half-height-requires c =
       start.requires.3,
       good_in start.args.bytes.now b start.requires.0,
       start.requires.4,
-      length-take-le _ _ (rw counted at (slice-relend-prefix-first-half c.before))
+      length-take-le _ _ (omega (arith, start.requires.1, (header _ start.requires.0).count))
           ∙ ap half_of (counted-degree start.args.bytes.now start.requires.0 start.requires.2),
     )
 
@@ -91,9 +91,9 @@ module _ (f : After-first_half-height) where
   tall : f.first_half-height.result ≡ height (kind_in (bs f)) (index_in (bs f))
   tall = f.first_half-height.ensures.value ∙ ap₂ height (sym (start f).requires.2) f.index_in.ensures.0
 
-least : (c : After-least_width) → c.least_width.result
-    ≡ least_of widths (height (kind_in (bs c.before.before.before)) (index_in (bs c.before.before.before)))
-least c = c.least_width.ensures ∙ ap (least_of widths) (tall c.before.before.before)
+least : (f : After-first_half-height) (w : ℕ) → w ≡ least_of widths f.first_half-height.result
+    → w ≡ least_of widths (height (kind_in (bs f)) (index_in (bs f)))
+least f w e = e ∙ ap (least_of widths) (tall f)
 
 pub width_in-w-requires : goal.width_in-w-requires
 width_in-w-requires c = (header _ (start (goal.at.width_in-w-requires c).After-first_half-height).requires.0).long
@@ -101,7 +101,7 @@ width_in-w-requires c = (header _ (start (goal.at.width_in-w-requires c).After-f
 pub returns-then-least_width-w : goal.returns-then-least_width-w
 returns-then-least_width-w c = let f = (goal.at.returns-then-least_width-w c).After-first_half-height in record {
   value = another_wide (bs f) (each f) (start f).requires.0
-      (λ e. c.if-least_width-w.true (least (goal.at.returns-then-least_width-w c).After-least_width ∙ e ∙ sym c.width_in-w.ensures));
+      (λ e. c.if-least_width-w.true (least f _ c.least_width.ensures ∙ e ∙ sym c.width_in-w.ensures));
   coeffs_len_unchanged = all-long f;
 }
 
@@ -115,7 +115,7 @@ differ_in-requires c =
     rw (front f)
     (comparable_half (bs f) (each f) (start f).requires.0 (start f).requires.2 (start f).requires.4 _
     c.width_in-w.ensures _ (made-own f)
-    (sym (least (goal.at.differ_in-requires c).After-least_width) ∙ c.if-least_width-w.false))
+    (sym (least f _ c.least_width.ensures) ∙ c.if-least_width-w.false))
 
 pub returns-then-differ_in : goal.returns-then-differ_in
 returns-then-differ_in c = let f = (goal.at.returns-then-differ_in c).After-first_half-height in record {

@@ -32,9 +32,8 @@ returns-in-4 c = stands (goal.at.returns-in-4 c).Start 4 c.in-4.is _
 
 pub returns-in_default : goal.returns-in_default
 returns-in_default c =
-    let r = c.in_default.rest in
     let start = (goal.at.returns-in_default c).Start in
-    let last = width_last start.args.w start.requires.0 r.0.0.1 r.0.1 r.1 in
+    let last = width_last start.args.w start.requires.0 (λ e. omega arith) (λ e. omega arith) (λ e. omega arith) in
     omega (
       arith,
       stands start 8 last _ (c.bits_of-b.ensures ∙ ap (of_z w64) (to_z-of_z start.ranges.x)),
