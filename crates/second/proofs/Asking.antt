@@ -17,7 +17,7 @@ use Rattle.definitions.specs.Numbers.{list_to, odd_prime_of, r_of, k_of}
 use Rattle.definitions.specs.Polynomials.{polynomial}
 use Rattle.definitions.specs.KeptHalf.{half_degree}
 use Rattle.definitions.specs.Steps.{entries}
-use Rattle.definitions.specs.Answer.{coefficients, height, peak}
+use Rattle.definitions.specs.Answer.{coefficients}
 use Rattle.numbers.specs.Apart.{r_odd_squarefree, r-divides}
 use Rattle.numbers.specs.AtMostFive.{k_at_most_5}
 use Rattle.numbers.specs.PrimeRows.{row-le}

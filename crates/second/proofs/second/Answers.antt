@@ -2,14 +2,12 @@
 -- once.
 use mathlib.Core.Path.{◌≡◌, sym, ◌∙◌}
 use mathlib.Core.Bool.{true, false}
-use borrow.Author.Tests.{not-true, not-false}
 use Rattle.definitions.specs.Steps.{below_one}
 use Rattle.definitions.specs.Requests.{known_kind, good_index}
 use Rattle.index.proofs.Laws.{taken_good}
 use Rattle.step_laws.specs.Machine.{below_one_lem}
 use Rattle.step_laws.specs.WorkingLimit.{read_limit}
 use Rattle.second.proofs.Answering.{ask_kind, ask_index, ask_limit, at_kind, at_index, at_limit}
-use borrow.Author.Rules.{rules}
 use Rattle.second.proofs.second.Goals as goal
 use Rattle.second.proofs.second.Goals.{Else-h-lt1, Else-not-good_index, Else-not-known_kind, Start}
 
@@ -27,28 +25,28 @@ module _ (c : Else-not-good_index) where
   good = sym c.good_index.ensures ∙ c.if-not-good_index.false
 
 pub returns-then-not-known_kind : goal.returns-then-not-known_kind
-returns-then-not-known_kind c = let told =
+returns-then-not-known_kind c =
     let p = c in
     let k = sym c.known_kind.ensures ∙ c.if-not-known_kind.true in
     let s = at_kind p.args.kind p.args.n p.args.h p.args.buf.now p.args.scratch.now
     (ask_kind _ _ _ _ _ k) in
-    (c.refused.ensures ∙ s.0, s.1) in record { value = told.0; buf_after = told.1; scratch_after = told.2 }
+    record { value = c.refused.ensures ∙ s.0; buf_after = s.1.0; scratch_after = s.1.1 }
 
 pub returns-then-not-good_index : goal.returns-then-not-good_index
-returns-then-not-good_index c = let told =
+returns-then-not-good_index c =
     let p = c in
     let g = sym c.good_index.ensures ∙ c.if-not-good_index.true in
     let s = at_index p.args.kind p.args.n p.args.h p.args.buf.now p.args.scratch.now
     (ask_index _ _ _ _ _ (known (goal.at.returns-then-not-good_index c).Else-not-known_kind) g) in
-    (c.refused-then-not-good_index.ensures ∙ s.0, s.1) in record { value = told.0; buf_after = told.1; scratch_after = told.2 }
+    record { value = c.refused-then-not-good_index.ensures ∙ s.0; buf_after = s.1.0; scratch_after = s.1.1 }
 
 pub returns-then-h-lt1 : goal.returns-then-h-lt1
-returns-then-h-lt1 c = let told =
+returns-then-h-lt1 c =
     let t = (goal.at.returns-then-h-lt1 c).Else-not-good_index in
     let p = start t in
     let s = at_limit p.args.kind p.args.n p.args.h p.args.buf.now p.args.scratch.now
     (ask_limit _ _ _ _ _ (kind_known t) (good t) (below_one_lem p.args.h p.ranges.h c.if-h-lt1.true)) in
-    (c.refused-then-h-lt1.ensures ∙ s.0, s.1) in record { value = told.0; buf_after = told.1; scratch_after = told.2 }
+    record { value = c.refused-then-h-lt1.ensures ∙ s.0; buf_after = s.1.0; scratch_after = s.1.1 }
 
 -- the limit is good
 good_h : (c : Else-h-lt1) → below_one (start c.before).args.h ≡ false
@@ -65,8 +63,8 @@ answer_in-requires c =
     )
 
 pub returns : goal.returns
-returns c = let told =
+returns c =
     let e = (goal.at.returns c).Else-h-lt1 in
     let p = start (goal.at.returns c).Else-not-good_index in
     rw (read_limit p.args.h p.ranges.h (good_h e)
-    c.magnitude.ensures).1 at c.answer_in.ensures in record { value = told.0; buf_after = told.1; scratch_after = told.2 }
+    c.magnitude.ensures).1 at c.answer_in.ensures

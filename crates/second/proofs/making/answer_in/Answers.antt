@@ -14,7 +14,6 @@ use Rattle.index.proofs.Laws.{index_good, parts_degree}
 use Rattle.definitions.specs.Requests.{zeros}
 use Rattle.answers.proofs.Told.{told-only}
 use Rattle.second.proofs.Answering.{ask_short, ask_scratch, at_short, refuses, delivers}
-use borrow.Author.Rules.{rules}
 use Rattle.second.proofs.making.answer_in.Goals as goal
 use Rattle.second.proofs.making.answer_in.Goals.{After-degree_from-degree, Start}
 
@@ -30,12 +29,12 @@ small : (z : ℤ) → nat_abs z ≤ 65535 → SFits w64 z
 small z l = record { sfits = omega (arith, mag_abs z) }
 
 pub returns-then-buf-degree : goal.returns-then-buf-degree
-returns-then-buf-degree c = let told =
+returns-then-buf-degree c =
     let g = (goal.at.returns-then-buf-degree c).After-degree_from-degree in
     let p = start g in
     let s = at_short p.args.kind p.args.n _ p.args.buf.now p.args.scratch.now
     (ask_short _ _ p.args.h _ _ p.requires.1 p.requires.2 p.requires.3 (omega (arith, degree_is g))) in
-    (c.refused.ensures ∙ ap (told-only SHORT) (degree_is g) ∙ s.0, s.1) in record { value = told.0; buf_after = told.1; scratch_after = told.2 }
+    record { value = c.refused.ensures ∙ ap (told-only SHORT) (degree_is g) ∙ s.0; buf_after = s.1.0; scratch_after = s.1.1 }
 
 pub overflow_mul-n : goal.overflow_mul-n
 overflow_mul-n c = omega (arith, (index_good _ (start (goal.at.overflow_mul-n c).After-degree_from-degree).requires.2).1)
@@ -44,12 +43,12 @@ pub overflow_add-n : goal.overflow_add-n
 overflow_add-n c = omega (arith, (index_good _ (start (goal.at.overflow_add-n c).After-degree_from-degree).requires.2).1)
 
 pub returns-then-scratch-n : goal.returns-then-scratch-n
-returns-then-scratch-n c = let told =
+returns-then-scratch-n c =
     let g = (goal.at.returns-then-scratch-n c).After-degree_from-degree in
     let p = start g in
     let s = at_short p.args.kind p.args.n _ p.args.buf.now p.args.scratch.now
     (ask_scratch _ _ p.args.h _ _ p.requires.1 p.requires.2 p.requires.3 (omega (arith, degree_is g)) (omega arith)) in
-    (c.refused-then-scratch-n.ensures ∙ ap (told-only SHORT) (degree_is g) ∙ s.0, s.1) in record { value = told.0; buf_after = told.1; scratch_after = told.2 }
+    record { value = c.refused-then-scratch-n.ensures ∙ ap (told-only SHORT) (degree_is g) ∙ s.0; buf_after = s.1.0; scratch_after = s.1.1 }
 
 pub slice_bounds-make-end-2 : goal.slice_bounds-make-end-2
 slice_bounds-make-end-2 c =
@@ -70,23 +69,24 @@ make-made-requires c =
     )
 
 pub returns-then-made : goal.returns-then-made
-returns-then-made c = let told =
+returns-then-made c =
     let m = c in
     let g = (goal.at.returns-then-made c).After-degree_from-degree in
     let p = start g in
     let k = c.clear in
     let s = refuses p.args.kind p.args.n p.args.h p.args.buf.now p.args.scratch.now p.requires.1
-    p.requires.2 p.requires.3 _ (degree_is g) (omega arith) (omega arith) _ k.new.0 _ m.make-made.ensures
+    p.requires.2 p.requires.3 _ (degree_is g) (omega arith) (omega arith) _ k.new.a _ m.make-made.ensures
     (k.ensures ∙ ap zeros m.make-made.auto.scratch) c.if-made.true in
-    (c.refused-then-made.ensures ∙ s.0, s.1) in record { value = told.0; buf_after = told.1; scratch_after = told.2 }
+    record { value = c.refused-then-made.ensures ∙ s.0; buf_after = s.1.0; scratch_after = s.1.1 }
 
 pub returns : goal.returns
-returns c = let told =
+returns c =
     let m = c in
     let g = (goal.at.returns c).After-degree_from-degree in
     let p = start g in
     let k = c.clear in
-    delivers p.args.kind p.args.n p.args.h p.args.buf.now p.args.scratch.now p.requires.1
-    p.requires.2 p.requires.3 _ (degree_is g) (omega arith) (omega arith) _ k.new.0 _ m.make-made.ensures
+    let s = delivers p.args.kind p.args.n p.args.h p.args.buf.now p.args.scratch.now p.requires.1
+    p.requires.2 p.requires.3 _ (degree_is g) (omega arith) (omega arith) _ k.new.a _ m.make-made.ensures
     (k.ensures ∙ ap zeros m.make-made.auto.scratch) c.if-made.false _
-    (to_z-of_z (small _ c.gain_of-gain.ensures.1) ∙ c.gain_of-gain.ensures.0) in record { value = told.0; buf_after = told.1; scratch_after = told.2 }
+    (to_z-of_z (small _ c.gain_of-gain.ensures.1) ∙ c.gain_of-gain.ensures.0) in
+    record { value = s.0; buf_after = s.1.0; scratch_after = s.1.1 }

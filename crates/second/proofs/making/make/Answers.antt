@@ -4,7 +4,6 @@ use mathlib.Core.Logic.{◌≢◌}
 use Rattle.definitions.specs.Numbers.{r_of}
 use Rattle.whole_from_half.proofs.Laying.{above_zero, r_is}
 use Rattle.second.proofs.Asking.{asked, still_ready, lower, bounded, laid_one}
-use borrow.Author.Rules.{rules}
 use Rattle.second.proofs.making.make.Goals as goal
 
 pub without_steps-requires : goal.without_steps-requires
@@ -30,7 +29,7 @@ lay_out-requires c =
     let p = c in
     let l = c.lower_half in
     let above : r_of p.args.n ≢ 1 = λ q. e.if-parts-eq1.false (r_is _ _ _ _ p.requires.0 ∙ q) in (
-      still_ready p.requires.0 l.auto.0,
+      still_ready p.requires.0 l.auto.a,
       lower _ _ _ _ p.requires.0 above _ l.ensures,
       rw c.bound_of.ensures (bounded _ _ _ _ p.requires.0 above _ l.ensures),
     )
