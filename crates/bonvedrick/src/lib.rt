@@ -1,5 +1,6 @@
 // The requests of the library for C, Rust and Python (include/bonvedrick.h). Each function is its request under a plain
 // name: nothing is asked of the caller, and the contract is that of the request. Its answer is laid out as C's struct.
+// The crate bonvedrick_c hands each of them to C under the same name.
 
 #![tactic(auto)]
 
@@ -29,8 +30,7 @@ use shelves::Found;
 use steps::{Sort, Step, Stepped};
 
 // The polynomial of a kind and an index, no taller than h and made of steps within w.
-#[unsafe(no_mangle)]
-pub extern "C" fn bv_polynomial(kind: u64, n: u64, h: i64, w: i64, buf: &mut [i64]) -> Answer
+pub fn bv_polynomial(kind: u64, n: u64, h: i64, w: i64, buf: &mut [i64]) -> Answer
     ensures answer { result ≡ Polynomial.answer kind n h w (length buf.old) }
     ensures leaves { buf.new ≡ Polynomial.leaves kind n h w buf.old }
 {
@@ -38,8 +38,7 @@ pub extern "C" fn bv_polynomial(kind: u64, n: u64, h: i64, w: i64, buf: &mut [i6
 }
 
 // The kept half for n's r after the first j divisors' steps, all within w.
-#[unsafe(no_mangle)]
-pub extern "C" fn bv_partial(kind: u64, n: u64, j: u64, w: i64, buf: &mut [i64]) -> Stop
+pub fn bv_partial(kind: u64, n: u64, j: u64, w: i64, buf: &mut [i64]) -> Stop
     ensures answer { result ≡ Partial.answer kind n j w (length buf.old) }
     ensures leaves { buf.new ≡ Partial.leaves kind n j w buf.old }
 {
@@ -47,13 +46,7 @@ pub extern "C" fn bv_partial(kind: u64, n: u64, j: u64, w: i64, buf: &mut [i64])
 }
 
 // The product of F(n) for the n of a list, no taller than h; the scratch is lent for the factors.
-#[unsafe(no_mangle)]
-pub extern "C" fn bv_cascade(
-    indices: &[u64],
-    h: i64,
-    buf: &mut [i64],
-    scratch: &mut [i64],
-) -> Answer
+pub fn bv_cascade(indices: &[u64], h: i64, buf: &mut [i64], scratch: &mut [i64]) -> Answer
     ensures answer { result
         ≡ Cascade.answer indices.now h (length buf.old) (length scratch.old) }
     ensures leaves { buf.new
@@ -65,14 +58,7 @@ pub extern "C" fn bv_cascade(
 }
 
 // The polynomial of a kind and an index by the second engine, no taller than h; the scratch is lent for the road.
-#[unsafe(no_mangle)]
-pub extern "C" fn bv_second(
-    kind: u64,
-    n: u64,
-    h: i64,
-    buf: &mut [i64],
-    scratch: &mut [i64],
-) -> Answer
+pub fn bv_second(kind: u64, n: u64, h: i64, buf: &mut [i64], scratch: &mut [i64]) -> Answer
     ensures answer { result ≡ Second.answer kind n h (length buf.old) (length scratch.old) }
     ensures leaves { buf.new ≡ Second.leaves kind n h buf.old (length scratch.old) }
     ensures scratches { scratch.new ≡ Second.scratches kind n h (length buf.old) scratch.old }
@@ -81,8 +67,7 @@ pub extern "C" fn bv_second(
 }
 
 // A comb on its own, within w.
-#[unsafe(no_mangle)]
-pub extern "C" fn bv_comb(size: u64, w: i64, buf: &mut [i64]) -> Stepped
+pub fn bv_comb(size: u64, w: i64, buf: &mut [i64]) -> Stepped
     ensures code { result.code ≡ step_code w comb size buf.old }
     ensures count { result.count ≡ step_count w comb size buf.old }
     ensures leaves { buf.new ≡ step_leaves w comb size buf.old }
@@ -95,8 +80,7 @@ pub extern "C" fn bv_comb(size: u64, w: i64, buf: &mut [i64]) -> Stepped
 }
 
 // An accumulate on its own, within w.
-#[unsafe(no_mangle)]
-pub extern "C" fn bv_accumulate(size: u64, w: i64, buf: &mut [i64]) -> Stepped
+pub fn bv_accumulate(size: u64, w: i64, buf: &mut [i64]) -> Stepped
     ensures code { result.code ≡ step_code w accumulate size buf.old }
     ensures count { result.count ≡ step_count w accumulate size buf.old }
     ensures leaves { buf.new ≡ step_leaves w accumulate size buf.old }
@@ -109,8 +93,7 @@ pub extern "C" fn bv_accumulate(size: u64, w: i64, buf: &mut [i64]) -> Stepped
 }
 
 // The record of some coefficients, in the bytes lent.
-#[unsafe(no_mangle)]
-pub extern "C" fn bv_write(kind: u64, n: u64, coeffs: &[i64], bytes: &mut [u8]) -> Written
+pub fn bv_write(kind: u64, n: u64, coeffs: &[i64], bytes: &mut [u8]) -> Written
     ensures answer { result ≡ write_answer kind n coeffs.now (length bytes.old) }
     ensures leaves { bytes.new ≡ write_leaves kind n coeffs.now bytes.old }
 {
@@ -118,8 +101,7 @@ pub extern "C" fn bv_write(kind: u64, n: u64, coeffs: &[i64], bytes: &mut [u8]) 
 }
 
 // The coefficients of the record that some bytes start with, in the entries lent.
-#[unsafe(no_mangle)]
-pub extern "C" fn bv_read(bytes: &[u8], coeffs: &mut [i64]) -> Record
+pub fn bv_read(bytes: &[u8], coeffs: &mut [i64]) -> Record
     ensures answer { result ≡ read_answer bytes.now (length coeffs.old) }
     ensures leaves { coeffs.new ≡ read_leaves bytes.now coeffs.old }
 {
@@ -127,8 +109,7 @@ pub extern "C" fn bv_read(bytes: &[u8], coeffs: &mut [i64]) -> Record
 }
 
 // The half record of some coefficients, in the bytes lent.
-#[unsafe(no_mangle)]
-pub extern "C" fn bv_write_half(kind: u64, n: u64, coeffs: &[i64], bytes: &mut [u8]) -> Written
+pub fn bv_write_half(kind: u64, n: u64, coeffs: &[i64], bytes: &mut [u8]) -> Written
     ensures answer { result ≡ Forms.write_answer Form.Half kind n coeffs.now (length bytes.old) }
     ensures leaves { bytes.new ≡ Forms.write_leaves Form.Half kind n coeffs.now bytes.old }
 {
@@ -136,8 +117,7 @@ pub extern "C" fn bv_write_half(kind: u64, n: u64, coeffs: &[i64], bytes: &mut [
 }
 
 // The polynomial of the half record that some bytes start with, whole, in the entries lent.
-#[unsafe(no_mangle)]
-pub extern "C" fn bv_read_half(bytes: &[u8], coeffs: &mut [i64]) -> Record
+pub fn bv_read_half(bytes: &[u8], coeffs: &mut [i64]) -> Record
     ensures answer { result ≡ Forms.read_answer Form.Half bytes.now (length coeffs.old) }
     ensures leaves { coeffs.new ≡ Forms.read_leaves Form.Half bytes.now coeffs.old }
 {
@@ -145,8 +125,7 @@ pub extern "C" fn bv_read_half(bytes: &[u8], coeffs: &mut [i64]) -> Record
 }
 
 // The record that some bytes start with, as a half record.
-#[unsafe(no_mangle)]
-pub extern "C" fn bv_to_half(bytes: &[u8], out: &mut [u8]) -> Converted
+pub fn bv_to_half(bytes: &[u8], out: &mut [u8]) -> Converted
     ensures answer { result ≡ convert_answer Form.Whole bytes.now (length out.old) }
     ensures leaves { out.new ≡ convert_leaves Form.Whole bytes.now out.old }
 {
@@ -154,8 +133,7 @@ pub extern "C" fn bv_to_half(bytes: &[u8], out: &mut [u8]) -> Converted
 }
 
 // The half record that some bytes start with, as a whole one.
-#[unsafe(no_mangle)]
-pub extern "C" fn bv_to_whole(bytes: &[u8], out: &mut [u8]) -> Converted
+pub fn bv_to_whole(bytes: &[u8], out: &mut [u8]) -> Converted
     ensures answer { result ≡ convert_answer Form.Half bytes.now (length out.old) }
     ensures leaves { out.new ≡ convert_leaves Form.Half bytes.now out.old }
 {
@@ -163,29 +141,21 @@ pub extern "C" fn bv_to_whole(bytes: &[u8], out: &mut [u8]) -> Converted
 }
 
 // The record of a kind and an index in two shelves, the own one first: where it stands.
-#[unsafe(no_mangle)]
-pub extern "C" fn bv_lookup(kind: u64, n: u64, own: &[u8], house: &[u8]) -> Found
+pub fn bv_lookup(kind: u64, n: u64, own: &[u8], house: &[u8]) -> Found
     ensures { result ≡ found kind n own.now house.now }
 {
     shelves::find(kind, n, own, house)
 }
 
 // What stands at a place of a shelf: a record, a refusal or the end.
-#[unsafe(no_mangle)]
-pub extern "C" fn bv_browse(shelf: &[u8], at: u64) -> Browsed
+pub fn bv_browse(shelf: &[u8], at: u64) -> Browsed
     ensures { result ≡ told (shown_at shelf.now at) }
 {
     browsing::browse(shelf, at)
 }
 
 // The records of a damaged shelf that can be kept, and what is skipped; the coefficient room is lent as scratch.
-#[unsafe(no_mangle)]
-pub extern "C" fn bv_rescue(
-    shelf: &[u8],
-    out: &mut [u8],
-    list: &mut [u64],
-    coeffs: &mut [i64],
-) -> Rescued
+pub fn bv_rescue(shelf: &[u8], out: &mut [u8], list: &mut [u64], coeffs: &mut [i64]) -> Rescued
     ensures answer { result
         ≡ rescue_answer shelf.now (length out.old) (length list.old)
         (length coeffs.old) }
@@ -201,8 +171,7 @@ pub extern "C" fn bv_rescue(
 }
 
 // The value of some coefficients at a point, from the highest down, each operation rounded once.
-#[unsafe(no_mangle)]
-pub extern "C" fn bv_response(coeffs: &[i64], at: Point) -> Value
+pub fn bv_response(coeffs: &[i64], at: Point) -> Value
     ensures { result ≡ Response.answer coeffs.now at }
 {
     response::response(coeffs, at)
@@ -210,8 +179,7 @@ pub extern "C" fn bv_response(coeffs: &[i64], at: Point) -> Value
 
 // For each height among F(a) to F(b) its row: the height, the smallest index and how many have it; the working entries
 // are lent as scratch.
-#[unsafe(no_mangle)]
-pub extern "C" fn bv_census(a: u64, b: u64, rows: &mut [u64], work: &mut [i64]) -> Counted
+pub fn bv_census(a: u64, b: u64, rows: &mut [u64], work: &mut [i64]) -> Counted
     ensures answer { result ≡ Census.answer a b (length rows.old) (length work.old) }
     ensures leaves { rows.new ≡ Census.leaves a b rows.old (length work.old) }
     ensures clears { work.new ≡ Census.clears a b (length rows.old) work.old }

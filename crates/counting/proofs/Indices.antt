@@ -12,7 +12,7 @@ use lib.Seq.{drop-cons, drop-drop, get_or-set_same, drop-set-lt}
 use lib.IntN.{ℤ, pos}
 use Rattle.definitions.specs.Integers.{0ℤ}
 use Rattle.definitions.specs.Numbers.{phi, r_of, k_of}
-use Rattle.definitions.specs.KeptHalf.{half_degree, additions}
+use Rattle.definitions.specs.KeptHalf.{half_degree}
 use Rattle.definitions.specs.Answer.{height, additions_for}
 use Rattle.definitions.specs.Polynomials.{degree}
 use Rattle.numbers.specs.Apart.{r-divides, r_odd_squarefree}

@@ -14,7 +14,6 @@ use lib.ListN.{length, take, drop, length-append}
 use lib.Seq.{sets, sets-eq, length-sets, take_at, drop-append-add, drop-drop}
 use lib.IntN.{ℤ}
 use Rattle.definitions.specs.Steps.{largest}
-use Rattle.definitions.specs.Answer.{height}
 use Rattle.never_over.specs.Heights.{height_fits}
 use Rattle.counting.specs.declared.passes.Row.{Row}
 use Rattle.counting.specs.Census.{indices, tallest, with_height, row_of, rows_below, rows_of}

@@ -7,7 +7,9 @@ use Rattle.bonvedrick.proofs.Limits.{asked_as_seen}
 use Rattle.bonvedrick.proofs.bv_comb.Goals as goal
 
 pub returns : goal.returns
-returns c = let told =
-    let p = c in
-    asked_as_seen comb p.args.size p.args.buf.now (to_z-of_z p.ranges.w)
-    c.apply.ensures in record { code = told.0; count = told.1; leaves = told.2 }
+returns c =
+    let a = c.args in
+    let step = c.apply.ensures in
+    let told = asked_as_seen comb a.size a.buf.now (to_z-of_z c.ranges.w)
+    (step.code_value, (step.count_value, step.a_after)) in
+    record { code = told.0; count = told.1.0; leaves = told.1.1 }

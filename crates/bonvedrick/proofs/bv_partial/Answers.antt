@@ -9,10 +9,10 @@ use borrow.Author.Rules.{rules}
 use Rattle.bonvedrick.proofs.bv_partial.Goals as goal
 
 pub returns : goal.returns
-returns c = let p = c in
-    let a = p.args in
+returns c =
+    let a = c.args in
     let told = c.partial.ensures in
-    let w = to_z-of_z p.ranges.w in record {
+    let w = to_z-of_z c.ranges.w in record {
       answer = told.value ∙ ap (λ (x : ℤ). answer a.kind a.n a.j x (length a.buf.now)) w;
       leaves = told.buf_after ∙ ap (λ (x : ℤ). leaves a.kind a.n a.j x a.buf.now) w;
     }

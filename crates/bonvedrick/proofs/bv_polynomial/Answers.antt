@@ -9,11 +9,11 @@ use borrow.Author.Rules.{rules}
 use Rattle.bonvedrick.proofs.bv_polynomial.Goals as goal
 
 pub returns : goal.returns
-returns c = let p = c in
-    let a = p.args in
+returns c =
+    let a = c.args in
     let told = c.polynomial.ensures in
-    let h = to_z-of_z p.ranges.h in
-    let w = to_z-of_z p.ranges.w in record {
+    let h = to_z-of_z c.ranges.h in
+    let w = to_z-of_z c.ranges.w in record {
       answer = told.value ∙ ap₂ (λ (x y : ℤ). answer a.kind a.n x y (length a.buf.now)) h w;
       leaves = told.buf_after ∙ ap₂ (λ (x y : ℤ). leaves a.kind a.n x y a.buf.now) h w;
     }

@@ -4,6 +4,10 @@ use borrow.Author.Rules.{rules}
 use Rattle.bonvedrick.proofs.bv_second.Goals as goal
 
 pub returns : goal.returns
-returns c = let told =
-    let p = c in
-    rw (to_z-of_z p.ranges.h) at c.second.ensures in record { answer = told.0; leaves = told.1; scratches = told.2 }
+returns c =
+    let h = to_z-of_z c.ranges.h in
+    record {
+      answer = rw h at c.second.ensures.value;
+      leaves = rw h at c.second.ensures.buf_after;
+      scratches = rw h at c.second.ensures.scratch_after;
+    }

@@ -4,12 +4,10 @@ use mathlib.Core.Bool.{true}
 use mathlib.Core.List.{◌++◌}
 use Prim.Native.Nat.{◌≤◌}
 use native.Mathlib.Omega.{arith}
-use borrow.Author.Tests.{not-true, not-false}
 use lib.ListN.{length, drop}
 use lib.Seq.{length-take-le}
 use Rattle.counting.specs.Census.{good_range}
 use Rattle.counting.proofs.Codes.{out_of_range, too_short, same_answer, same_leaves, all_clear}
-use borrow.Author.Rules.{rules}
 use Rattle.counting.proofs.census.Goals as goal
 use Rattle.counting.proofs.census.Goals.{Else-not-good_range}
 

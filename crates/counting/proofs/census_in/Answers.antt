@@ -7,7 +7,7 @@ use borrow.Author.Tests.{not-true, not-false}
 use Rattle.definitions.specs.Codes.{DONE}
 use Rattle.definitions.specs.Requests.{zeros}
 use Rattle.counting.specs.declared.Counted.{Counted}
-use Rattle.counting.specs.Census.{indices, census}
+use Rattle.counting.specs.Census.{census}
 use Rattle.counting.specs.Passes.{LaidIs}
 use Rattle.counting.proofs.Codes.{range_good, heights_are, rows_are, not_fit, fits_all}
 use borrow.Author.Rules.{rules}

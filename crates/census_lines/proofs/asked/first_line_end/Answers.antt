@@ -1,8 +1,6 @@
 -- `census_lines::asked::first_line_end` meets its contract. The loop's invariant: no newline has been passed.
-use Prim.Native.Nat.{◌-◌, ◌≤◌}
 use native.Mathlib.Omega.{arith}
-use lib.ListN.{length}
-use Rattle.census_lines.proofs.FirstLine.{Passed, passed_none, passes, at_newline, at_end}
+use Rattle.census_lines.proofs.FirstLine.{passed_none, passes, at_newline, at_end}
 use Rattle.census_lines.proofs.asked.first_line_end.Goals as goal
 
 pub loop-i-init : goal.loop-i-init

@@ -1,6 +1,5 @@
 -- `census_lines::asked::has_newline` meets its contract: where the first line ends is its length.
 use mathlib.Core.Path.{sym, ◌∙◌, ap}
-use borrow.Author.Rules.{rules}
 use lib.ListN.{length}
 use lib.Seq.{length-take-le}
 use lib.Dec.{ltb}

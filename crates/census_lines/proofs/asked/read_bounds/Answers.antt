@@ -1,7 +1,6 @@
 -- `census_lines::asked::read_bounds` meets its contract: the numbers of digits that it counts are those of the
 -- definition (`Reading`).
 use mathlib.Core.Path.{◌≡◌, sym, ◌∙◌}
-use borrow.Author.Rules.{rules}
 use Rattle.census_lines.specs.Asked.{is_good, no_bounds}
 use Rattle.census_lines.proofs.Reading.{counted, good_as, too_many_good, second, reads_good, reads_wrong}
 use Rattle.census_lines.proofs.asked.read_bounds.Goals as goal

@@ -2,7 +2,6 @@
 -- (`Told`).
 use mathlib.Core.Path.{◌≡◌, sym, ◌∙◌, ap}
 use native.Mathlib.Omega.{arith}
-use borrow.Author.Rules.{rules}
 use borrow.Author.Tests.{lt-ltb, le-ltb, not-true, not-false}
 use lib.Seq.{length-take-le}
 use Rattle.text.proofs.Putting.{nothing_put}

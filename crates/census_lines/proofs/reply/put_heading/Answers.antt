@@ -1,6 +1,5 @@
 -- `census_lines::reply::put_heading` meets its contract: the word, then the two bounds.
 use native.Mathlib.Omega.{arith}
-use borrow.Author.Rules.{rules}
 use Rattle.text.proofs.Putting.{then}
 use Rattle.census_lines.specs.Printed.{word, heading_of}
 use Rattle.census_lines.proofs.reply.put_heading.Goals as goal

@@ -1,7 +1,6 @@
 -- `census_lines::reply::put_refusal` meets its contract: a code has at most 20 digits.
 use Prim.Native.Nat.{◌≤◌}
 use native.Mathlib.Omega.{arith}
-use borrow.Author.Rules.{rules}
 use Rattle.text.proofs.Decimal.{length_machine}
 use Rattle.text.proofs.Putting.{then}
 use Rattle.census_lines.specs.Printed.{refusal}

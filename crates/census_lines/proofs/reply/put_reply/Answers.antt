@@ -2,7 +2,6 @@
 use Prim.Native.Nat.{◌≤◌}
 use mathlib.Core.Path.{◌≡◌}
 use native.Mathlib.Omega.{arith}
-use borrow.Author.Rules.{rules}
 use Rattle.definitions.specs.Codes.{DONE}
 use Rattle.text.proofs.Putting.{then}
 use Rattle.census_lines.proofs.Told.{refused, few, delivered}

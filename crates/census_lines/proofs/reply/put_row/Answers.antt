@@ -1,7 +1,6 @@
 -- `census_lines::reply::put_row` meets its contract: the height, in 20 bytes at most, then the two other numbers.
 use Prim.Native.Nat.{◌+◌, ◌≤◌}
 use native.Mathlib.Omega.{arith}
-use borrow.Author.Rules.{rules}
 use Rattle.text.proofs.Decimal.{length_machine}
 use Rattle.text.proofs.Putting.{then}
 use Rattle.census_lines.specs.Printed.{row_line}

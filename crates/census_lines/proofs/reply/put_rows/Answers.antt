@@ -1,10 +1,7 @@
 -- `census_lines::reply::put_rows` meets its contract. The loop's invariant: the first i rows are written, in at most 63
 -- bytes each.
-use Prim.Native.Nat.{◌+◌, ◌*◌, ◌-◌, ◌≤◌}
 use mathlib.Core.Path.{◌≡◌, refl, ◌∙◌}
 use native.Mathlib.Omega.{arith}
-use lib.ListN.{length, take}
-use Rattle.text.specs.Puts.{Puts}
 use Rattle.text.proofs.Putting.{nothing_put, then}
 use Rattle.census_lines.specs.Printed.{row_lines}
 use Rattle.census_lines.proofs.Rows.{line_more}

@@ -1,7 +1,6 @@
 -- `census_lines::reply::put_two_more` meets its contract: three parts, one after the other.
 use native.Mathlib.Omega.{arith}
 use mathlib.Core.List.{[], ◌∷◌, append_assoc}
-use borrow.Author.Rules.{rules}
 use lib.IntN.{pos}
 use Rattle.text.proofs.Putting.{then, spaced-append}
 use Rattle.census_lines.specs.Printed.{two_more}

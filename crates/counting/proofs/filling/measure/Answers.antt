@@ -15,7 +15,6 @@ use Rattle.step_laws.specs.Firsts.{length-firsts}
 use Rattle.index.specs.Parts.{parts_of}
 use Rattle.index.proofs.Laws.{good_index_lem, taken_good, parts_r, parts_half}
 use Rattle.counting.proofs.Measuring.{one_is, kept_within, rest_stays}
-use borrow.Author.Rules.{rules}
 use Rattle.counting.proofs.filling.measure.Goals as goal
 use Rattle.counting.proofs.filling.measure.Goals.{After-half_degree-half, After-take_apart-parts}
 

@@ -2,9 +2,7 @@
 use Prim.Native.Nat.{◌+◌, ◌*◌}
 use mathlib.Core.Path.{◌≡◌, sym}
 use native.Mathlib.Omega.{arith}
-use lib.ListN.{length}
-use Rattle.counting.specs.Census.{indices}
-use Rattle.counting.proofs.Turns.{Turn, left_to, turn-start, turn_again, turn-all, turn_tall, turn-few, turn_less}
+use Rattle.counting.proofs.Turns.{turn-start, turn_again, turn-all, turn_tall, turn-few, turn_less}
 use Rattle.counting.proofs.passes.count_rows.Goals as goal
 
 pub next_row-row-requires : goal.next_row-row-requires

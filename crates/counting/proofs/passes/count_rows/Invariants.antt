@@ -1,10 +1,8 @@
 -- `count_rows`: three numbers of the rows for each turn (Turns), and no more turns than heights.
-use Prim.Native.Nat.{◌+◌, ◌*◌}
-use mathlib.Core.Path.{◌≡◌, sym}
-use native.Mathlib.Omega.{arith}
+use Prim.Native.Nat.{◌*◌}
 use lib.ListN.{length}
 use Rattle.counting.specs.Census.{indices}
-use Rattle.counting.proofs.Turns.{Turn, left_to, turn-start, turn_again, turn-all, turn_tall, turn-few, turn_less}
+use Rattle.counting.proofs.Turns.{Turn, left_to}
 use Rattle.counting.proofs.passes.count_rows.Given as goal
 
 abbrev pub invariant-loop-row : goal.invariant-loop-row

@@ -1,7 +1,6 @@
 -- `joined` meets its contract: each way out is a case of `joined_to`.
 use mathlib.Core.Path.{refl, sym, ap}
 use native.Mathlib.Numerals.{add-one}
-use borrow.Author.Rules.{rules}
 use borrow.Author.Tests.{lt-ltb, le-ltb}
 use Rattle.counting.specs.declared.passes.Row.{Row}
 use Rattle.counting.specs.Passes.{joined_to}

@@ -1,7 +1,6 @@
 -- `lay_rows`: a third of the numbers lent is fewer rows than there are exactly where the numbers are too few.
 use mathlib.Core.Path.{refl}
 use Rattle.counting.proofs.Codes.{too_few, enough_for}
-use borrow.Author.Rules.{rules}
 use Rattle.counting.proofs.passes.lay_rows.Goals as goal
 
 pub returns-then-rows-count : goal.returns-then-rows-count

@@ -3,7 +3,6 @@ use Prim.Native.Nat.{suc, ◌+◌}
 use mathlib.Core.Path.{◌≡◌, ap₂}
 use native.Mathlib.Omega.{arith}
 use lib.ListN.{set, length-set}
-use borrow.Author.Rules.{rules}
 use Rattle.counting.proofs.passes.put_row.Goals as goal
 
 pub bounds-rows-at-2 : goal.bounds-rows-at-2

@@ -2,8 +2,7 @@
 use Prim.Native.Nat.{◌+◌, ◌≤◌, ◌<◌}
 use native.Mathlib.Omega.{arith}
 use lib.ListN.{length}
-use Rattle.counting.specs.Census.{indices}
-use Rattle.counting.proofs.Turns.{left_to, turn-room, turn_tall, turn_less, Wrote, wrote_start, wrote_again}
+use Rattle.counting.proofs.Turns.{turn-room, turn_tall, turn_less, wrote_start, wrote_again}
 use Rattle.counting.proofs.Turns.{wrote_all}
 use Rattle.counting.proofs.passes.write_rows.Goals as goal
 use Rattle.counting.proofs.passes.write_rows.Goals.{At-loop-row}

@@ -1,10 +1,7 @@
 -- `write_rows`: the rows below the height that is due stand in front of what stood behind (Turns).
-use Prim.Native.Nat.{◌+◌, ◌≤◌, ◌<◌}
-use native.Mathlib.Omega.{arith}
 use lib.ListN.{length}
 use Rattle.counting.specs.Census.{indices}
-use Rattle.counting.proofs.Turns.{left_to, turn-room, turn_tall, turn_less, Wrote, wrote_start, wrote_again}
-use Rattle.counting.proofs.Turns.{wrote_all}
+use Rattle.counting.proofs.Turns.{left_to, Wrote}
 use Rattle.counting.proofs.passes.write_rows.Given as goal
 
 abbrev pub invariant-loop-row : goal.invariant-loop-row

@@ -1,7 +1,6 @@
 -- `listing::reply::answer_line` meets its contract: nothing, or the reply at place 0.
 use borrow.Author.Tests.{lt-ltb, le-ltb}
 use Rattle.text.proofs.Putting.{nothing_put}
-use borrow.Author.Rules.{rules}
 use Rattle.listing.proofs.reply.answer_line.Goals as goal
 
 pub returns-then-out-lt-MOST : goal.returns-then-out-lt-MOST

@@ -7,7 +7,6 @@ use mir.Val.{SFits}
 use mir.Facts.{to_z-of_z}
 use Rattle.text.proofs.Putting.{then}
 use Rattle.listing.proofs.Replying.{degree_fits, replied, replied_wrong}
-use borrow.Author.Rules.{rules}
 use Rattle.listing.proofs.reply.put_reply.Goals as goal
 
 pub returns-then-not-q : goal.returns-then-not-q

@@ -1,9 +1,7 @@
 -- `listing::stream::run_with` meets its contract. The loop's invariant is `Going` of `Streaming`, at the bytes taken.
-use Prim.Native.Nat.{◌-◌}
-use mathlib.Core.Path.{◌≡◌, refl, ◌∙◌}
+use mathlib.Core.Path.{refl, ◌∙◌}
 use native.Mathlib.Omega.{arith}
-use lib.ListN.{length}
-use Rattle.listing.proofs.Streaming.{Going, going_start, ends, stops, pushes, closes}
+use Rattle.listing.proofs.Streaming.{going_start, ends, stops, pushes, closes}
 use Rattle.listing.proofs.stream.run_with.Goals as goal
 
 pub loop-i-init : goal.loop-i-init

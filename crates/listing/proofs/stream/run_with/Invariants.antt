@@ -1,9 +1,8 @@
 -- `listing::stream::run_with` meets its contract. The loop's invariant is `Going` of `Streaming`, at the bytes taken.
 use Prim.Native.Nat.{◌-◌}
-use mathlib.Core.Path.{◌≡◌, refl, ◌∙◌}
-use native.Mathlib.Omega.{arith}
+use mathlib.Core.Path.{◌≡◌}
 use lib.ListN.{length}
-use Rattle.listing.proofs.Streaming.{Going, going_start, ends, stops, pushes, closes}
+use Rattle.listing.proofs.Streaming.{Going}
 use Rattle.listing.proofs.stream.run_with.Given as goal
 
 abbrev pub invariant-loop-i : goal.invariant-loop-i

@@ -1,6 +1,0 @@
--- `bv_read` meets its contract, the request's.
-use borrow.Author.Rules.{rules}
-use Rattle.bonvedrick.proofs.bv_read.Goals as goal
-
-pub returns : goal.returns
-returns c = let told = c.read.ensures in record { answer = told.0; leaves = told.1 }

@@ -1,0 +1,2 @@
+-- That an export's contract is that of the library's function.
+pub mod Same
