@@ -1,7 +1,7 @@
 -- Halves as laws of lists, over the sign: where the halves match, the first one rebuilds the whole (`rebuilt-half`);
 -- what is rebuilt has that first half (`half-rebuilt`), its height (`height-rebuilt`), and halves that match but for a
 -- middle that is no image of itself (`rebuilt-uneven`).
-use Prim.Native.Nat.{ℕ, zero, suc, ◌+◌, ◌-◌, ◌/◌, ◌%◌, ◌≤◌, ◌<◌}
+use Prim.Native.Nat.{ℕ, zero, suc, ◌-◌, ◌/◌, ◌%◌, ◌≤◌, ◌<◌}
 use Rattle.std.specs.Prelude.{◌≡◌, Bool, cond, ◌&&◌, ◌||◌, List, [], ◌∷◌, get_or, take, ltb, ℤ, pos, negsuc}
 use Rattle.std.proofs.Math.Path.{refl, sym}
 use Rattle.std.proofs.Common.{ap, ◌∙◌, true≢false, arith, eqb-true, lt-ltb, le-ltb, ext_get_or, get_or-take}
@@ -14,7 +14,7 @@ use Rattle.std.proofs.Math.Seq.{length-take-le}
 use Rattle.std.proofs.Math.Dec.{eqb}
 use Rattle.std.proofs.Math.IntN.{nat_abs}
 use Rattle.definitions.specs.Integers.{⊖, ◌⊝◌, ◌⊕◌, 0ℤ}
-use Rattle.definitions.specs.Series.{Series, firsts}
+use Rattle.definitions.specs.Series.{Series}
 use Rattle.definitions.specs.Steps.{entries}
 use Rattle.definitions.specs.Answer.{height_of}
 use Rattle.definitions.specs.Halves.{half_of, first_half, image, mirrored_up, rebuilt, differ, uneven_to, uneven}

@@ -1,7 +1,6 @@
 -- `stored_of`: by the form.
 use mathlib.Core.Path.{refl}
 use native.Mathlib.Omega.{arith}
-use borrow.Author.Rules.{rules}
 use Rattle.forms.proofs.stored_of.Goals as goal
 
 pub returns-in-Half : goal.returns-in-Half

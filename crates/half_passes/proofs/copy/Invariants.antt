@@ -1,5 +1,5 @@
 -- `copy`: what is left to store, stored from `i` on, gives all of it stored from 0 on.
-use Rattle.std.proofs.Common.{◌≡◌, ℕ, ◌+◌, ◌-◌, ◌<◌, ◌≤◌, List, length, get_or, take, drop, set, sym, refl, ◌∙◌, add-one, arith, length-set, drop_of_length-le, length-take-le, drop-cons, get_or-take}
+use Rattle.std.proofs.Common.{◌≡◌, ◌-◌, length, take, drop}
 use lib.Seq.{sets}
 use Rattle.half_passes.proofs.copy.Given as goal
 

@@ -1,5 +1,5 @@
 -- `image_of`: each arm by its own width, the last by the only one left (Least), and what is not negated is as it was.
-use Rattle.std.proofs.Common.{◌≡◌, ℕ, ◌+◌, ◌*◌, ◌^◌, ◌<◌, true, sym, arith, rules}
+use Rattle.std.proofs.Common.{◌≡◌, ℕ, ◌+◌, ◌*◌, ◌^◌, ◌<◌, true, sym, arith}
 use Rattle.definitions.specs.Halves.{image}
 use Rattle.widths.specs.Numbers.{twos, signed_of}
 use Rattle.widths.proofs.Digits.{twos-signed}

@@ -1,10 +1,8 @@
 -- `put_at`: what is left to store, stored from entry i on, gives the whole other half stored (Places).
-use Rattle.std.proofs.Common.{◌≡◌, ◌+◌, ◌-◌, ◌*◌, ◌≤◌, length, drop, sym, refl, ap, ◌∙◌, le-mul_of_pos_right, arith}
+use Rattle.std.proofs.Common.{◌≡◌, ◌+◌, ◌-◌, ◌*◌, ◌≤◌, length, drop}
 use lib.Seq.{sets}
-use Rattle.definitions.specs.Halves.{half_of, image, rebuilt}
-use Rattle.widths.specs.Numbers.{twos, body, coefficients_at}
-use Rattle.widths.proofs.Least.{width_bounds}
-use Rattle.half_passes.proofs.Places.{room, other-turn, other_none}
+use Rattle.definitions.specs.Halves.{rebuilt}
+use Rattle.widths.specs.Numbers.{body, coefficients_at}
 use Rattle.half_passes.proofs.put_at.Given as goal
 
 abbrev pub invariant-loop-i : goal.invariant-loop-i

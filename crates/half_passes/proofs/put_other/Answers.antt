@@ -1,5 +1,5 @@
 -- `put_other`: each arm by its own width, the last by the only one left (Least).
-use Rattle.std.proofs.Common.{◌≡◌, rules}
+use Rattle.std.proofs.Common.{◌≡◌}
 use Rattle.widths.proofs.Least.{width_last}
 use Rattle.half_passes.proofs.put_other.Goals as goal
 use Rattle.half_passes.proofs.put_other.Goals.{In_default}

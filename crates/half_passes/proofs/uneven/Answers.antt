@@ -1,5 +1,5 @@
 -- `uneven`: what was found so far is that of the first i (Images).
-use Rattle.std.proofs.Common.{◌≡◌, ◌-◌, ◌≤◌, refl, arith}
+use Rattle.std.proofs.Common.{refl, arith}
 use Rattle.definitions.specs.Halves.{uneven_to}
 use Rattle.half_passes.proofs.Images.{uneven-turn, uneven-all}
 use Rattle.half_passes.proofs.uneven.Goals as goal

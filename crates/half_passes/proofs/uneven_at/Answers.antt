@@ -1,7 +1,6 @@
 -- `uneven_at`: what was found so far is that of the first i (Images).
-use Rattle.std.proofs.Common.{◌≡◌, ◌-◌, ◌≤◌, drop, refl, arith}
+use Rattle.std.proofs.Common.{drop, refl, arith}
 use Rattle.definitions.specs.Halves.{uneven_to}
-use Rattle.widths.specs.Numbers.{coefficients_at}
 use Rattle.record.proofs.Passes.{length_at}
 use Rattle.half_passes.proofs.Images.{uneven-turn, uneven-all}
 use Rattle.half_passes.proofs.uneven_at.Goals as goal

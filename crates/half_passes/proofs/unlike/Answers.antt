@@ -1,5 +1,5 @@
 -- `unlike`: the numbers of both entries, as they would stand in 8 bytes (Images).
-use Rattle.std.proofs.Common.{◌≡◌, ℕ, ◌^◌, ◌<◌, ◌≤◌, length, get_or, nat_abs, refl, ap, ◌∙◌, arith, rules}
+use Rattle.std.proofs.Common.{◌≡◌, ℕ, ◌^◌, ◌<◌, ◌≤◌, length, get_or, nat_abs, refl, ap, ◌∙◌, arith}
 use lib.Signed.{mag}
 use Rattle.definitions.specs.Integers.{0ℤ}
 use Rattle.definitions.specs.Steps.{entries}

@@ -1,5 +1,5 @@
 -- `unlike_in`: the numbers of both entries (Images).
-use Rattle.std.proofs.Common.{drop, arith, rules}
+use Rattle.std.proofs.Common.{drop, arith}
 use Rattle.widths.specs.Numbers.{coefficients_at}
 use Rattle.widths.proofs.Least.{width_bounds}
 use Rattle.record.proofs.Passes.{length_at}

@@ -1,7 +1,6 @@
 -- `code_of`: a wrong header refuses by itself, and else `code_with`.
 use Prim.Native.Nat.{ℕ}
 use mathlib.Core.Path.{◌≡◌, sym, ap, ◌∙◌}
-use borrow.Author.Rules.{rules}
 use Rattle.record.specs.Header.{header_code}
 use Rattle.forms.specs.Format.{mark}
 use Rattle.forms.proofs.Reading.{code_header}

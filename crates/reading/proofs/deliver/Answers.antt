@@ -2,7 +2,6 @@
 use Prim.Native.Nat.{ℕ}
 use mathlib.Core.Path.{ap, ◌∙◌}
 use mathlib.Core.List.{◌++◌}
-use borrow.Author.Rules.{rules}
 use lib.ListN.{drop}
 use Rattle.forms.specs.declared.Form.TheVariants.{Whole}
 use Rattle.forms.specs.Format.{stored_in, coefficients_in}

@@ -1,6 +1,5 @@
 -- `fill_stored`: the store of what a record that reads has (Reading).
 use native.Mathlib.Omega.{arith}
-use borrow.Author.Rules.{rules}
 use lib.ListN.{length}
 use Rattle.record.specs.Header.{count_in}
 use Rattle.record.proofs.Headers.{right}

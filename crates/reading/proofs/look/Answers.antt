@@ -1,6 +1,5 @@
 -- `look`: no polynomial has more coefficients than the room that is asked with (Reading).
 use mathlib.Core.Path.{◌∙◌}
-use borrow.Author.Rules.{rules}
 use Rattle.widths.proofs.Digits.{bytes_each}
 use Rattle.forms.proofs.Reading.{look_room}
 use Rattle.reading.proofs.look.Goals as goal

@@ -1,6 +1,5 @@
 -- `negates_in`: of the kind and the index that were read.
 use mathlib.Core.Path.{◌∙◌, ap₂}
-use borrow.Author.Rules.{rules}
 use Rattle.definitions.specs.Halves.{negates}
 use Rattle.reading.proofs.negates_in.Goals as goal
 

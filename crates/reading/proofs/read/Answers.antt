@@ -1,6 +1,5 @@
 -- `read`: what was looked at decides what is told and stored (Reading).
 use mathlib.Core.Path.{sym, ◌∙◌}
-use borrow.Author.Rules.{rules}
 use Rattle.definitions.specs.Codes.{DONE}
 use Rattle.forms.proofs.Told.{told}
 use Rattle.forms.proofs.Reading.{by_code, refused}

@@ -1,7 +1,6 @@
 -- `size_in_lem`: the width that was read, and what is stored (Reading); few, so that nothing wraps.
 use Prim.Native.Nat.{◌*◌, ◌≤◌}
 use native.Mathlib.Omega.{arith}
-use borrow.Author.Rules.{rules}
 use Rattle.record.proofs.Headers.{right, in_bounds}
 use Rattle.widths.proofs.Widths.{few}
 use Rattle.forms.proofs.Reading.{size_in_lem}

@@ -1,7 +1,6 @@
 -- `told`: the degree and the rest where they are told, which is where the header is right (Reading).
 use mathlib.Core.Path.{◌≡◌, ◌∙◌}
 use native.Mathlib.Omega.{arith}
-use borrow.Author.Rules.{rules}
 use Rattle.definitions.specs.Codes.{DONE}
 use Rattle.record.specs.Header.{header_code}
 use Rattle.record.proofs.Headers.{right}

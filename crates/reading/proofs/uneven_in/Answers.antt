@@ -1,6 +1,5 @@
 -- `uneven_in`: by the form.
 use mathlib.Core.Path.{◌∙◌}
-use borrow.Author.Rules.{rules}
 use Rattle.reading.proofs.uneven_in.Goals as goal
 
 pub middle_in-requires : goal.middle_in-requires

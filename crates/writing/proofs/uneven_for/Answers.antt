@@ -1,6 +1,5 @@
 -- `uneven_for`: by the form.
 use mathlib.Core.Path.{◌∙◌}
-use borrow.Author.Rules.{rules}
 use Rattle.writing.proofs.uneven_for.Goals as goal
 
 pub returns-in-Half : goal.returns-in-Half

@@ -1,8 +1,6 @@
 -- `write`: a wrong kind or index is refused at once, and else `write_with`.
 use mathlib.Core.Path.{◌≡◌, sym, ◌∙◌}
 use mathlib.Core.Bool.{true}
-use borrow.Author.Rules.{rules}
-use borrow.Author.Tests.{not-true, not-false}
 use Rattle.definitions.specs.Requests.{known_kind}
 use Rattle.record.specs.Header.{byte_of}
 use Rattle.forms.specs.Format.{write_tells}

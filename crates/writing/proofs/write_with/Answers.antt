@@ -5,7 +5,6 @@ use mathlib.Core.Bool.{false}
 use lib.ListN.{length}
 use borrow.Author.Tests.{ltb-false}
 use native.Mathlib.Omega.{arith}
-use borrow.Author.Rules.{rules}
 use Rattle.definitions.specs.Steps.{largest}
 use Rattle.definitions.specs.Polynomials.{degree}
 use Rattle.index.proofs.Laws.{index_good, told-right, told_small}

@@ -1,6 +1,5 @@
 -- `coefficient`: what the number in the bytes stands for.
 use mathlib.Core.Path.{◌∙◌, ap}
-use borrow.Author.Rules.{rules}
 use Rattle.heights.proofs.Signs.{passed}
 use Rattle.widths.specs.Numbers.{signed_of}
 use Rattle.widths.proofs.Least.{width_bounds}

@@ -1,5 +1,4 @@
 -- `eight`: two halves (Passes).
-use borrow.Author.Rules.{rules}
 use Rattle.record.proofs.Passes.{got_two}
 use Rattle.record.proofs.bytes.eight.Goals as goal
 

@@ -1,12 +1,9 @@
 -- `fill`: what is left to store, stored from `i` on, gives all of it stored from 0 on (Passes).
 use Prim.Native.Nat.{◌+◌, ◌*◌, ◌≤◌}
-use mathlib.Core.Path.{◌≡◌, refl, sym, ◌∙◌}
-use native.Mathlib.Omega.{arith}
-use lib.ListN.{length, drop, length-set}
+use mathlib.Core.Path.{◌≡◌}
+use lib.ListN.{length, drop}
 use lib.Seq.{sets}
-use Rattle.heights.proofs.Signs.{passed}
 use Rattle.widths.specs.Numbers.{coefficients_at}
-use Rattle.record.proofs.Passes.{fill_turn, fill_none, one_less}
 use Rattle.record.proofs.bytes.fill.Given as goal
 
 abbrev pub invariant-loop-left : goal.invariant-loop-left

@@ -1,7 +1,6 @@
 -- `get`: each arm by its own width, the last by the only one left (Least).
 use mathlib.Core.Path.{◌≡◌}
 use native.Mathlib.Omega.{arith}
-use borrow.Author.Rules.{rules}
 use Rattle.widths.proofs.Least.{width_last}
 use Rattle.record.proofs.bytes.get.Goals as goal
 use Rattle.record.proofs.bytes.get.Goals.{In_default}

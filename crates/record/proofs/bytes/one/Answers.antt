@@ -1,6 +1,5 @@
 -- `one`: the byte itself (Passes).
 use native.Mathlib.Omega.{arith}
-use borrow.Author.Rules.{rules}
 use Rattle.record.proofs.Passes.{got_one}
 use Rattle.record.proofs.bytes.one.Goals as goal
 

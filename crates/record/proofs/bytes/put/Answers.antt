@@ -1,10 +1,7 @@
 -- `put`: what is left to store, stored from `i` on, gives the whole number stored from `at` on (Passes).
-use Prim.Native.Nat.{◌+◌}
-use mathlib.Core.Path.{◌≡◌, refl, sym, ◌∙◌}
+use mathlib.Core.Path.{refl, sym, ◌∙◌}
 use native.Mathlib.Omega.{arith}
-use lib.ListN.{length, length-set}
-use lib.Seq.{sets}
-use Rattle.widths.specs.Numbers.{bytes_of}
+use lib.ListN.{length-set}
 use Rattle.record.proofs.Passes.{put_turn, put_none}
 use Rattle.record.proofs.bytes.put.Goals as goal
 

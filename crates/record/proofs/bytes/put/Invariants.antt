@@ -1,11 +1,9 @@
 -- `put`: what is left to store, stored from `i` on, gives the whole number stored from `at` on (Passes).
 use Prim.Native.Nat.{◌+◌}
-use mathlib.Core.Path.{◌≡◌, refl, sym, ◌∙◌}
-use native.Mathlib.Omega.{arith}
-use lib.ListN.{length, length-set}
+use mathlib.Core.Path.{◌≡◌}
+use lib.ListN.{length}
 use lib.Seq.{sets}
 use Rattle.widths.specs.Numbers.{bytes_of}
-use Rattle.record.proofs.Passes.{put_turn, put_none}
 use Rattle.record.proofs.bytes.put.Given as goal
 
 abbrev pub invariant-loop-left : goal.invariant-loop-left

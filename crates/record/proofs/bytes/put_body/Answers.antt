@@ -1,14 +1,11 @@
 -- `put_body`: what is left to store, stored from `at` on, gives the whole body stored from 10 on (Passes).
-use Prim.Native.Nat.{◌+◌, ◌-◌, ◌≤◌, zero-le}
-use mathlib.Core.Path.{◌≡◌, refl, sym, ◌∙◌, ap}
+use Prim.Native.Nat.{zero-le}
+use mathlib.Core.Path.{refl, sym, ◌∙◌, ap}
 use native.Mathlib.Omega.{arith}
-use lib.ListN.{length, get_or, drop}
-use lib.Seq.{sets}
+use lib.ListN.{get_or}
 use lib.IntN.{pos, nat_abs}
-use Rattle.definitions.specs.Answer.{height_of}
 use Rattle.heights.proofs.Signs.{passed}
 use Rattle.heights.proofs.Looks.{height-left}
-use Rattle.widths.specs.Numbers.{body, top}
 use Rattle.record.proofs.Passes.{body-turn, body-none, body-left}
 use Rattle.record.proofs.bytes.put_body.Goals as goal
 

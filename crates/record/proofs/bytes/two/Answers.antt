@@ -1,5 +1,4 @@
 -- `two`: two halves (Passes).
-use borrow.Author.Rules.{rules}
 use Rattle.record.proofs.Passes.{got_two}
 use Rattle.record.proofs.bytes.two.Goals as goal
 

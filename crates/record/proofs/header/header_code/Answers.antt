@@ -1,7 +1,5 @@
 -- `header_code`: each return by the tests that led there (Headers).
 use mathlib.Core.Path.{sym, ◌∙◌}
-use borrow.Author.Rules.{rules}
-use borrow.Author.Tests.{not-true, not-false}
 use Rattle.record.proofs.Headers.{header_short, header_unmarked, header_fields}
 use Rattle.record.proofs.header.header_code.Goals as goal
 

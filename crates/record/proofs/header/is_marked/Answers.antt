@@ -1,5 +1,4 @@
 -- `is_marked`: the tests are those of `marked`.
-use borrow.Author.Rules.{rules}
 use borrow.Author.Tests.{eq-eqb, ne_eqb}
 use Rattle.record.specs.Header.{marked}
 use Rattle.record.proofs.header.is_marked.Goals as goal

@@ -1,7 +1,6 @@
 -- `put_header`: the stores are those of `header_of`, one after the other.
 use mathlib.Core.Path.{◌∙◌}
 use native.Mathlib.Omega.{arith}
-use borrow.Author.Rules.{rules}
 use lib.ListN.{length-set}
 use Rattle.record.proofs.Headers.{four_long, header_stored}
 use Rattle.record.proofs.header.put_header.Goals as goal

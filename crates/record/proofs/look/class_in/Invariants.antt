@@ -1,8 +1,7 @@
 -- `class_in`: the class of the largest so far, and what is left (Passes).
 use Prim.Native.Nat.{◌+◌, ◌*◌, ◌≤◌}
-use native.Mathlib.Omega.{arith}
 use lib.ListN.{length}
-use Rattle.record.proofs.Passes.{Looked, look_none, look_turn, look_all, one_less}
+use Rattle.record.proofs.Passes.{Looked}
 use Rattle.record.proofs.look.class_in.Given as goal
 
 abbrev pub invariant-loop-left : goal.invariant-loop-left

@@ -1,5 +1,4 @@
 -- `right_width`: what the class of the height says (widths' Classes).
-use borrow.Author.Rules.{rules}
 use Rattle.widths.proofs.Classes.{tested-one, tested_more}
 use Rattle.record.proofs.look.right_width.Goals as goal
 
