@@ -1,7 +1,6 @@
 -- `first_factor` meets its contract: no request for F(n) is refused (Delivered).
 use native.Mathlib.Omega.{arith}
 use Rattle.next_factor.proofs.Delivered.{told_small, first-is}
-use borrow.Author.Rules.{rules}
 use Rattle.next_factor.proofs.first_factor.Goals as goal
 
 pub overflow_add-result : goal.overflow_add-result
@@ -18,5 +17,5 @@ pub returns : goal.returns
 returns c =
     let p = c in
     let made = c.polynomial-made in
-    first-is p.args.n p.requires.0 p.args.b.now p.requires.1 p.requires.2 made.ensures.0 made.ensures.1
+    first-is p.args.n p.requires.0 p.args.b.now p.requires.1 p.requires.2 made.ensures.value made.ensures.buf_after
     c.magnitude.ensures

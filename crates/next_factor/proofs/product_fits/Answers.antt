@@ -7,7 +7,6 @@ use borrow.Author.Tests.{le-leb}
 use lib.Dec.{leb}
 use Rattle.definitions.specs.Steps.{largest}
 use Rattle.step_laws.specs.Tests.{same_test}
-use borrow.Author.Rules.{rules}
 use Rattle.next_factor.proofs.product_fits.Goals as goal
 
 divided : (a b : ℕ) → 0 < a → leb b (largest / a) ≡ leb (a * b) largest

@@ -1,5 +1,4 @@
 -- `size_of` meets its contract: phi is one of the parts, and the gain is no negative number.
-use borrow.Author.Rules.{rules}
 use Rattle.index.proofs.Laws.{parts_phi}
 use Rattle.next_factor.proofs.Delivered.{seen-gain}
 use Rattle.next_factor.proofs.size_of.Goals as goal

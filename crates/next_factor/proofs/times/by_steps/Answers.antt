@@ -1,5 +1,4 @@
 -- `by_steps` meets its contract: what serving asks is tested, of a bound of the weight.
-use borrow.Author.Rules.{rules}
 use mathlib.Core.Path.{sym, ◌∙◌}
 use mathlib.Core.Bool.{true≢false}
 use native.Mathlib.Omega.{arith}

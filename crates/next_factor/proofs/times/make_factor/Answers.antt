@@ -1,5 +1,4 @@
 -- `make_factor` meets its contract: no request for F(n) is refused (Delivered).
-use borrow.Author.Rules.{rules}
 use native.Mathlib.Omega.{arith}
 use Rattle.next_factor.proofs.Delivered.{told_small, made_is}
 use Rattle.next_factor.proofs.times.make_factor.Goals as goal
@@ -18,4 +17,4 @@ pub returns : goal.returns
 returns c =
     let p = c in
     let made = c.polynomial-made in
-    made_is p.args.n p.requires.0 p.args.scratch.now p.requires.1 made.ensures.0 made.ensures.1
+    made_is p.args.n p.requires.0 p.args.scratch.now p.requires.1 made.ensures.value made.ensures.buf_after

@@ -1,5 +1,4 @@
 -- `steps_serve` meets its contract: by the weight that is known beforehand, else by that of F(n), made.
-use borrow.Author.Rules.{rules}
 use mathlib.Core.Path.{sym, ◌∙◌, ap}
 use mathlib.Core.Bool.{true≢false}
 use native.Mathlib.Omega.{arith}
@@ -16,9 +15,9 @@ pub slice_bounds-weight_of-end-2 : goal.slice_bounds-weight_of-end-2
 slice_bounds-weight_of-end-2 c =
     let made = c.make_factor-size in
     let p = c in
-    sym (length-take-le _ _ (omega (arith, made.ensures.0, made.auto.0, p.requires.2)))
+    sym (length-take-le _ _ (omega (arith, made.ensures.0, made.auto.scratch, p.requires.2)))
 
 pub by_steps-requires-2 : goal.by_steps-requires-2
 by_steps-requires-2 c =
     let made = c.make_factor-size in
-    weighed_made _ (ap (λ k. take k made.new.0) made.ensures.0 ∙ made.ensures.1) c.weight_of.ensures
+    weighed_made _ (ap (λ k. take k made.new.scratch) made.ensures.0 ∙ made.ensures.1) c.weight_of.ensures

@@ -1,7 +1,5 @@
 -- `times` meets its contract: the lower half, and its mirror (Mirroring).
-use borrow.Author.Rules.{rules}
 use mathlib.Core.Path.{sym}
-use borrow.Author.Tests.{not-true, not-false}
 use lib.Seq.{length-take-le}
 use Rattle.next_factor.proofs.Mirroring.{half_room, lower-asked, lower-over, mirror_asks, mirror_makes}
 use Rattle.next_factor.proofs.times.times.Goals as goal

@@ -1,5 +1,4 @@
 -- `times_lower` meets its contract, either way (Multiplying).
-use borrow.Author.Rules.{rules}
 use Prim.Native.Nat.{◌+◌, ◌≤◌}
 use mathlib.Core.Path.{◌≡◌, sym, ◌∙◌, ap}
 use native.Mathlib.Omega.{arith}
@@ -22,13 +21,13 @@ module _ (e : Else-steps_serve) where
   terms = parts_phi start.args.n start.args.parts start.requires.0.apart
 
   room : start.args.parts.phi + 1 ≤ length e.steps_serve.new.scratch
-  room = omega (arith, terms, e.steps_serve.kept.0, start.requires.1)
+  room = omega (arith, terms, e.steps_serve.auto.scratch, start.requires.1)
 
   made : take (start.args.parts.phi + 1) e.steps_serve.new.scratch ≡ factor start.args.n
   made =
       ap (λ k. take k e.steps_serve.new.scratch)
       (ap (λ x. x + 1) terms ∙ add-one (phi start.args.n))
-      ∙ e.steps_serve.ensures.1 e.if-steps_serve.left
+      ∙ e.steps_serve.ensures.1 e.if-steps_serve.false
 
 pub times_factor-requires : goal.times_factor-requires
 times_factor-requires c =

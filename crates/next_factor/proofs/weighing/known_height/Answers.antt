@@ -1,5 +1,4 @@
 -- `known_height` meets its contract: by what is promised (Known).
-use borrow.Author.Rules.{rules}
 use native.Mathlib.Omega.{arith}
 use Rattle.next_factor.proofs.Known.{r-most, none-or-one, two, three, four, square, cube}
 use Rattle.next_factor.proofs.weighing.known_height.Goals as goal

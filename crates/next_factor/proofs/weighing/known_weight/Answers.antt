@@ -1,5 +1,4 @@
 -- `known_weight` meets its contract: so many terms, each within the bound (Known).
-use borrow.Author.Rules.{rules}
 use Prim.Native.Nat.{◌+◌, ◌≤◌}
 use native.Mathlib.Omega.{arith}
 use native.Mathlib.Nat.{mul-le-mul, le-pred_of_lt, pos_of_ne-zero}
