@@ -16,7 +16,7 @@ list_some-g-requires c = record {
 }
 
 pub shape_of-out : goal.shape_of-out
-shape_of-out c = c.list_some-g.auto.1.1.0
+shape_of-out c = c.list_some-g.auto.out
 
 pub returns : goal.returns
 returns c =

@@ -30,7 +30,7 @@ list_some-g-requires c = let turn = (goal.at.list_some-g-requires c).In-loop-fro
 module _ (c : After-list_some-g) where
   kept : length c.list_some-g.new.out
       ≡ length c.args.out.now
-  kept = c.list_some-g.auto.1.1.0 ∙ c.loop-from.invariant.1.1
+  kept = c.list_some-g.auto.out ∙ c.loop-from.invariant.1.1
 
   within : c.list_some-g.result.taken
       ≤ length c.args.piece.now

@@ -6,7 +6,7 @@ pub list_end-requires : goal.list_end-requires
 list_end-requires c = c.requires.in_bounds
 
 pub shape_of-out-then-n-eq0 : goal.shape_of-out-then-n-eq0
-shape_of-out-then-n-eq0 c = c.list_end.auto.1.1.0
+shape_of-out-then-n-eq0 c = c.list_end.auto.out
 
 pub returns-then-n-eq0 : goal.returns-then-n-eq0
 returns-then-n-eq0 c =
@@ -20,7 +20,7 @@ pub list_piece-requires : goal.list_piece-requires
 list_piece-requires c = c.requires.in_bounds
 
 pub shape_of-out : goal.shape_of-out
-shape_of-out c = c.list_piece.auto.1.1.0
+shape_of-out c = c.list_piece.auto.out
 
 pub returns : goal.returns
 returns c =

@@ -22,7 +22,7 @@ some c =
 
 -- what it made lies in the buffer
 fits : (c : After-run-p) → c.run-p.result.made ≤ length c.run-p.new.out
-fits c = omega (arith, c.run-p.ensures.fits, c.run-p.auto.1.1.0)
+fits c = omega (arith, c.run-p.ensures.fits, c.run-p.auto.out)
 
 pub slice_bounds-write_made-end : goal.slice_bounds-write_made-end
 slice_bounds-write_made-end c = sym (length-take-le _ _ c.run-p.ensures.within)
@@ -43,7 +43,7 @@ write_made-on-requires c = let r = (goal.at.write_made-on-requires c).After-run-
     }
 
 pub shape_of-out : goal.shape_of-out
-shape_of-out c = c.run-p.auto.1.1.0
+shape_of-out c = c.run-p.auto.out
 
 pub returns : goal.returns
 returns c = let r = (goal.at.returns c).After-run-p in
