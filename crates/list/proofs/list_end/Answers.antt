@@ -23,5 +23,5 @@ returns c =
     let g = c.list_some-g in
     record {
       stops = refl;
-      last = λ e some. g.ensures.0.left ∙ ap (after _) (take_all g.result.taken (NEWLINE ∷ []) g.ensures.1);
+      last = λ e some. g.ensures.took.left ∙ ap (after _) (take_all g.result.taken (NEWLINE ∷ []) g.ensures.taken_nonzero);
     }

@@ -1,29 +1,23 @@
 -- `list::list_piece` meets its contract. The loop's invariant: the line that is open is the one after the bytes taken;
 -- what is left of the piece goes on from there (`after-part`). It ends, for each run takes something.
-use Rattle.std.proofs.Common.{◌≡◌, ◌+◌, ◌-◌, ◌≤◌, length, take, drop, refl, ◌∙◌, arith, length-drop, length-take}
+use Rattle.std.proofs.Common.{◌≡◌, ℕ, List, ◌+◌, ◌-◌, ◌≤◌, length, take, drop, refl, ◌∙◌, arith, length-drop, length-take}
 use Rattle.listing.specs.Stream.{after}
 use Rattle.listing.proofs.Streaming.{after-part}
 use Rattle.list.proofs.list_piece.Goals as goal
-use Rattle.list.proofs.list_piece.Goals.{After-list_some-g, In-loop-from}
+use Rattle.list.proofs.list_piece.Goals.{After-list_some-g}
 
 pub loop-from-init : goal.loop-from-init
 unfolding after
 loop-from-init c = (omega arith, (refl, refl))
 
 -- how long the rest of the piece is
-long : (c : In-loop-from) →
-    let l = c.args.piece.now in
-    let from = c.loop-from.from in
-    length (take (length l - from) (drop from l)) ≡ length l - from
-long c =
-    let l = c.args.piece.now in
-    let from = c.loop-from.from in
-    omega (arith, length-take (length l - from) (drop from l), length-drop from l)
+long_rest : (l : List ℕ) (from : ℕ) → length (take (length l - from) (drop from l)) ≡ length l - from
+long_rest l from = omega (arith, length-take (length l - from) (drop from l), length-drop from l)
 
 pub list_some-g-requires : goal.list_some-g-requires
-list_some-g-requires c = let turn = (goal.at.list_some-g-requires c).In-loop-from in record {
+list_some-g-requires c = let turn = c in record {
   in_bounds = omega (arith, turn.loop-from.invariant.1.1, turn.requires);
-  piece_nonzero = omega (arith, long turn, turn.loop-from-test.true);
+  piece_nonzero = omega (arith, long_rest turn.args.piece.now turn.loop-from.from, turn.loop-from-test.true);
 }
 
 -- a turn keeps the buffer's length, and takes something of what is left
@@ -35,7 +29,7 @@ module _ (c : After-list_some-g) where
   within : c.list_some-g.result.taken
       ≤ length c.args.piece.now
       - c.loop-from.from
-  within = omega (arith, c.list_some-g.ensures.took.within, long c.before.before.before)
+  within = omega (arith, c.list_some-g.ensures.took.within, long_rest c.args.piece.now c.loop-from.from)
 
   further : c.list_some-g.result.line
       ≡ after c.args.line

@@ -1,8 +1,7 @@
 -- `list::list_piece` meets its contract. The loop's invariant: the line that is open is the one after the bytes taken;
 -- what is left of the piece goes on from there (`after-part`). It ends, for each run takes something.
-use Rattle.std.proofs.Common.{◌≡◌, ◌+◌, ◌-◌, ◌≤◌, length, take, drop, refl, ◌∙◌, arith, length-drop, length-take}
+use Rattle.std.proofs.Common.{◌≡◌, ◌-◌, ◌≤◌, length, take}
 use Rattle.listing.specs.Stream.{after}
-use Rattle.listing.proofs.Streaming.{after-part}
 use Rattle.list.proofs.list_piece.Given as goal
 
 abbrev pub invariant-loop-from : goal.invariant-loop-from

@@ -1,5 +1,5 @@
 -- `list::main` is safe and ends, and what it hands over first is the whole heading (`put_first`).
-use Rattle.std.proofs.Common.{◌≡◌, ◌≤◌, length, sym, refl, ◌∙◌, arith, length-take-le, le-ltb}
+use Rattle.std.proofs.Common.{◌≡◌, ◌≤◌, length, sym, refl, ◌∙◌, arith, le-ltb}
 use Rattle.listing.specs.Stream.{after}
 use Rattle.text.proofs.Putting.{put_first}
 use Rattle.list.specs.Handed.{handed}
@@ -13,9 +13,6 @@ still c = c.large-out.ensures ∙ sym c.heading-n.auto.out
 pub slice_bounds-heading-end : goal.slice_bounds-heading-end
 slice_bounds-heading-end c = c.large-out.ensures
 
-pub slice_bounds-write_made-end-2 : goal.slice_bounds-write_made-end-2
-slice_bounds-write_made-end-2 c = refl
-
 pub slice_bounds-out-end : goal.slice_bounds-out-end
 slice_bounds-out-end c =
     let h = c in
@@ -26,7 +23,7 @@ unfolding handed after
 write_made-requires c = let h = c.heading-n in
     let large = c.large-out in
     let room : 12 ≤ length large.result = omega (arith, large.ensures) in record {
-      text_value = put_first (rw (le-ltb _ 12 room) at h.ensures.0) h.ensures.1;
+      text_value = put_first (rw (le-ltb _ 12 room) at h.ensures.puts) h.ensures.upper_bound;
       next_value = refl;
     }
 
