@@ -24,14 +24,14 @@ shape_of-entries-then-out-made-lt-MOST c = c.loop-i.invariant.1
 
 pub returns-then-out-made-lt-MOST : goal.returns-then-out-made-lt-MOST
 returns-then-out-made-lt-MOST c = stops _ _ _ c.loop-i.invariant.0 c.loop-i-test.true
-    c.if-b-eq10.true c.if-out-made-lt-MOST.true
+    c.if-b-eq10.true (omega arith)
 
 pub put_closing-made-requires : goal.put_closing-made-requires
 put_closing-made-requires c =
     let g = c.loop-i.invariant.0 in (
       c.loop-i.invariant.1
           ∙ c.requires,
-      omega (arith, g.fits, g.same, c.if-out-made-lt-MOST.false),
+      omega (arith, g.fits, g.same),
     )
 
 pub loop-i-preserved-then-b-eq10 : goal.loop-i-preserved-then-b-eq10
@@ -42,7 +42,7 @@ loop-i-preserved-then-b-eq10 c =
           (closes _ _ _ t.invariant.0
           c.loop-i-test.true
           c.if-b-eq10.true
-          c.if-out-made-lt-MOST.false p.ensures.puts p.ensures.upper_bound),
+          (omega arith) p.ensures.puts p.ensures.upper_bound),
       p.auto.entries ∙ t.invariant.1,
     )
 
