@@ -3,10 +3,9 @@
 use mathlib.Core.Path.{◌≡◌, refl, sym, ap}
 use Prim.Native.Nat.{ℕ, ◌+◌, ◌≤◌}
 use native.Mathlib.Omega.{arith}
-use borrow.Author.Rules.{rules}
 use Rattle.chains.specs.Tested.{GroupAsked}
 use Rattle.chains.proofs.Group.{settled}
-use Rattle.chain_groups.proofs.OneChain.{less, one_left, so_many}
+use Rattle.chain_groups.proofs.OneChain.{less, so_many}
 use Rattle.chain_groups.proofs.take_known.Goals as goal
 use Rattle.chain_groups.proofs.take_known.Goals.{In_default, Start, Then-d-eq1}
 

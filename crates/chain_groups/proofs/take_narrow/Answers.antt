@@ -2,7 +2,6 @@
 use mathlib.Core.Path.{◌≡◌, refl}
 use Prim.Native.Nat.{ℕ, ◌+◌}
 use native.Mathlib.Omega.{arith}
-use borrow.Author.Rules.{rules}
 use Rattle.chains.specs.Tested.{GroupAsked}
 use Rattle.chains.proofs.Group.{settled}
 use Rattle.chain_groups.proofs.OneChain.{so_many}

@@ -2,7 +2,6 @@
 use mathlib.Core.Path.{◌≡◌, refl, sym, ap}
 use Prim.Native.Nat.{◌+◌}
 use native.Mathlib.Omega.{arith}
-use borrow.Author.Rules.{rules}
 use Rattle.chains.proofs.Group.{settled}
 use Rattle.chain_groups.proofs.OneChain.{one_wide}
 use Rattle.chain_groups.proofs.take_next.Goals as goal

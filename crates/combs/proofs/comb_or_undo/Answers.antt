@@ -4,7 +4,6 @@ use Prim.Native.Nat.{◌-◌, ◌<◌}
 use mathlib.Core.Path.{◌≡◌, ◌∙◌}
 use mathlib.Core.Bool.{false}
 use native.Mathlib.Omega.{arith}
-use borrow.Author.Rules.{rules}
 use Rattle.definitions.specs.Steps.{comb, step_over}
 use Rattle.step_laws.specs.WorkingLimit.{over_more}
 use Rattle.wrapped_combs.specs.Laws.{wrapped_known}

@@ -3,9 +3,7 @@ use mathlib.Core.Path.{◌≡◌, sym, ◌∙◌, ap}
 use Prim.Native.Nat.{◌-◌}
 use native.Mathlib.Nat.{not-le_of_lt}
 use native.Mathlib.Omega.{arith}
-use borrow.Author.Tests.{not-true, not-false}
 use lib.ListN.{length}
-use Rattle.combs.specs.Combs.{TestedTo}
 use Rattle.combs.proofs.CombedTo.{new_is}
 use Rattle.combs.proofs.TestedTo.{tested-start, tested-next, asked-next}
 use Rattle.combs.proofs.take_tested.Goals as goal

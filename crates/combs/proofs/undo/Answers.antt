@@ -1,11 +1,7 @@
 -- `combs::undo` meets its contract. The invariant: of whatever list the comb got down to `from`, it is taken
 -- back to i.
 use mathlib.Core.Path.{sym, ◌∙◌}
-use mathlib.Core.List.{List}
-use Prim.Native.Nat.{◌-◌}
 use native.Mathlib.Omega.{arith}
-use lib.ListN.{length}
-use lib.IntN.{ℤ}
 use Rattle.combs.specs.Combs.{ReadTo}
 use Rattle.combs.proofs.CombedTo.{not_begun}
 use Rattle.combs.proofs.TestedTo.{read_back, back_fits}

@@ -1,10 +1,7 @@
 -- `next_above`: nothing is above the bound; and the blocks that were passed over have no magnitude above h.
-use Prim.Native.Nat.{◌≤◌, ◌-◌}
 use native.Mathlib.Nat.{le_trans}
 use native.Mathlib.Omega.{arith}
-use lib.ListN.{length}
 use Rattle.definitions.specs.Steps.{entries}
-use Rattle.heights.specs.Above.{NoneAbove}
 use Rattle.heights.proofs.Looks.{none_join, next_later}
 use Rattle.peaks.proofs.next_above.Goals as goal
 

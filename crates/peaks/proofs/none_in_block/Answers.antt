@@ -1,5 +1,5 @@
 -- `none_in_block`: where no sign has come together so far, no magnitude so far is above h.
-use Prim.Native.Nat.{ℕ, ◌+◌, ◌-◌, ◌≤◌}
+use Prim.Native.Nat.{ℕ, ◌+◌, ◌≤◌}
 use mathlib.Core.Path.{subst}
 use native.Mathlib.Omega.{arith}
 use lib.ListN.{get_or}
@@ -13,7 +13,7 @@ use Rattle.step_laws.specs.Machine.{limit_fits, seen}
 use Rattle.heights.specs.Above.{NoneAbove}
 use Rattle.heights.proofs.Looks.{none_more}
 use Rattle.entry_steps.specs.Passes.{addable}
-use Rattle.peaks.proofs.Gathers.{Unsigned, unsigned_test, unsigned_tested, unsigned_both, both_unsigned}
+use Rattle.peaks.proofs.Gathers.{unsigned_test, unsigned_tested, unsigned_both, both_unsigned}
 use Rattle.peaks.proofs.Gathers.{difference_fits, sum_fits}
 use Rattle.peaks.proofs.none_in_block.Goals as goal
 use Rattle.peaks.proofs.none_in_block.Goals.{After-x-1, Start}

@@ -1,13 +1,11 @@
 -- `peak_within`: as `peak`; each magnitude that is found is an entry's, so it is within the bound.
-use Prim.Native.Nat.{◌-◌}
 use mathlib.Core.Path.{◌≡◌, ap, ◌∙◌}
 use native.Mathlib.Omega.{arith}
-use borrow.Author.Rules.{rules}
-use lib.ListN.{length, get_or}
+use lib.ListN.{get_or}
 use lib.IntN.{ℤ, nat_abs}
 use Rattle.definitions.specs.Integers.{0ℤ}
 use Rattle.definitions.specs.Steps.{entries}
-use Rattle.heights.proofs.Looks.{Reached, reached_first, reached_next, reached_end}
+use Rattle.heights.proofs.Looks.{reached_first, reached_next, reached_end}
 use Rattle.heights.proofs.Signs.{passed}
 use Rattle.peaks.proofs.peak_within.Goals as goal
 use Rattle.peaks.proofs.peak_within.Goals.{After-magnitude-h, At-loop-i, Start}

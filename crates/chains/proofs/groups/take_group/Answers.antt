@@ -1,6 +1,6 @@
 -- `chains::groups::take_group` meets its contract. The loop's invariant: the group is taken and tested before the row
 -- at k. A row that stops short shows a value that passes w.
-use Prim.Native.Nat.{ℕ, ◌+◌, ◌-◌, ◌≤◌, ◌<◌}
+use Prim.Native.Nat.{ℕ, ◌+◌, ◌≤◌, ◌<◌}
 use mathlib.Core.Path.{◌≡◌, refl, sym, ap, subst}
 use mathlib.Core.Bool.{false}
 use mathlib.Core.List.{List}
@@ -10,7 +10,7 @@ use lib.IntN.{ℤ}
 use Rattle.definitions.specs.Steps.{in_range}
 use Rattle.chains.specs.Chains.{sum_at, RowTaken}
 use Rattle.chains.specs.Tested.{AskedOfGroup, AskedInRow, FoundInRow, GroupTaken}
-use Rattle.chains.proofs.Group.{GroupAt, group_start, asked-row, row_stopped, row_ahead, group_ended}
+use Rattle.chains.proofs.Group.{group_start, asked-row, row_stopped, row_ahead, group_ended}
 use Rattle.chains.proofs.Group.{settled}
 use Rattle.chains.proofs.groups.take_group.Goals as goal
 use Rattle.chains.proofs.groups.take_group.Goals.{After-s-1, At-loop-k, Start}

@@ -1,16 +1,9 @@
 -- `chains::rows::take_row` meets its contract, which is the loop's invariant: q entries of the row are taken and
 -- tested.
 use Prim.Native.Nat.{ℕ, ◌-◌, ◌<◌, ◌≤◌}
-use mathlib.Core.Path.{◌≡◌, subst}
-use mathlib.Core.Bool.{true}
-use native.Mathlib.Nat.{not-suc-le-zero}
-use native.Mathlib.Omega.{arith}
-use borrow.Author.Tests.{not-true, not-false}
 use lib.ListN.{length}
-use Rattle.step_laws.specs.Tests.{by_order}
 use Rattle.chains.specs.Chains.{RowTaken}
 use Rattle.chains.specs.Tested.{FoundInRow}
-use Rattle.chains.proofs.RowTaken.{row-start, row_took, row-left, next-old, next-told}
 use Rattle.chains.proofs.rows.take_row.Given as goal
 
 abbrev pub invariant-loop-q : goal.invariant-loop-q
