@@ -1,7 +1,7 @@
 -- There and back: a record that converts to the other form converts back to the same bytes. One theorem for both ways
 -- and every width, over what `to_half` and `to_whole` promise. And what converting leaves is what the other form's
 -- writer leaves of the coefficients that this form's reader delivers.
-use Prim.Native.Nat.{ℕ, zero, suc, ◌+◌, ◌≤◌, ◌<◌}
+use Prim.Native.Nat.{ℕ, zero, suc, ◌≤◌, ◌<◌}
 use mathlib.Core.Path.{◌≡◌, refl, sym, ◌∙◌}
 use mathlib.Core.Bool.{Bool, true, false, cond, not}
 use mathlib.Core.List.{List, ◌++◌}

@@ -1,7 +1,6 @@
 -- `browse`: the numbers of what stands there.
 use mathlib.Core.Path.{◌∙◌, ap}
 use Rattle.browsing.specs.Browse.{told}
-use borrow.Author.Rules.{rules}
 use Rattle.browsing.proofs.browse.Goals as goal
 
 pub returns : goal.returns

@@ -1,6 +1,5 @@
 -- `numbers_of`: each arm is a case of `told`.
 use Rattle.browsing.specs.Browse.{told}
-use borrow.Author.Rules.{rules}
 use Rattle.browsing.proofs.numbers_of.Goals as goal
 
 pub returns-in-Record : goal.returns-in-Record

@@ -3,7 +3,6 @@ use mathlib.Core.Path.{sym}
 use native.Mathlib.Omega.{arith}
 use Rattle.shelf.proofs.Alone.{tail}
 use Rattle.browsing.proofs.Stretches.{enough-left, part_past, part_end, part_within}
-use borrow.Author.Rules.{rules}
 use Rattle.browsing.proofs.part.Goals as goal
 
 pub returns-then-shelf-start : goal.returns-then-shelf-start

@@ -1,6 +1,5 @@
 -- `place_after`: each arm is a case of `place_after`.
 use Rattle.browsing.specs.Browse.{place_after}
-use borrow.Author.Rules.{rules}
 use Rattle.browsing.proofs.place_after.Goals as goal
 
 pub returns-in-Record : goal.returns-in-Record

@@ -5,7 +5,6 @@ use Rattle.shelf.specs.Format.{look_code}
 use Rattle.browsing.specs.Browse.{shown_of}
 use Rattle.shelf.proofs.Alone.{tail}
 use Rattle.browsing.proofs.Showing.{shown_end, shown_in, shown_refused}
-use borrow.Author.Rules.{rules}
 use Rattle.browsing.proofs.shown_at.Goals as goal
 
 pub returns-then-shelf-at : goal.returns-then-shelf-at

@@ -1,6 +1,5 @@
 -- `stretch_of`: each arm is a case of `start_of` and `length_of`.
 use Rattle.browsing.specs.Browse.{start_of, length_of}
-use borrow.Author.Rules.{rules}
 use Rattle.browsing.proofs.stretch_of.Goals as goal
 
 pub returns-in-Record : goal.returns-in-Record

@@ -1,6 +1,5 @@
 -- `turn_at`: what stands there, and the place after it.
 use Rattle.browsing.specs.Browse.{turn_at}
-use borrow.Author.Rules.{rules}
 use Rattle.browsing.proofs.turn_at.Goals as goal
 
 pub returns : goal.returns

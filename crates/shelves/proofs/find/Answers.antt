@@ -1,8 +1,6 @@
 -- `find`: each refusal by the test that led there, and else `find_with`.
 use mathlib.Core.Path.{sym, ◌∙◌}
-use borrow.Author.Tests.{not-true, not-false}
 use Rattle.shelves.specs.Lookup.{found}
-use borrow.Author.Rules.{rules}
 use Rattle.shelves.proofs.find.Goals as goal
 
 pub returns-then-not-known_kind : goal.returns-then-not-known_kind

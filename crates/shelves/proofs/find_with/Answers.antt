@@ -2,7 +2,6 @@
 use mathlib.Core.Path.{◌∙◌, ap}
 use Rattle.definitions.specs.Codes.{ABSENT}
 use Rattle.shelves.specs.Lookup.{HOUSE, refused, found_by}
-use borrow.Author.Rules.{rules}
 use Rattle.shelves.proofs.find_with.Goals as goal
 
 pub returns-in-Match : goal.returns-in-Match

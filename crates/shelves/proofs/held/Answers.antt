@@ -1,7 +1,6 @@
 -- `held`: by the shelf that held it.
 use borrow.Author.Tests.{eq-eqb, ne_eqb}
 use Rattle.shelves.specs.Lookup.{held_by, held_at}
-use borrow.Author.Rules.{rules}
 use Rattle.shelves.proofs.held.Goals as goal
 
 pub returns-then-f-eq-OWN : goal.returns-then-f-eq-OWN

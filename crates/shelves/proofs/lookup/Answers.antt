@@ -1,5 +1,4 @@
 -- `lookup`: the stretch of what was found.
-use borrow.Author.Rules.{rules}
 use Rattle.shelves.proofs.lookup.Goals as goal
 
 pub returns : goal.returns

@@ -1,10 +1,7 @@
 -- `walk`: what is left of the walk is how it comes out (Walking).
-use Prim.Native.Nat.{◌-◌}
 use mathlib.Core.Path.{sym, ◌∙◌}
 use native.Mathlib.Omega.{arith}
-use borrow.Author.Rules.{rules}
-use lib.ListN.{length}
-use Rattle.shelves.proofs.Walking.{Underway, begun, ended, stopped, nothing, matched, bounds, passed}
+use Rattle.shelves.proofs.Walking.{begun, ended, stopped, nothing, matched, bounds, passed}
 use Rattle.shelves.proofs.walk.Goals as goal
 
 pub loop-at-init : goal.loop-at-init

@@ -4,9 +4,8 @@ use mathlib.Core.Path.{◌≡◌, sym, ap, ◌∙◌}
 use mathlib.Core.Bool.{false}
 use mathlib.Core.List.{List, ◌++◌}
 use native.Mathlib.Omega.{arith}
-use borrow.Author.Rules.{rules}
 use Prim.Native.Nat.{ℕ}
-use lib.ListN.{length, drop}
+use lib.ListN.{drop}
 use Rattle.definitions.specs.Codes.{DONE, SHORT, UNEVEN}
 use Rattle.record.specs.Header.{count_in, kind_in, index_in, degree_in, byte_of}
 use Rattle.record.proofs.Headers.{Right, right}

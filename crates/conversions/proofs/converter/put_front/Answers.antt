@@ -1,8 +1,6 @@
 -- `put_front`: the first bytes copied, and the mark of the other form (Converting).
 use mathlib.Core.Path.{ap, ◌∙◌}
 use native.Mathlib.Omega.{arith}
-use borrow.Author.Rules.{rules}
-use lib.ListN.{length}
 use Rattle.record.specs.Header.{count_in}
 use Rattle.widths.proofs.Digits.{bytes_each}
 use Rattle.forms.specs.declared.Form.TheVariants.{Half}

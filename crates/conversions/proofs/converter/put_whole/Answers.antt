@@ -1,8 +1,6 @@
 -- `put_whole`: what both forms have, and then the other half (Converting).
 use mathlib.Core.Path.{ap}
 use native.Mathlib.Omega.{arith}
-use borrow.Author.Rules.{rules}
-use lib.ListN.{length}
 use Rattle.record.specs.Header.{count_in}
 use Rattle.record.proofs.Headers.{right}
 use Rattle.widths.proofs.Digits.{bytes_each}

@@ -1,7 +1,6 @@
 -- `store`: by the form (Converting).
 use mathlib.Core.Path.{ap, ◌∙◌}
 use mathlib.Core.List.{List, ◌++◌}
-use borrow.Author.Rules.{rules}
 use Prim.Native.Nat.{ℕ}
 use lib.ListN.{drop}
 use Rattle.widths.proofs.Digits.{bytes_each}

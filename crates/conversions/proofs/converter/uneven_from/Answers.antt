@@ -1,7 +1,6 @@
 -- `uneven_from`: a half record always has its whole; of a whole one the halves are compared.
 use mathlib.Core.Path.{ap₂, ◌∙◌}
 use native.Mathlib.Omega.{arith}
-use borrow.Author.Rules.{rules}
 use Rattle.definitions.specs.Halves.{uneven}
 use Rattle.record.specs.Header.{count_in}
 use Rattle.record.proofs.Headers.{right}

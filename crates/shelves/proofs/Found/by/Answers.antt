@@ -1,6 +1,5 @@
 -- `Found::by`: each arm is a case of `found_by`.
 use Rattle.shelves.specs.Lookup.{found_by}
-use borrow.Author.Rules.{rules}
 use Rattle.shelves.proofs.Found.by.Goals as goal
 
 pub returns-in-Match : goal.returns-in-Match
