@@ -1,10 +1,7 @@
 -- `sizes_of` meets its contract: an invariant of the first i indices (Sizing).
 use Prim.Native.Nat.{◌-◌}
-use native.Mathlib.Omega.{arith}
 use lib.ListN.{length}
-use borrow.Author.Tests.{not-true, not-false}
-use borrow.Author.Rules.{rules}
-use Rattle.cascade.proofs.Sizing.{Sized, sized_none, refused, sized_done, total_fits, sized_more}
+use Rattle.cascade.proofs.Sizing.{Sized}
 use Rattle.cascade.proofs.asked.sizes_of.Given as goal
 
 abbrev pub invariant-loop-i : goal.invariant-loop-i

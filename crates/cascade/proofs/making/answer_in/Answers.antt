@@ -8,7 +8,6 @@ use Rattle.definitions.specs.Codes.{SHORT}
 use Rattle.definitions.specs.Cascades.{total_degree, longest}
 use Rattle.answers.proofs.Told.{told-only}
 use Rattle.cascade.proofs.Answering.{some_index, at_short, ask_short, ask_scratch, at_last}
-use borrow.Author.Rules.{rules}
 use Rattle.cascade.proofs.making.answer_in.Goals as goal
 use Rattle.cascade.proofs.making.answer_in.Goals.{Start}
 
@@ -23,13 +22,13 @@ pub returns-then-buf-total : goal.returns-then-buf-total
 returns-then-buf-total c = let told =
     let p = (goal.at.returns-then-buf-total c).Start in
     at_short _ _ p.args.buf.now p.args.scratch.now (c.refused.ensures ∙ ap (told-only SHORT) (total_is p))
-    (ask_short p.requires.1 _ _ (omega (arith, total_is p, c.if-buf-total.true))) in record { value = told.0; buf_after = told.1; scratch_after = told.2 }
+    (ask_short p.requires.1 _ _ (omega (arith, total_is p, c.if-buf-total.true))) in record { value = told.0; buf_after = told.1.0; scratch_after = told.1.1 }
 
 pub returns-then-scratch-sizes : goal.returns-then-scratch-sizes
 returns-then-scratch-sizes c = let told =
     let p = (goal.at.returns-then-scratch-sizes c).Start in
     at_short _ _ p.args.buf.now p.args.scratch.now (c.refused-then-scratch-sizes.ensures ∙ ap (told-only SHORT) (total_is p))
-    (ask_scratch p.requires.1 _ _ (omega (arith, longest_is p, c.if-scratch-sizes.true))) in record { value = told.0; buf_after = told.1; scratch_after = told.2 }
+    (ask_scratch p.requires.1 _ _ (omega (arith, longest_is p, c.if-scratch-sizes.true))) in record { value = told.0; buf_after = told.1.0; scratch_after = told.1.1 }
 
 pub slice_bounds-answer_of-end-2 : goal.slice_bounds-answer_of-end-2
 slice_bounds-answer_of-end-2 c = sym (length-take-le _ _ (omega arith))
@@ -51,4 +50,4 @@ returns c = let told =
     let p = (goal.at.returns c).Start in
     at_last p.requires.1 p.args.buf.now p.args.scratch.now (total_is p) (omega (arith, total_is p))
     (omega (arith, longest_is p))
-    c.answer_of.ensures in record { value = told.0; buf_after = told.1; scratch_after = told.2 }
+    (c.answer_of.ensures.value, (c.answer_of.ensures.b_after, c.answer_of.ensures.scratch_after)) in record { value = told.0; buf_after = told.1.0; scratch_after = told.1.1 }

@@ -5,7 +5,6 @@ use mir.Syntax.{w64}
 use mir.Facts.{to_z-of_z}
 use Rattle.definitions.specs.Steps.{largest}
 use Rattle.cascade.proofs.Answering.{made_over_lem, made_tall, made_done}
-use borrow.Author.Rules.{rules}
 use Rattle.cascade.proofs.making.answer_of.Goals as goal
 
 pub returns-then-made : goal.returns-then-made
@@ -15,7 +14,7 @@ returns-then-made c = let told =
     made_over_lem p.requires.2.good m.make-made.ensures.product_is p.args.h p.requires.0 _ m.make-made.new.scratch
     p.args.scratch.now c.clear.ensures
     m.make-made.ensures.scratch_len_unchanged c.if-made.true c.refused.ensures
-    c.clear-then-made.ensures in record { value = told.0; b_after = told.1; scratch_after = told.2 }
+    c.clear-then-made.ensures in record { value = told.0; b_after = told.1.0; scratch_after = told.1.1 }
 
 pub returns-then-h-made : goal.returns-then-h-made
 returns-then-h-made c = let told =
@@ -24,7 +23,7 @@ returns-then-h-made c = let told =
     made_tall p.requires.2.good m.make-made.ensures.product_is p.args.h p.requires.0 _ m.make-made.new.scratch
     p.args.scratch.now c.clear.ensures
     m.make-made.ensures.scratch_len_unchanged c.if-made.false
-    c.if-h-made.true c.refused-then-h-made.ensures c.clear-then-h-made.ensures in record { value = told.0; b_after = told.1; scratch_after = told.2 }
+    c.if-h-made.true c.refused-then-h-made.ensures c.clear-then-h-made.ensures in record { value = told.0; b_after = told.1.0; scratch_after = told.1.1 }
 
 pub overflow_cast-result : goal.overflow_cast-result
 overflow_cast-result c =
@@ -40,4 +39,4 @@ returns c = let told =
     made_done p.requires.2.good m.make-made.ensures.product_is p.args.h p.requires.0 _ m.make-made.new.scratch
     p.args.scratch.now c.clear.ensures
     m.make-made.ensures.scratch_len_unchanged c.if-made.false c.if-h-made.false
-    (to_z-of_z {w = w64} (record { sfits = omega arith })) in record { value = told.0; b_after = told.1; scratch_after = told.2 }
+    (to_z-of_z {w = w64} (record { sfits = omega arith })) in record { value = told.0; b_after = told.1.0; scratch_after = told.1.1 }

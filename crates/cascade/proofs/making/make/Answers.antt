@@ -1,10 +1,6 @@
 -- `make` meets its contract: an invariant of the first i factors (Underway).
-use Prim.Native.Nat.{◌-◌}
-use mathlib.Core.Path.{◌≡◌, refl, sym, ◌∙◌}
-use native.Mathlib.Omega.{arith}
-use lib.ListN.{length}
-use borrow.Author.Rules.{rules}
-use Rattle.cascade.proofs.Underway.{Underway, first_asks, underway_first, known, room}
+use mathlib.Core.Path.{refl, sym, ◌∙◌}
+use Rattle.cascade.proofs.Underway.{first_asks, underway_first, known, room}
 use Rattle.cascade.proofs.Underway.{over_here, underway_more, done}
 use Rattle.cascade.proofs.making.make.Goals as goal
 
