@@ -20,12 +20,17 @@ done asked e =
     (sym e ∙ asked.is_short.ensures.value)
 
 pub returns-then-is_short : goal.returns-then-is_short
-returns-then-is_short c = let told =
+returns-then-is_short c =
     let asked = c in
     let a = asked.args in
     let r = refused a.shelf.now a.out.now a.list.now (length a.coeffs.now)
     (sym c.if-is_short.true ∙ asked.is_short.ensures.value) in
-    (r.0, (r.1, (r.2, c.clear.ensures ∙ ap zeros asked.is_short.ensures.coeffs_len_unchanged))) in record { answer = told.0; leaves = told.1; lists = told.2; clears = told.3 }
+    record {
+      answer = r.0;
+      leaves = r.1;
+      lists = r.2;
+      clears = c.clear.ensures ∙ ap zeros asked.is_short.ensures.coeffs_len_unchanged;
+    }
 
 pub write_all-written-requires : goal.write_all-written-requires
 write_all-written-requires c =
@@ -33,11 +38,16 @@ write_all-written-requires c =
     rw asked.is_short.ensures.coeffs_len_unchanged (done asked c.if-is_short.false)
 
 pub returns : goal.returns
-returns c = let told =
+returns c =
     let w = c in
     let asked = (goal.at.returns c).After-is_short in
     let a = asked.args in
     let e = w.write_all-written.ensures in
     let r = delivered a.shelf.now a.out.now a.list.now (length a.coeffs.now)
-    (done asked w.if-is_short.false) _ _ _ _ e.kept_value.0 e.kept_value.1 e.out_after.0 e.out_after.1.0 in
-    (r.0, (r.1, (r.2, c.clear-2.ensures ∙ ap zeros (e.out_after.1.1 ∙ asked.is_short.ensures.coeffs_len_unchanged)))) in record { answer = told.0; leaves = told.1; lists = told.2; clears = told.3 }
+    (done asked w.if-is_short.false) _ _ _ _ e.kept_value.0 e.kept_value.1 e.out_after e.list_after in
+    record {
+      answer = r.0;
+      leaves = r.1;
+      lists = r.2;
+      clears = c.clear-2.ensures ∙ ap zeros (e.coeffs_len_unchanged ∙ asked.is_short.ensures.coeffs_len_unchanged);
+    }

@@ -11,38 +11,35 @@ use Rattle.rescuing.proofs.Turns.{Counted, counted_none, counted-cramped, counte
 use Rattle.rescuing.proofs.Turns.{counts_small}
 use Rattle.rescuing.proofs.Turns.{bounds}
 use Rattle.rescuing.proofs.passes.count_all.Goals as goal
-use Rattle.rescuing.proofs.passes.count_all.Goals.{After-next_from-next, At-loop-at}
+use Rattle.rescuing.proofs.passes.count_all.Goals.{After-next_from-next}
 
 -- a search, in the loop's turn
-abbrev turn : After-next_from-next → At-loop-at
-turn n = n.before.before.before
-
 abbrev shelf : After-next_from-next → List ℕ
-shelf n = (turn n).args.shelf.now
+shelf n = n.args.shelf.now
 
 abbrev room : After-next_from-next → ℕ
-room n = length (turn n).args.coeffs.now
+room n = length n.args.coeffs.now
 
-within : (n : After-next_from-next) → (turn n).loop-at.at < length (shelf n)
+within : (n : After-next_from-next) → n.loop-at.at < length (shelf n)
 within n = omega arith
 
-is : (n : After-next_from-next) → NextIs (room n) (shelf n) (turn n).loop-at.at n.next_from-next.result
-is n = rw (turn n).loop-at.invariant.1 at n.next_from-next.ensures.next_is
+is : (n : After-next_from-next) → NextIs (room n) (shelf n) n.loop-at.at n.next_from-next.result
+is n = rw n.loop-at.invariant.1 at n.next_from-next.ensures.next_is
 
 long : (n : After-next_from-next) → length n.next_from-next.new.coeffs ≡ room n
-long n = n.next_from-next.ensures.coeffs_len_unchanged ∙ (turn n).loop-at.invariant.1
+long n = n.next_from-next.ensures.coeffs_len_unchanged ∙ n.loop-at.invariant.1
 
 -- where it is not for want of room that it ended
 module _ (n : After-next_from-next) (free : n.next_from-next.result.cramped ≡ false) where
   goes :
       let r = n.next_from-next.result in
-      let l = (turn n).loop-at in
+      let l = n.loop-at in
       Counted (room n) (shelf n) r.end (l.kept + (r.end - r.start))
       (l.slots + length (stretch l.at (r.start - l.at)))
-  goes = counted-turn _ _ _ _ _ (turn n).loop-at.invariant.0 (within n) _ (is n) free
+  goes = counted-turn _ _ _ _ _ n.loop-at.invariant.0 (within n) _ (is n) free
 
-  steps : let r = n.next_from-next.result in ((turn n).loop-at.at ≤ r.start) × (r.start ≤ r.end) ×
-      (r.end ≤ length (shelf n)) × ((turn n).loop-at.at < r.end)
+  steps : let r = n.next_from-next.result in (n.loop-at.at ≤ r.start) × (r.start ≤ r.end) ×
+      (r.end ≤ length (shelf n)) × (n.loop-at.at < r.end)
   steps = bounds _ _ _ (within n) _ (is n) free
 
 pub loop-at-init : goal.loop-at-init
@@ -57,7 +54,7 @@ shape_of-coeffs-then-next c = long (goal.at.shape_of-coeffs-then-next c).After-n
 pub returns-then-next : goal.returns-then-next
 returns-then-next c = let n = (goal.at.returns-then-next c).After-next_from-next in record {
   count_is = record {
-    cramps = counted-cramped _ _ _ _ _ (turn n).loop-at.invariant.0 (within n) _ (is n) c.if-next.true;
+    cramps = counted-cramped _ _ _ _ _ n.loop-at.invariant.0 (within n) _ (is n) c.if-next.true;
     kept = λ e. absurd (true≢false e);
     slots = λ e. absurd (true≢false e);
   };

@@ -7,22 +7,22 @@ use Rattle.rescuing.proofs.passes.next_from.Goals as goal
 pub returns-then-sought : goal.returns-then-sought
 returns-then-sought c = let sought = c.search-sought in record {
   next_is = record {
-    cramps = sym c.if-sought.true ∙ sought.ensures.0;
+    cramps = sym c.if-sought.true ∙ sought.ensures.cramped_value;
     start = λ e. absurd (true≢false e);
     end = λ e. absurd (true≢false e);
   };
-  coeffs_len_unchanged = sought.ensures.1.1;
+  coeffs_len_unchanged = sought.ensures.coeffs_len_unchanged;
 }
 
 pub end_from-requires : goal.end_from-requires
-end_from-requires c = c.search-sought.ensures.place_value.0 c.if-sought.false
+end_from-requires c = c.search-sought.ensures.place_value c.if-sought.false
 
 pub returns : goal.returns
 returns c = let sought = c.search-sought in record {
   next_is = record {
-    cramps = sym c.if-sought.false ∙ sought.ensures.0;
-    start = λ _. sought.ensures.1.0 c.if-sought.false;
+    cramps = sym c.if-sought.false ∙ sought.ensures.cramped_value;
+    start = λ _. sought.ensures.place_value c.if-sought.false;
     end = λ _. c.end_from.ensures;
   };
-  coeffs_len_unchanged = sought.ensures.1.1;
+  coeffs_len_unchanged = sought.ensures.coeffs_len_unchanged;
 }

@@ -27,8 +27,8 @@ bounds-list-slot-then-at-start c = rw length-set (omega (arith, room (goal.at.bo
 
 pub returns-then-at-start : goal.returns-then-at-start
 returns-then-at-start c = record {
-  value = rw (two (goal.at.returns-then-at-start c).Then-at-start, add-one) (refl);
-  list_after = rw (two (goal.at.returns-then-at-start c).Then-at-start, add-one) (refl);
+  value = rw (two (goal.at.returns-then-at-start c).Then-at-start) refl;
+  list_after = rw (two (goal.at.returns-then-at-start c).Then-at-start, add-one) refl;
 }
 
 pub returns : goal.returns
@@ -37,5 +37,5 @@ returns c =
     let none : stretch a.at (a.start - a.at) ≡ [] = stretch_empty a.at (a.start - a.at) (omega arith) in
     record {
       value = rw none (omega arith);
-      list_after = rw none (refl);
+      list_after = rw none refl;
     }

@@ -12,48 +12,42 @@ use Rattle.rescuing.proofs.Turns.{wrote_turn}
 use Rattle.rescuing.proofs.Codes.{Fits, fits}
 use Rattle.rescuing.proofs.Turns.{wrote_all, not-cramped, bounds}
 use Rattle.rescuing.proofs.passes.write_all.Goals as goal
-use Rattle.rescuing.proofs.passes.write_all.Goals.{After-next_from-next, At-loop-at, Start}
+use Rattle.rescuing.proofs.passes.write_all.Goals.{After-next_from-next}
 
 -- a search, in the loop's turn
-abbrev turn : After-next_from-next → At-loop-at
-turn n = n.before.before.before
-
-abbrev start : After-next_from-next → Start
-start n = (turn n).before.before.before.before
-
 abbrev shelf : After-next_from-next → List ℕ
-shelf n = (start n).args.shelf.now
+shelf n = n.args.shelf.now
 
 abbrev room : After-next_from-next → ℕ
-room n = length (start n).args.coeffs.now
+room n = length n.args.coeffs.now
 
 module _ (n : After-next_from-next) where
-  within : (turn n).loop-at.at < length (shelf n)
+  within : n.loop-at.at < length (shelf n)
   within = omega arith
 
-  is : NextIs (room n) (shelf n) (turn n).loop-at.at n.next_from-next.result
-  is = rw (turn n).loop-at.invariant.2 at n.next_from-next.ensures.next_is
+  is : NextIs (room n) (shelf n) n.loop-at.at n.next_from-next.result
+  is = rw n.loop-at.invariant.2 at n.next_from-next.ensures.next_is
 
   long : length n.next_from-next.new.coeffs ≡ room n
-  long = n.next_from-next.ensures.coeffs_len_unchanged ∙ (turn n).loop-at.invariant.2
+  long = n.next_from-next.ensures.coeffs_len_unchanged ∙ n.loop-at.invariant.2
 
-  roomy : Fits (shelf n) (length (start n).args.out.now) (length (start n).args.list.now) (room n)
-  roomy = fits _ _ _ _ (start n).requires
+  roomy : Fits (shelf n) (length n.args.out.now) (length n.args.list.now) (room n)
+  roomy = fits _ _ _ _ n.requires
 
   -- it is not for want of room that it ended
   free : n.next_from-next.result.cramped ≡ false
-  free = not-cramped _ _ _ within is.cramps ((turn n).loop-at.invariant.0.cramps ∙ roomy.free)
+  free = not-cramped _ _ _ within is.cramps (n.loop-at.invariant.0.cramps ∙ roomy.free)
 
   goes :
       let r = n.next_from-next.result in
-      let l = (turn n).loop-at in
+      let l = n.loop-at in
       Counted (room n) (shelf n) r.end (l.kept + (r.end - r.start))
       (l.slots + length (stretch l.at (r.start - l.at)))
-  goes = counted-turn _ _ _ _ _ (turn n).loop-at.invariant.0 within _ is free
+  goes = counted-turn _ _ _ _ _ n.loop-at.invariant.0 within _ is free
 
   steps :
       let r = n.next_from-next.result in
-      ((turn n).loop-at.at ≤ r.start) × (r.start ≤ r.end) × (r.end ≤ length (shelf n)) × ((turn n).loop-at.at < r.end)
+      (n.loop-at.at ≤ r.start) × (r.start ≤ r.end) × (r.end ≤ length (shelf n)) × (n.loop-at.at < r.end)
   steps = bounds _ _ _ within _ is free
 
 pub loop-at-init : goal.loop-at-init
@@ -65,13 +59,13 @@ next_from-next-requires c = c.loop-at.invariant.0.inside
 pub put_stretch-slots-requires : goal.put_stretch-slots-requires
 put_stretch-slots-requires c =
     let n = (goal.at.put_stretch-slots-requires c).After-next_from-next in
-    omega (arith, (goes n).lists, (roomy n).numbers, (turn n).loop-at.invariant.1.list_long)
+    omega (arith, (goes n).lists, (roomy n).numbers, n.loop-at.invariant.1.list_long)
 
 pub put_record-kept-requires : goal.put_record-kept-requires
 put_record-kept-requires c =
     let n = (goal.at.put_record-kept-requires c).After-next_from-next in
     let b = steps n in
-    (b.1, b.2, omega (arith, (goes n).keeps, (roomy n).bytes, (turn n).loop-at.invariant.1.out_long))
+    (b.1, b.2, omega (arith, (goes n).keeps, (roomy n).bytes, n.loop-at.invariant.1.out_long))
 
 pub loop-at-smaller : goal.loop-at-smaller
 loop-at-smaller c =
@@ -84,7 +78,7 @@ loop-at-preserved c =
     let stretched = c.put_stretch-slots.ensures in
     let recorded = c.put_record-kept.ensures in (
       rw (stretched.value, recorded.value) (goes n),
-      rw (stretched.value, recorded.value) (wrote_turn (room n) _ _ _ _ _ _ _ _ (turn n).loop-at.invariant.1 (within n) _ (is n)
+      rw (stretched.value, recorded.value) (wrote_turn (room n) _ _ _ _ _ _ _ _ n.loop-at.invariant.1 (within n) _ (is n)
           (free n) _ _
           recorded.out_after stretched.list_after),
       long n,
@@ -100,8 +94,13 @@ pub shape_of-coeffs : goal.shape_of-coeffs
 shape_of-coeffs c = c.loop-at.invariant.2
 
 pub returns : goal.returns
-returns c = let told =
+returns c =
     let inv = c.loop-at.invariant in
     let all = counted-all _ _ _ _ _ inv.0 c.loop-at-test.false in
     let wrote = wrote_all 0 _ _ _ _ _ _ _ _ inv.1 c.loop-at-test.false in
-    ((all.0, all.1), (wrote.0, (wrote.1, inv.2))) in record { kept_value = told.0; out_after = told.1; list_after = told.2; coeffs_len_unchanged = told.3 }
+    record {
+      kept_value = (all.0, all.1);
+      out_after = wrote.0;
+      list_after = wrote.1;
+      coeffs_len_unchanged = inv.2;
+    }
