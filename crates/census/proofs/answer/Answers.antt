@@ -2,7 +2,6 @@
 -- (`put_first`).
 use mathlib.Core.Path.{sym}
 use native.Mathlib.Omega.{arith}
-use borrow.Author.Rules.{rules}
 use lib.Seq.{length-take-le}
 use Rattle.text.proofs.Putting.{put_first}
 use Rattle.census.proofs.answer.Goals as goal
@@ -10,7 +9,7 @@ use Rattle.census.proofs.answer.Goals as goal
 pub slice_bounds-write_reply-end : goal.slice_bounds-write_reply-end
 slice_bounds-write_reply-end c =
     let put = c.answer_input-made in
-    sym (length-take-le _ _ (omega (arith, put.ensures.1, put.auto.1.0)))
+    sym (length-take-le _ _ (omega (arith, put.ensures.upper_bound, put.auto.out)))
 
 pub write_reply-requires : goal.write_reply-requires
 write_reply-requires c =

@@ -1,6 +1,6 @@
 -- `census::read_first_line` meets its contract. The loop's invariant: what was read lies in the buffer. It ends, for
 -- each read but the last gives something.
-use Prim.Native.Nat.{◌-◌, ◌≤◌}
+use Prim.Native.Nat.{◌≤◌}
 use mathlib.Core.Path.{◌≡◌, refl, sym, ◌∙◌}
 use native.Mathlib.Omega.{arith}
 use lib.ListN.{length}
@@ -17,7 +17,7 @@ read_more-got-requires c = c.loop-at.invariant.0
 -- a read keeps the buffer's length, and what it gave lies in there
 module _ (c : After-read_more-got) where
   kept : length c.read_more-got.new.buffer ≡ length c.args.input.now
-  kept = c.read_more-got.auto.1.0 ∙ c.loop-at.invariant.1
+  kept = c.read_more-got.auto.buffer ∙ c.loop-at.invariant.1
 
   within : c.loop-at.at ≤ length c.read_more-got.new.buffer
   within = omega (arith, c.read_more-got.ensures.count_in_bounds)
@@ -50,7 +50,7 @@ returns-then-has_newline c =
 pub loop-at-smaller : goal.loop-at-smaller
 loop-at-smaller c =
     let read = c in
-    omega (arith, read.read_more-got.ensures.count_in_bounds, read.read_more-got.auto.1.0)
+    omega (arith, read.read_more-got.ensures.count_in_bounds, read.read_more-got.auto.buffer)
 
 pub loop-at-preserved : goal.loop-at-preserved
 loop-at-preserved c =

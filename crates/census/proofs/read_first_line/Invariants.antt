@@ -1,10 +1,8 @@
 -- `census::read_first_line` meets its contract. The loop's invariant: what was read lies in the buffer. It ends, for
 -- each read but the last gives something.
 use Prim.Native.Nat.{◌-◌, ◌≤◌}
-use mathlib.Core.Path.{◌≡◌, refl, sym, ◌∙◌}
-use native.Mathlib.Omega.{arith}
+use mathlib.Core.Path.{◌≡◌}
 use lib.ListN.{length}
-use lib.Seq.{length-take-le}
 use Rattle.census.proofs.read_first_line.Given as goal
 
 abbrev pub invariant-loop-at : goal.invariant-loop-at
