@@ -6,7 +6,6 @@ use Rattle.definitions.specs.Codes.{DONE}
 use Rattle.definitions.specs.Requests.{zeros}
 use Rattle.rescuing.specs.Rescue.{rescue_code}
 use Rattle.rescuing.proofs.Codes.{refused, done_code, delivered}
-use borrow.Author.Rules.{rules}
 use Rattle.rescuing.proofs.rescue.Goals as goal
 use Rattle.rescuing.proofs.rescue.Goals.{After-is_short}
 

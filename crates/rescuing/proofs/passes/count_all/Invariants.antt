@@ -1,15 +1,8 @@
 -- `count_all`: what was counted, and what the rest counts, is that of the whole shelf (Turns).
-use Prim.Native.Nat.{ℕ, ◌+◌, ◌-◌, ◌<◌, ◌≤◌}
-use mathlib.Core.Path.{◌≡◌, refl, sym, ◌∙◌}
-use mathlib.Core.Bool.{true, false, true≢false}
-use mathlib.Core.List.{List}
-use native.Mathlib.Omega.{arith}
+use Prim.Native.Nat.{◌-◌}
+use mathlib.Core.Path.{◌≡◌}
 use lib.ListN.{length}
-use Rattle.rescuing.specs.Rescue.{stretch}
-use Rattle.rescuing.specs.Passes.{NextIs}
-use Rattle.rescuing.proofs.Turns.{Counted, counted_none, counted-cramped, counted-turn, counted-all}
-use Rattle.rescuing.proofs.Turns.{counts_small}
-use Rattle.rescuing.proofs.Turns.{bounds}
+use Rattle.rescuing.proofs.Turns.{Counted}
 use Rattle.rescuing.proofs.passes.count_all.Given as goal
 
 abbrev pub invariant-loop-at : goal.invariant-loop-at

@@ -1,5 +1,4 @@
 -- `end_from`: at the end there is no record, and before it one that is kept (Searches).
-use borrow.Author.Rules.{rules}
 use Prim.Native.Nat.{ℕ, ◌+◌}
 use mathlib.Core.Path.{sym, ◌∙◌, ap}
 use native.Mathlib.Omega.{arith}

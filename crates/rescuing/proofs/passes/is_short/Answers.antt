@@ -1,7 +1,6 @@
 -- `is_short`: rooms in which SHORT can't be met, or each room beside what was counted (NeverShort, Codes).
 use mathlib.Core.Path.{refl, sym, ◌∙◌, ap}
 use mathlib.Core.Bool.{true, false}
-use borrow.Author.Rules.{rules}
 use borrow.Author.Tests.{lt-ltb, le-ltb}
 use lib.Dec.{ltb}
 use Rattle.widths.proofs.Digits.{bytes_each}

@@ -1,5 +1,4 @@
 -- `next_from`: a search, and the end of the record that it found.
-use borrow.Author.Rules.{rules}
 use mathlib.Core.Path.{sym, ◌∙◌}
 use mathlib.Core.Bool.{true≢false}
 use Rattle.rescuing.proofs.passes.next_from.Goals as goal

@@ -1,5 +1,4 @@
 -- `put_record`: a part of the output, with the record at its start (Turns).
-use borrow.Author.Rules.{rules}
 use Prim.Native.Nat.{◌-◌}
 use mathlib.Core.Path.{◌≡◌, refl, ◌∙◌, ap}
 use native.Mathlib.Omega.{arith}

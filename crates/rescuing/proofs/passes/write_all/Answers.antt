@@ -5,9 +5,9 @@ use mathlib.Core.Bool.{false}
 use mathlib.Core.List.{List}
 use native.Mathlib.Omega.{arith}
 use lib.ListN.{length}
-use Rattle.rescuing.specs.Rescue.{stretch, kept}
+use Rattle.rescuing.specs.Rescue.{stretch}
 use Rattle.rescuing.specs.Passes.{NextIs}
-use Rattle.rescuing.proofs.Turns.{Counted, counted_none, counted-turn, counted-all, Wrote, wrote_none}
+use Rattle.rescuing.proofs.Turns.{Counted, counted_none, counted-turn, counted-all, wrote_none}
 use Rattle.rescuing.proofs.Turns.{wrote_turn}
 use Rattle.rescuing.proofs.Codes.{Fits, fits}
 use Rattle.rescuing.proofs.Turns.{wrote_all, not-cramped, bounds}
