@@ -18,9 +18,9 @@ use Rattle.rescue.proofs.rescue_read.Goals.{After-rescue-rescued}
 -- all that is kept and all that is listed, at the start of their buffers
 record Delivered (shelf out list : List ℕ) (r : Rescued) : Type 0 where
   keeps : take r.kept out ≡ kept shelf
-  kept_in_lem : r.kept ≤ length out
+  kept_in : r.kept ≤ length out
   lists : take (2 * r.stretches) list ≡ listed shelf
-  listed_in_lem : 2 * r.stretches ≤ length list
+  listed_in : 2 * r.stretches ≤ length list
 
 at_start_lem : (front rest l : List ℕ) (n : ℕ) → n ≡ length front → l ≡ front ++ rest → (take n l ≡ front) × (n ≤ length l)
 at_start_lem front rest l n en el =
@@ -34,11 +34,11 @@ module _ (shelf out list out' list' : List ℕ) (entries : ℕ) (r : Rescued)
   unfolding rescue_answer rescue_tells rescue_leaves rescue_lists
   delivered er eo el =
       let answer = rw done at er in
-      let (keeps, kept_in_lem) = at_start_lem (kept shelf) _ out' r.kept (ap (λ (x : Rescued). x.kept) answer)
+      let (keeps, kept_in) = at_start_lem (kept shelf) _ out' r.kept (ap (λ (x : Rescued). x.kept) answer)
       (rw done at eo) in
-      let (lists, listed_in_lem) = at_start_lem (listed shelf) _ list' (2 * r.stretches)
+      let (lists, listed_in) = at_start_lem (listed shelf) _ list' (2 * r.stretches)
       (ap (λ (x : Rescued). 2 * x.stretches) answer ∙ listed_pairs shelf) (rw done at el) in
-      record { keeps = keeps; kept_in_lem = kept_in_lem; lists = lists; listed_in_lem = listed_in_lem }
+      record { keeps = keeps; kept_in = kept_in; lists = lists; listed_in = listed_in }
 
 all : (c : After-rescue-rescued) →
     Delivered c.args.shelf.now
@@ -54,21 +54,21 @@ all c =
     (omega (arith, known.requires, out.ensures)) (omega (arith, coeffs.ensures))
     (omega (arith, known.requires, list.ensures)) in
     let e = c.rescue-rescued.ensures in
-    delivered shelf _ _ _ _ _ _ done e.answer e.leaves.0 e.leaves.1.0
+    delivered shelf _ _ _ _ _ _ done e.answer e.leaves e.lists
 
 pub slice_bounds-out-end : goal.slice_bounds-out-end
-slice_bounds-out-end c = omega (arith, (all (goal.at.slice_bounds-out-end c).After-rescue-rescued).kept_in_lem)
+slice_bounds-out-end c = omega (arith, (all (goal.at.slice_bounds-out-end c).After-rescue-rescued).kept_in)
 
 pub slice_bounds-write_kept-end : goal.slice_bounds-write_kept-end
 slice_bounds-write_kept-end c =
     let r = (goal.at.slice_bounds-write_kept-end c).After-rescue-rescued in
-    omega (arith, length-take-le r.rescue-rescued.result.kept r.rescue-rescued.new.out (all r).kept_in_lem)
+    omega (arith, length-take-le r.rescue-rescued.result.kept r.rescue-rescued.new.out (all r).kept_in)
 
 pub write_kept-requires : goal.write_kept-requires
 write_kept-requires c = (all (goal.at.write_kept-requires c).After-rescue-rescued).keeps
 
 pub say_stretches-requires : goal.say_stretches-requires
 say_stretches-requires c = let d = all (goal.at.say_stretches-requires c).After-rescue-rescued in record {
-  count_in_bounds = d.listed_in_lem;
+  count_in_bounds = d.listed_in;
   list_value = d.lists;
 }

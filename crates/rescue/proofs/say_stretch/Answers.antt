@@ -9,7 +9,7 @@ use Rattle.rescue.proofs.say_stretch.Goals as goal
 pub slice_bounds-write_line-end : goal.slice_bounds-write_line-end
 slice_bounds-write_line-end c =
     let put = c.put_stretch-n in
-    sym (length-take-le _ _ (omega (arith, put.ensures.1, put.auto.0)))
+    sym (length-take-le _ _ (omega (arith, put.ensures.upper_bound, put.auto.line)))
 
 pub write_line-requires : goal.write_line-requires
 write_line-requires c = let put = c.put_stretch-n.ensures in record {
