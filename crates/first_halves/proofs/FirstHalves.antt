@@ -16,7 +16,7 @@ use lib.IntN.{ℤ}
 use Rattle.definitions.specs.Integers.{0ℤ}
 use Rattle.definitions.specs.Series.{Series, firsts, alternate, spread}
 use Rattle.definitions.specs.Steps.{entries, largest}
-use Rattle.definitions.specs.Numbers.{divides, phi, r_of, m_of}
+use Rattle.definitions.specs.Numbers.{divides, r_of, m_of}
 use Rattle.definitions.specs.KeptHalf.{half_degree}
 use Rattle.definitions.specs.Polynomials.{polynomial, degree}
 use Rattle.definitions.specs.Requests.{good_index, divisors_due}

@@ -21,7 +21,7 @@ use Rattle.definitions.specs.Polynomials.{polynomial, degree}
 use Rattle.definitions.specs.Steps.{entries, largest}
 use Rattle.definitions.specs.KeptHalf.{half_degree, additions, sum_of}
 use Rattle.definitions.specs.Requests.{divisors_due, over_among, zeros}
-use Rattle.definitions.specs.Answer.{coefficients, height, peak, additions_for}
+use Rattle.definitions.specs.Answer.{coefficients, height, additions_for}
 use Rattle.numbers.specs.Apart.{r_odd_squarefree}
 use Rattle.numbers.specs.Below.{additions-all}
 use Rattle.cyclotomic.specs.Kept.{kept-all}

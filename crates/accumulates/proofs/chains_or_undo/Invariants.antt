@@ -1,16 +1,8 @@
 -- `accumulates::chains_or_undo` meets its contract. The loop's invariant: the chains below c are taken and
 -- tested. A group that stops short shows a value that passes w, and what was taken can be put back.
-use Prim.Native.Nat.{◌+◌, ◌-◌, ◌<◌, ◌≤◌}
-use mathlib.Core.Path.{refl, sym, ◌∙◌, ap}
-use native.Mathlib.Omega.{arith}
+use Prim.Native.Nat.{◌-◌, ◌≤◌}
 use lib.ListN.{length}
-use Rattle.definitions.specs.Steps.{in_range, stepped}
-use Rattle.entry_steps.proofs.Tested.{undone}
 use Rattle.chains.specs.Tested.{Tested}
-use Rattle.accumulates.specs.Stopped.{Stopped}
-use Rattle.accumulates.proofs.Pass.{same_new}
-use Rattle.chains.proofs.Group.{settled}
-use Rattle.accumulates.proofs.TestedPass.{none-tested, asked_still, tested-after, stopped, all_tested}
 use Rattle.accumulates.proofs.chains_or_undo.Given as goal
 
 abbrev pub invariant-loop-c : goal.invariant-loop-c

@@ -1,7 +1,6 @@
 -- `better_bound` meets its contract: the bound itself, or the smaller of two.
 use native.Mathlib.Nat.{le_refl}
 use native.Mathlib.Omega.{arith}
-use borrow.Author.Rules.{rules}
 use Rattle.bounded_steps.proofs.better_bound.Goals as goal
 
 pub returns-then-bound-le-LARGE : goal.returns-then-bound-le-LARGE

@@ -1,17 +1,8 @@
 -- `look` meets its contract. The loop's invariant: no entry that was looked at is larger than what has come together.
-use Prim.Native.Nat.{ℕ, ◌+◌, ◌-◌, ◌<◌, ◌≤◌}
-use mathlib.Core.Path.{◌≡◌, sym, ◌∙◌, ap}
-use mathlib.Core.List.{List}
-use native.Mathlib.Nat.{not-suc-le-zero, le_trans}
-use native.Mathlib.Omega.{arith}
-use borrow.Author.Rules.{rules}
-use lib.Bits.{bit_or}
-use lib.ListN.{length, get_or, get_or-eq_default}
-use lib.IntN.{ℤ, nat_abs}
+use Prim.Native.Nat.{ℕ, ◌-◌, ◌<◌, ◌≤◌}
+use lib.ListN.{length, get_or}
+use lib.IntN.{nat_abs}
 use Rattle.definitions.specs.Integers.{0ℤ}
-use Rattle.definitions.specs.Steps.{entries}
-use Rattle.step_laws.specs.Tests.{by_order}
-use Rattle.heights.proofs.Signs.{passed, or_above}
 use Rattle.bounded_steps.proofs.look.Given as goal
 
 abbrev pub invariant-loop-i : goal.invariant-loop-i

@@ -1,5 +1,4 @@
 -- `step_or_undo` meets its contract: each arm does the step of its own sort.
-use borrow.Author.Rules.{rules}
 use Rattle.bounded_steps.proofs.step_or_undo.Goals as goal
 
 pub comb_or_undo-requires : goal.comb_or_undo-requires

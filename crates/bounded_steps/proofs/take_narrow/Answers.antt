@@ -3,7 +3,6 @@
 use mathlib.Core.Path.{◌≡◌, subst}
 use native.Mathlib.Omega.{arith}
 use native.Mathlib.Nat.{le_trans}
-use borrow.Author.Rules.{rules}
 use Rattle.entry_steps.specs.Sorts.{sort_means}
 use Rattle.entry_steps.specs.Passes.{SteppedOrUndone}
 use Rattle.bounded_steps.proofs.Tested.{done, back, undone}

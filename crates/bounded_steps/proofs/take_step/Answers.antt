@@ -1,5 +1,4 @@
 -- `take_step` meets its contract: what is known is a bound too, and no larger.
-use borrow.Author.Rules.{rules}
 use Rattle.bounded_steps.proofs.Outcomes.{of_smaller}
 use Rattle.bounded_steps.proofs.take_step.Goals as goal
 

@@ -1,6 +1,5 @@
 -- `take_wide` meets its contract: what the step tells (Tested).
 use native.Mathlib.Omega.{arith}
-use borrow.Author.Rules.{rules}
 use Rattle.bounded_steps.proofs.Tested.{either}
 use Rattle.bounded_steps.proofs.take_wide.Goals as goal
 

@@ -1,5 +1,4 @@
 -- `times_added` meets its contract: the growth of either sort, as a product and a sum (Untested).
-use borrow.Author.Rules.{rules}
 use native.Mathlib.Omega.{arith}
 use Rattle.bounded_steps.proofs.Untested.{comb_more, accumulate_more, some_times}
 use Rattle.bounded_steps.proofs.times_added.Goals as goal

@@ -13,7 +13,6 @@ use Rattle.definitions.specs.KeptHalf.{half_degree}
 use Rattle.step_laws.specs.Firsts.{length-firsts}
 use Rattle.index.proofs.Laws.{parts_half}
 use Rattle.first_halves.proofs.FirstHalves.{t_some, half-long, half_is}
-use borrow.Author.Rules.{rules}
 use Rattle.first_halves.proofs.first_half.Goals as goal
 use Rattle.first_halves.proofs.first_half.Goals.{After-half_degree-d, After-half_for_m-height, Start}
 

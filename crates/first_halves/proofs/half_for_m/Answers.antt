@@ -1,7 +1,6 @@
 -- `half_for_m`: the lower half for r, with the signs of an even index (FirstHalves).
 use mathlib.Core.Path.{ap}
 use Rattle.first_halves.proofs.FirstHalves.{lower_within, signed_is}
-use borrow.Author.Rules.{rules}
 use Rattle.first_halves.proofs.half_for_m.Goals as goal
 
 pub signed-requires : goal.signed-requires

@@ -5,7 +5,6 @@ use Rattle.definitions.specs.Requests.{known_kind}
 use Rattle.kept_half.specs.Halves.{StepsDue}
 use Rattle.first_halves.specs.declared.Measured.{Measured}
 use Rattle.first_halves.proofs.FirstHalves.{steps_left, steps_bounded, height_is, added}
-use borrow.Author.Rules.{rules}
 use Rattle.first_halves.proofs.lower_half.Goals as goal
 use Rattle.first_halves.proofs.lower_half.Goals.{Start}
 

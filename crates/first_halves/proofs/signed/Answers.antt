@@ -1,6 +1,5 @@
 -- `signed`: as they are, or alternated.
 use mathlib.Core.Path.{sym}
-use borrow.Author.Rules.{rules}
 use Rattle.step_laws.specs.Firsts.{firsts-entries}
 use Rattle.first_halves.proofs.signed.Goals as goal
 

@@ -1,13 +1,11 @@
 -- `search`: what is left of the search from `at` on is what is left of it from the start (Searching).
-use Prim.Native.Nat.{ℕ, ◌-◌, ◌<◌}
+use Prim.Native.Nat.{ℕ}
 use mathlib.Core.Path.{◌≡◌, refl, sym, ◌∙◌, ap}
-use mathlib.Core.Bool.{false}
 use native.Mathlib.Omega.{arith}
-use borrow.Author.Rules.{rules}
 use lib.ListN.{length, drop}
 use Rattle.keeping.specs.declared.Tried.{Tried}
 use Rattle.keeping.specs.Trying.{tried_of}
-use Rattle.keeping.proofs.Searching.{Underway, begun, at_end, at_kept, at_cramped, goes_on, passes_to}
+use Rattle.keeping.proofs.Searching.{begun, at_end, at_kept, at_cramped, goes_on, passes_to}
 use Rattle.keeping.proofs.search.Goals as goal
 use Rattle.keeping.proofs.search.Goals.{At-loop-at}
 

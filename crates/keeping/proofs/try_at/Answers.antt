@@ -1,7 +1,6 @@
 -- `try_at`: what starts with another byte is no record (Trying).
 use mathlib.Core.Path.{refl, sym, ◌∙◌, ap}
 use native.Mathlib.Nat.{add-zero}
-use borrow.Author.Rules.{rules}
 use lib.ListN.{length}
 use lib.Seq.{get_or-drop}
 use Rattle.shelf.proofs.Alone.{tail}

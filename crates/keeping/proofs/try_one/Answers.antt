@@ -2,7 +2,6 @@
 use mathlib.Core.Path.{◌≡◌, refl, sym, ◌∙◌}
 use mathlib.Core.Bool.{true, false}
 use native.Mathlib.Omega.{arith}
-use borrow.Author.Rules.{rules}
 use Rattle.definitions.specs.Codes.{DONE}
 use Rattle.shelf.specs.Format.{look_code}
 use Rattle.keeping.proofs.Comparing.{header}

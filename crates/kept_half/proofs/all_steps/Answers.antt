@@ -9,7 +9,6 @@ use Rattle.index.proofs.Laws.{parts_few}
 use Rattle.kept_half.specs.Halves.{KeptHalfIs}
 use Rattle.kept_half.proofs.Running.{two_primes}
 use Rattle.kept_half.proofs.Walked.{walk_due, fresh_half, of_all}
-use borrow.Author.Rules.{rules}
 use Rattle.kept_half.proofs.all_steps.Goals as goal
 use Rattle.kept_half.proofs.all_steps.Goals.{After-make_kept_half-run, After-over-walk, Start}
 

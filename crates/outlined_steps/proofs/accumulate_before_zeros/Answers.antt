@@ -1,6 +1,5 @@
 -- `accumulate_before_zeros` meets its contract: zeros are written up to d (Outlining).
 use Rattle.outlined_steps.proofs.Outlining.{begins_again}
-use borrow.Author.Rules.{rules}
 use Rattle.outlined_steps.proofs.accumulate_before_zeros.Goals as goal
 
 pub returns : goal.returns

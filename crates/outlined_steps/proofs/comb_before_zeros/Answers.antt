@@ -3,7 +3,6 @@
 use mathlib.Core.Path.{sym}
 use native.Mathlib.Omega.{arith}
 use Rattle.outlined_steps.proofs.Outlining.{part_length, part_bounded, reached}
-use borrow.Author.Rules.{rules}
 use Rattle.outlined_steps.proofs.comb_before_zeros.Goals as goal
 
 pub write_zeros-requires : goal.write_zeros-requires

@@ -3,7 +3,6 @@ use mathlib.Core.Path.{sym}
 use native.Mathlib.Omega.{arith}
 use lib.Seq.{length-take-le}
 use Rattle.outlined_steps.proofs.Outlining.{at_least, cut}
-use borrow.Author.Rules.{rules}
 use Rattle.outlined_steps.proofs.comb_of_repeated.Goals as goal
 
 pub slice_bounds-repeat-end-2 : goal.slice_bounds-repeat-end-2

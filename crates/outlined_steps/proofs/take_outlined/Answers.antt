@@ -2,7 +2,6 @@
 -- what is told.
 use native.Mathlib.Omega.{arith}
 use native.Mathlib.Nat.{mod-lt}
-use borrow.Author.Rules.{rules}
 use borrow.Author.Tests.{not-true, not-false}
 use Rattle.outlined_steps.proofs.Outlining.{too_long}
 use Rattle.outlined_steps.proofs.take_outlined.Goals as goal

@@ -1,7 +1,6 @@
 -- `take_whole` meets its contract: all entries are written, and the step is taken on them (Outlining).
 use mathlib.Core.Path.{refl}
 use Rattle.outlined_steps.proofs.Outlining.{whole-step}
-use borrow.Author.Rules.{rules}
 use Rattle.outlined_steps.proofs.take_whole.Goals as goal
 
 pub take_step-outcome-requires : goal.take_step-outcome-requires

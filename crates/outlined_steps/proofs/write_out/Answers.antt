@@ -1,7 +1,6 @@
 -- `write_out` meets its contract: what is told repeated, or zeros after it (Outlining).
 use mathlib.Core.Path.{◌∙◌}
 use Rattle.outlined_steps.proofs.Outlining.{repeats_all, zeros-written}
-use borrow.Author.Rules.{rules}
 use Rattle.outlined_steps.proofs.write_out.Goals as goal
 
 pub returns-then-o : goal.returns-then-o

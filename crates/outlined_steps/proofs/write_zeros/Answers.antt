@@ -4,7 +4,6 @@ use native.Mathlib.Omega.{arith}
 use borrow.Rule.Slice.PartMut.{mid_len}
 use Rattle.definitions.specs.Requests.{zeros}
 use Rattle.outlined_steps.proofs.Outlining.{zeros-told}
-use borrow.Author.Rules.{rules}
 use Rattle.outlined_steps.proofs.write_zeros.Goals as goal
 
 pub returns : goal.returns

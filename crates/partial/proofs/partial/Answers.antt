@@ -1,13 +1,11 @@
 -- `partial` meets its contract: each test's code (Stopping), and then `stop_at`'s. What each test showed is named once.
 use mathlib.Core.Path.{◌≡◌, sym, ◌∙◌}
 use mathlib.Core.Bool.{true}
-use borrow.Author.Tests.{not-true, not-false}
 use mir.Facts.{to_z-of_z}
 use Rattle.definitions.specs.Requests.{known_kind, good_index}
 use Rattle.index.specs.Parts.{parts_of}
 use Rattle.index.proofs.Laws.{taken_good, parts_r}
 use Rattle.partial.proofs.Stopping.{stop-kind, stop-index, stop-one, at_kind, at_index}
-use borrow.Author.Rules.{rules}
 use Rattle.partial.proofs.partial.Goals as goal
 use Rattle.partial.proofs.partial.Goals.{After-take_apart-parts, Else-not-known_kind, Start}
 

@@ -2,14 +2,12 @@
 -- once.
 use mathlib.Core.Path.{◌≡◌, refl, sym, ◌∙◌}
 use mathlib.Core.Bool.{true, false, or-true}
-use borrow.Author.Tests.{not-true, not-false}
 use Rattle.definitions.specs.Steps.{below_one}
 use Rattle.definitions.specs.Requests.{known_kind, good_index}
 use Rattle.index.proofs.Laws.{taken_good}
 use Rattle.step_laws.specs.Machine.{below_one_lem}
 use Rattle.step_laws.specs.WorkingLimit.{read_limit}
 use Rattle.polynomial.proofs.Answering.{ask_kind, ask_index, ask_limit, at_kind, at_index, at_limit}
-use borrow.Author.Rules.{rules}
 use Rattle.polynomial.proofs.polynomial.Goals as goal
 use Rattle.polynomial.proofs.polynomial.Goals.{Else-not-good_index, Else-not-known_kind, Else-w-lt1, Start}
 

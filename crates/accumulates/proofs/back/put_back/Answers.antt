@@ -1,6 +1,6 @@
 -- `accumulates::back::put_back` meets its contract, which is the loop's invariant: the places from x on are put
 -- back.
-use Prim.Native.Nat.{◌+◌, ◌-◌, ◌≤◌}
+use Prim.Native.Nat.{◌+◌, ◌-◌}
 use mathlib.Core.Path.{◌≡◌, subst}
 use native.Mathlib.Omega.{arith}
 use Rattle.accumulates.specs.Stopped.{PutBack}

@@ -1,10 +1,7 @@
 -- `accumulates::back::put_back` meets its contract, which is the loop's invariant: the places from x on are put
 -- back.
-use Prim.Native.Nat.{◌+◌, ◌-◌, ◌≤◌}
-use mathlib.Core.Path.{◌≡◌, subst}
-use native.Mathlib.Omega.{arith}
+use Prim.Native.Nat.{◌≤◌}
 use Rattle.accumulates.specs.Stopped.{PutBack}
-use Rattle.accumulates.proofs.PutBack.{back_start, back_is, back_next}
 use Rattle.accumulates.proofs.back.put_back.Given as goal
 
 abbrev pub invariant-loop-x : goal.invariant-loop-x

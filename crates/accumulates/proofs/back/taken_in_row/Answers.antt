@@ -1,5 +1,4 @@
 -- `accumulates::back::taken_in_row` meets its contract: the tests in their order.
-use borrow.Author.Rules.{rules}
 use borrow.Author.Tests.{le-leb, lt-leb}
 use native.Mathlib.Omega.{arith}
 use Rattle.accumulates.specs.Stopped.{taken_in_row}

@@ -3,14 +3,12 @@
 use Prim.Native.Nat.{ℕ, ◌+◌, ◌-◌, ◌/◌, ◌*◌, ◌%◌, ◌≤◌, ◌<◌, min}
 use mathlib.Core.Path.{◌≡◌, refl, sym, ◌∙◌, ap, ap₂, subst}
 use mathlib.Core.Bool.{true, false}
-use mathlib.Core.List.{List}
 use native.Mathlib.Nat.{mod-lt, mod-le, mod-eq_of_lt, mod-eq-sub-mod, mul-mod_left, div-add-mod'}
 use native.Mathlib.Omega.{arith}
 use lib.ListN.{length}
-use lib.IntN.{ℤ}
 use Rattle.definitions.specs.Steps.{entries}
 use Rattle.entry_steps.specs.Passes.{Split}
-use Rattle.accumulates.specs.Stopped.{is_taken, taken_in_row, Stopped}
+use Rattle.accumulates.specs.Stopped.{is_taken, taken_in_row}
 use Rattle.accumulates.proofs.PutBack.{none_back, taken_back, range_back, all_back, row-most, row-taken}
 use Rattle.accumulates.proofs.back.undo_rows.Goals as goal
 use Rattle.accumulates.proofs.back.undo_rows.Goals.{After-smaller-end, After-taken_in_row, At-loop-k, Start}

@@ -1,14 +1,12 @@
 -- `accumulates::second::take_second_row` meets its contract. The loop's invariant: the entries below x are the
 -- accumulate's, and tested.
-use Prim.Native.Nat.{ℕ, ◌+◌, ◌-◌, ◌<◌, ◌≤◌}
+use Prim.Native.Nat.{◌+◌, ◌<◌}
 use mathlib.Core.Path.{◌≡◌, refl, sym, ◌∙◌, ap, subst}
 use native.Mathlib.Nat.{not-le_of_lt}
 use native.Mathlib.Omega.{arith}
-use borrow.Author.Tests.{not-true, not-false}
 use lib.ListN.{length}
-use Rattle.definitions.specs.Steps.{accumulated, entries, in_range}
+use Rattle.definitions.specs.Steps.{entries, in_range}
 use Rattle.step_laws.specs.Tests.{by_order}
-use Rattle.entry_steps.specs.Passes.{Split}
 use Rattle.entry_steps.proofs.Split.{moved_up}
 use Rattle.chains.specs.Tested.{Found, Tested}
 use Rattle.accumulates.proofs.SecondRow.{second_start, second_is, second_tested, asked_second}

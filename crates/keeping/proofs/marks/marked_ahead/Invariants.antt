@@ -2,11 +2,7 @@
 use Prim.Native.Nat.{◌+◌, ◌-◌, ◌≤◌}
 use mathlib.Core.Path.{◌≡◌}
 use mathlib.Core.Bool.{false}
-use native.Mathlib.Omega.{arith}
-use borrow.Author.Tests.{eqb-false}
-use Rattle.step_laws.specs.Tests.{neither}
 use Rattle.keeping.specs.Trying.{Unmarked}
-use Rattle.keeping.proofs.Searching.{unmarked_more, unmarked_one}
 use Rattle.keeping.proofs.marks.marked_ahead.Given as goal
 
 abbrev pub invariant-loop-i : goal.invariant-loop-i

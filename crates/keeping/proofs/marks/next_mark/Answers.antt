@@ -1,9 +1,7 @@
 -- `next_mark`: none starts from the first place to `at` (Searching).
-use Prim.Native.Nat.{◌+◌, ◌-◌, ◌≤◌}
+use Prim.Native.Nat.{◌+◌}
 use mathlib.Core.Path.{refl}
 use native.Mathlib.Omega.{arith}
-use lib.ListN.{length}
-use Rattle.keeping.specs.Trying.{Unmarked}
 use Rattle.keeping.proofs.Searching.{unmarked_more, unmarked_one}
 use Rattle.keeping.proofs.marks.next_mark.Goals as goal
 

@@ -1,8 +1,6 @@
 -- `past_sixteens`: none starts from the first place to `at` (Searching).
-use Prim.Native.Nat.{◌+◌, ◌-◌, ◌≤◌}
+use Prim.Native.Nat.{◌+◌}
 use native.Mathlib.Omega.{arith}
-use lib.ListN.{length}
-use Rattle.keeping.specs.Trying.{Unmarked}
 use Rattle.keeping.proofs.Searching.{unmarked_none, unmarked_more}
 use Rattle.keeping.proofs.marks.past_sixteens.Goals as goal
 

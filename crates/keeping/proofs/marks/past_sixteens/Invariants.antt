@@ -1,9 +1,7 @@
 -- `past_sixteens`: none starts from the first place to `at` (Searching).
-use Prim.Native.Nat.{◌+◌, ◌-◌, ◌≤◌}
-use native.Mathlib.Omega.{arith}
+use Prim.Native.Nat.{◌-◌, ◌≤◌}
 use lib.ListN.{length}
 use Rattle.keeping.specs.Trying.{Unmarked}
-use Rattle.keeping.proofs.Searching.{unmarked_none, unmarked_more}
 use Rattle.keeping.proofs.marks.past_sixteens.Given as goal
 
 abbrev pub invariant-loop-at : goal.invariant-loop-at

@@ -1,12 +1,10 @@
 -- `differ_at`: none of those before i differs; where one of the next sixteen does, one of all does (Comparing).
-use Prim.Native.Nat.{ℕ, ◌+◌, ◌-◌, ◌≤◌}
-use mathlib.Core.Path.{◌≡◌, refl, sym, ◌∙◌, ap}
-use mathlib.Core.Bool.{Bool, false, ◌||◌}
-use native.Mathlib.Omega.{arith}
+use Prim.Native.Nat.{◌-◌, ◌≤◌}
+use mathlib.Core.Path.{◌≡◌}
+use mathlib.Core.Bool.{false}
 use lib.ListN.{length, drop}
 use Rattle.widths.specs.Numbers.{coefficients_at}
 use Rattle.keeping.specs.Keepable.{differ_to}
-use Rattle.keeping.proofs.Comparing.{differ_on}
 use Rattle.keeping.proofs.same.differ_at.Given as goal
 
 abbrev pub invariant-loop-i : goal.invariant-loop-i

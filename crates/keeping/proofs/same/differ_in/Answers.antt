@@ -1,5 +1,4 @@
 -- `differ_in`: one loop, by its width.
-use borrow.Author.Rules.{rules}
 use Rattle.keeping.proofs.same.differ_in.Goals as goal
 
 pub differ_at-requires : goal.differ_at-requires

@@ -1,7 +1,7 @@
 -- `differ_some`: what was found so far is that of the first of them, by the definition's own step.
-use Prim.Native.Nat.{◌+◌, ◌-◌, ◌≤◌}
+use Prim.Native.Nat.{◌+◌}
 use mathlib.Core.Path.{◌≡◌}
-use mathlib.Core.Bool.{◌||◌, or-false}
+use mathlib.Core.Bool.{or-false}
 use mathlib.Core.List.{List}
 use native.Mathlib.Omega.{arith}
 use lib.ListN.{length, drop}

@@ -1,14 +1,10 @@
 -- `differ_some`: what was found so far is that of the first of them, by the definition's own step.
 use Prim.Native.Nat.{◌+◌, ◌-◌, ◌≤◌}
 use mathlib.Core.Path.{◌≡◌}
-use mathlib.Core.Bool.{◌||◌, or-false}
-use mathlib.Core.List.{List}
-use native.Mathlib.Omega.{arith}
+use mathlib.Core.Bool.{◌||◌}
 use lib.ListN.{length, drop}
-use lib.IntN.{ℤ}
 use Rattle.widths.specs.Numbers.{coefficients_at}
 use Rattle.keeping.specs.Keepable.{differ_to}
-use Rattle.keeping.proofs.Comparing.{differ-next}
 use Rattle.keeping.proofs.same.differ_some.Given as goal
 
 abbrev pub invariant-loop-i : goal.invariant-loop-i

@@ -12,10 +12,9 @@ use Rattle.widths.specs.Numbers.{coefficients_at, widths, least_of}
 use Rattle.definitions.specs.Halves.{half_of, first_half, uneven}
 use Rattle.widths.proofs.Digits.{Bytes, bytes_each}
 use Rattle.record.specs.Header.{kind_in, index_in, count_in}
-use Rattle.keeping.proofs.Comparing.{own, header, fits, good_in, another_wide}
+use Rattle.keeping.proofs.Comparing.{own, header, good_in, another_wide}
 use Rattle.keeping.proofs.Halving.{counted-degree, half-own, comparable_half, halves_differ, halves_same}
 use Rattle.keeping.proofs.Halving.{stored-right}
-use borrow.Author.Rules.{rules}
 use Rattle.keeping.proofs.same.has_half.Goals as goal
 use Rattle.keeping.proofs.same.has_half.Goals.{After-first_half-height, Start}
 

@@ -9,9 +9,8 @@ use Rattle.widths.specs.Numbers.{widths, least_of}
 use lib.ListN.{take, length}
 use Rattle.record.specs.Header.{kind_in, index_in, count_in}
 use native.Mathlib.Omega.{arith}
-use borrow.Author.Rules.{rules}
 use Rattle.widths.proofs.Digits.{Bytes, bytes_each}
-use Rattle.keeping.proofs.Comparing.{header, fits, another_wide, made-height, made_is, comparable, compared}
+use Rattle.keeping.proofs.Comparing.{header, another_wide, made-height, made_is, comparable, compared}
 use Rattle.keeping.proofs.same.has_whole.Goals as goal
 use Rattle.keeping.proofs.same.has_whole.Goals.{After-polynomial-made, Start}
 

@@ -1,6 +1,5 @@
 -- `is_same`: by halves where that is known to do, else as a whole.
 use mathlib.Core.Path.{◌≡◌, sym, ◌∙◌, ap}
-use borrow.Author.Rules.{rules}
 use Rattle.widths.proofs.Digits.{bytes_each}
 use Rattle.record.specs.Header.{index_in}
 use Rattle.index.specs.Parts.{parts_of, taken_apart}

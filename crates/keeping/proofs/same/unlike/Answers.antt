@@ -2,7 +2,6 @@
 use Prim.Native.Nat.{◌≤◌, ◌<◌, ◌^◌}
 use mathlib.Core.Path.{◌≡◌, ◌∙◌, ap}
 use native.Mathlib.Omega.{arith}
-use borrow.Author.Rules.{rules}
 use lib.IntN.{nat_abs}
 use lib.ListN.{get_or}
 use lib.Signed.{mag}

@@ -9,7 +9,6 @@ use Rattle.definitions.specs.Steps.{entries}
 use Rattle.step_laws.specs.Machine.{seen}
 use Rattle.kept_half.proofs.Starting.{start_seen}
 use Rattle.kept_half.proofs.Running.{fresh-stands, made-zeros}
-use borrow.Author.Rules.{rules}
 use Rattle.kept_half.proofs.run.make_kept_half.Goals as goal
 
 pub take_divisors-outcome-requires : goal.take_divisors-outcome-requires

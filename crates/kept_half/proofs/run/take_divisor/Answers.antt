@@ -2,7 +2,6 @@
 -- is the next kept half (Turning).
 use Rattle.entry_steps.specs.Sorts.{sort_means}
 use Rattle.kept_half.proofs.Turning.{step_due, turned, not-nothing}
-use borrow.Author.Rules.{rules}
 use Rattle.kept_half.proofs.run.take_divisor.Goals as goal
 
 pub take_outlined-outcome-requires : goal.take_outlined-outcome-requires

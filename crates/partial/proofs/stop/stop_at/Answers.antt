@@ -19,7 +19,6 @@ use Rattle.kept_half.specs.Halves.{KeptHalfIs}
 use Rattle.kept_half.specs.declared.RunOutcome.{RunOutcome}
 use Rattle.kept_half.proofs.Walked as Walked
 use Rattle.partial.proofs.Stopping as Stopping
-use borrow.Author.Rules.{rules}
 use Rattle.partial.proofs.stop.stop_at.Goals as goal
 use Rattle.partial.proofs.stop.stop_at.Goals.{After-over-walk, Else-w-lt1, Start}
 

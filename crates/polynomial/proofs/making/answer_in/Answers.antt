@@ -13,7 +13,6 @@ use Rattle.step_laws.specs.Signed.{mag_abs}
 use Rattle.index.proofs.Laws.{parts_degree}
 use Rattle.answers.proofs.Told.{told-only}
 use Rattle.polynomial.proofs.Answering.{ask_short, at_short, refuses, delivers}
-use borrow.Author.Rules.{rules}
 use Rattle.polynomial.proofs.making.answer_in.Goals as goal
 use Rattle.polynomial.proofs.making.answer_in.Goals.{After-degree_from-degree, Start}
 

@@ -2,7 +2,6 @@
 use mathlib.Core.Path.{sym, ◌∙◌}
 use Rattle.whole_from_half.proofs.Laying.{above_zero, r_is}
 use Rattle.polynomial.proofs.Stepping.{laid_one}
-use borrow.Author.Rules.{rules}
 use Rattle.polynomial.proofs.making.make.Goals as goal
 
 pub without_steps-requires : goal.without_steps-requires

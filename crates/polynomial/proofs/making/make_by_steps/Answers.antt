@@ -11,7 +11,6 @@ use Rattle.definitions.specs.Numbers.{r_of}
 use Rattle.definitions.specs.KeptHalf.{half_degree}
 use Rattle.kept_half.proofs.Walked.{half_is}
 use Rattle.polynomial.proofs.Stepping.{steps_due, half_room, Halfway, halfway}
-use borrow.Author.Rules.{rules}
 use Rattle.polynomial.proofs.making.make_by_steps.Goals as goal
 use Rattle.polynomial.proofs.making.make_by_steps.Goals.{After-all_steps-run, After-half_degree-half, Start}
 

@@ -4,11 +4,10 @@ use mathlib.Core.Bool.{Bool, true, false, cond}
 use mathlib.Core.List.{List}
 use Prim.Native.Nat.{ℕ, ◌≤◌, ◌-◌}
 use native.Mathlib.Omega.{arith}
-use borrow.Author.Rules.{rules}
 use lib.ListN.{length}
 use lib.IntN.{ℤ, pos, nat_abs}
 use Rattle.definitions.specs.Codes.{DONE, OVER}
-use Rattle.definitions.specs.Steps.{Sort, step_over, step_list, below_one, step_code, step_count, step_leaves}
+use Rattle.definitions.specs.Steps.{Sort, step_over, step_list, below_one}
 use Rattle.step_laws.specs.Told.{Told, told-zero, told_large, told_limit, told_over, told_done, told-long}
 use Rattle.step_laws.specs.Machine.{seen, below_one_lem}
 use Rattle.step_laws.specs.WorkingLimit.{Workable, read_limit}
@@ -55,7 +54,7 @@ pub returns-then-w-lt1 : goal.returns-then-w-lt1
 returns-then-w-lt1 c =
     let q = c in
     let t = told_limit q.args.w (sort_means q.args.self.sort) q.args.self.size q.args.a.now (omega arith)
-        q.if-size-gt65535.false (below_one_lem q.args.w q.ranges.w q.if-w-lt1.true) in record {
+    q.if-size-gt65535.false (below_one_lem q.args.w q.ranges.w q.if-w-lt1.true) in record {
       code_value = rw c.refused-then-w-lt1.ensures t.code;
       count_value = rw c.refused-then-w-lt1.ensures t.count;
       a_after = t.leaves;
@@ -84,7 +83,7 @@ returns-then-n-size c =
     let q = (goal.at.returns-then-n-size c).Else-w-lt1 in
     let p = start q in
     let t = told-long p.args.w (sort_means p.args.self.sort) p.args.self.size p.args.a.now (one q) (most q) (good q)
-        c.if-n-size.true in record { code_value = t.code; count_value = t.count; a_after = t.leaves }
+    c.if-n-size.true in record { code_value = t.code; count_value = t.count; a_after = t.leaves }
 
 pub take_bounded-outcome-requires : goal.take_bounded-outcome-requires
 take_bounded-outcome-requires c =
