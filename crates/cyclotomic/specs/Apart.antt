@@ -1,7 +1,7 @@
 -- How a polynomial is made from that of r (docs/RULES.md, 'How n is taken apart'): F(1), F(2), I(1), I(2) as printed;
 -- for odd squarefree r > 1, F(2r) is F(r) with -z for z and I(2r) is I(r), so negated, times 1 - z^r, the two copies
 -- never overlapping; and F(n), I(n) are those of m with z^t for z.
-use Rattle.std.specs.Prelude.{ℕ, ◌+◌, ◌*◌, ◌-◌, ◌%◌, ◌≤◌, ◌<◌, ◌≡◌, refl, Bool, true, false, cond, ◌≢◌, [], ◌∷◌, eqb}
+use Rattle.std.specs.Prelude.{ℕ, ◌+◌, ◌*◌, ◌%◌, ◌≤◌, ◌<◌, ◌≡◌, refl, Bool, true, false, cond, ◌≢◌, [], ◌∷◌, eqb}
 use Rattle.std.specs.Int.{◌∣◌}
 use Rattle.std.proofs.Math.Path.{sym, ap}
 use Rattle.std.proofs.Common.{◌∙◌, ap₂}

@@ -5,7 +5,7 @@ use Rattle.std.specs.Int.{◌∣◌}
 use Rattle.std.proofs.Common.{sym, ◌∙◌, ap, arith}
 use Rattle.std.proofs.Math.Nat as NatL
 use Rattle.std.proofs.Math.Decide.{dec_dvd}
-use Rattle.definitions.specs.Series.{◌·◌, spread}
+use Rattle.definitions.specs.Series.{spread}
 use Rattle.definitions.specs.Numbers.{phi, m_of, t_of}
 use Rattle.definitions.specs.Polynomials.{F, I, polynomial, degree}
 use Rattle.definitions.specs.KeptHalf.{half_degree}

@@ -2,7 +2,7 @@
 -- series/AtOne: for an old prime p, F(np) is F(n) with z^p for z and the gain stays; for a new one F(np) F(n) is that,
 -- so the gain of F(np) is 1 where that of F(n) is not 0; and F(p) = 1 + z + .. + z^(p-1) has gain p. F(n) I(n), which
 -- is z^n - 1, has gain 0.
-use Rattle.std.specs.Prelude.{ℕ, zero, suc, ◌+◌, ◌*◌, ◌^◌, ◌<◌, ◌≡◌, refl, ◌≢◌, ◌⊎◌, [], ◌∷◌, ℤ, pos}
+use Rattle.std.specs.Prelude.{ℕ, zero, suc, ◌*◌, ◌^◌, ◌<◌, ◌≡◌, refl, ◌≢◌, ◌⊎◌, [], ◌∷◌, ℤ, pos}
 use Rattle.std.specs.Int.{◌∣◌}
 use Rattle.std.proofs.Common.{sym, ◌∙◌, ap, inl, inr, ⊎_elim, arith, ne_eqb}
 use Rattle.std.proofs.Math.Nat as NatL

@@ -1,7 +1,7 @@
 -- Polynomials: series that are 0 from some degree on. They are closed under the ring's operations and z ↦ z^t; the
 -- highest coefficients of a product multiply; a polynomial factor of a monic polynomial by a monic one is monic, and
 -- its degree is the difference (`monic_div`).
-use Rattle.std.specs.Prelude.{ℕ, zero, suc, ◌+◌, ◌*◌, ◌-◌, ◌/◌, ◌%◌, ◌≤◌, ◌<◌, ◌≡◌, ℤ}
+use Rattle.std.specs.Prelude.{ℕ, zero, suc, ◌+◌, ◌*◌, ◌/◌, ◌%◌, ◌≤◌, ◌<◌, ◌≡◌, ℤ}
 use Rattle.std.proofs.Common.{sym, ◌∙◌, ap, ap₂, arith}
 use Rattle.std.proofs.Math.Path.{fun_ext}
 use Rattle.std.proofs.Math.Decide.{dec_le, ℕ_discrete}

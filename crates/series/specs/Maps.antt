@@ -10,7 +10,7 @@ use Rattle.std.proofs.Math.Arith.{mod-mul}
 use Rattle.std.proofs.Math.Dec.{eqb-suc-suc}
 use Rattle.definitions.specs.Integers.{◌⊕◌, ◌⊗◌, ⊖, 0ℤ, 1ℤ}
 use Rattle.definitions.specs.Series.{Series, tail, constant, 𝟘, 𝟙, ◌+ˢ◌, _ˢ, ◌·◌, z^, spread, alternate}
-use Rattle.integers.specs.Solver.{:1, ◌:*◌, :-, x, z, w}
+use Rattle.integers.specs.Solver.{:1, ◌:*◌, :-, x}
 use Rattle.integers.specs.Ring as Laws
 use Rattle.integers.specs.Whole.{⊕_zero, zero_⊗, zero_⊕, ⊖-zero, ringℤ}
 use Rattle.series.specs.Laws.{scale, at_+ˢ, at__ˢ, at_𝟘, at_mul-zero, at_mul-suc, agree_mul, tail-mul, scale-mul}

@@ -1,7 +1,6 @@
 -- `digits::byte_at` meets its contract: past the end the default is 0.
 use mathlib.Core.Path.{sym}
 use lib.ListN.{get_or-eq_default}
-use borrow.Author.Rules.{rules}
 use Rattle.digits.proofs.byte_at.Goals as goal
 
 pub returns : goal.returns

@@ -1,12 +1,9 @@
 -- `digits::digits_at` meets its contract. The loop's invariant: the digits at `place` are those passed and those
 -- at i.
-use mathlib.Core.Path.{◌≡◌, sym, ◌∙◌}
-use borrow.Author.Tests.{not-true, not-false}
+use mathlib.Core.Path.{◌≡◌}
 use Prim.Native.Nat.{◌+◌, ◌-◌, ◌≤◌}
-use native.Mathlib.Omega.{arith}
 use lib.ListN.{length}
 use Rattle.digits.specs.Digits.{digits_at}
-use Rattle.digits.proofs.Digits.{none_past, none_here, one_here}
 use Rattle.digits.proofs.digits_at.Given as goal
 
 abbrev pub invariant-loop-i : goal.invariant-loop-i

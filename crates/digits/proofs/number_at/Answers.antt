@@ -2,10 +2,10 @@
 -- left, and v has i digits.
 use mathlib.Core.Path.{◌≡◌, refl, sym, ◌∙◌}
 use native.Mathlib.Nat.{add-zero}
-use Prim.Native.Nat.{◌+◌, ◌-◌, ◌^◌, ◌<◌, ◌≤◌}
+use Prim.Native.Nat.{◌+◌, ◌<◌, ◌≤◌}
 use native.Mathlib.Omega.{arith}
-use lib.ListN.{drop, get_or}
-use Rattle.digits.specs.Digits.{number_at, value_of, value_from, digits, digits_at}
+use lib.ListN.{get_or}
+use Rattle.digits.specs.Digits.{number_at, value_of, digits_at}
 use Rattle.digits.proofs.Digits.{value-one, value_none, inside, is_digit_here, one_here, digit_range, small}
 use Rattle.digits.proofs.Digits.{digit_more}
 use Rattle.digits.proofs.number_at.Goals as goal

@@ -1,13 +1,9 @@
 -- `digits::number_at` meets its contract. The loop's invariant: the number is v followed by the digits that are
 -- left, and v has i digits.
-use mathlib.Core.Path.{◌≡◌, refl, sym, ◌∙◌}
-use native.Mathlib.Nat.{add-zero}
-use Prim.Native.Nat.{◌+◌, ◌-◌, ◌^◌, ◌<◌, ◌≤◌}
-use native.Mathlib.Omega.{arith}
-use lib.ListN.{drop, get_or}
-use Rattle.digits.specs.Digits.{number_at, value_of, value_from, digits, digits_at}
-use Rattle.digits.proofs.Digits.{value-one, value_none, inside, is_digit_here, one_here, digit_range, small}
-use Rattle.digits.proofs.Digits.{digit_more}
+use mathlib.Core.Path.{◌≡◌}
+use Prim.Native.Nat.{◌+◌, ◌-◌, ◌^◌, ◌<◌}
+use lib.ListN.{drop}
+use Rattle.digits.specs.Digits.{number_at, value_from, digits, digits_at}
 use Rattle.digits.proofs.number_at.Given as goal
 
 abbrev pub invariant-loop-i : goal.invariant-loop-i

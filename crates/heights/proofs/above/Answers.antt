@@ -1,11 +1,9 @@
 -- `above`: no entry that was passed over has a larger magnitude.
-use Prim.Native.Nat.{◌≤◌, ◌-◌, ◌<◌}
+use Prim.Native.Nat.{◌≤◌, ◌<◌}
 use mathlib.Core.Path.{◌≡◌, ◌∙◌, ap, subst}
 use native.Mathlib.Omega.{arith}
-use borrow.Author.Rules.{rules}
-use lib.ListN.{length, get_or}
+use lib.ListN.{get_or}
 use lib.IntN.{pos, nat_abs}
-use Rattle.heights.specs.Above.{NoneAbove}
 use Rattle.heights.proofs.Looks.{none_more}
 use Rattle.heights.proofs.Signs.{passed}
 use Rattle.heights.proofs.above.Goals as goal

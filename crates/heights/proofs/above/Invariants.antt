@@ -1,13 +1,7 @@
 -- `above`: no entry that was passed over has a larger magnitude.
-use Prim.Native.Nat.{◌≤◌, ◌-◌, ◌<◌}
-use mathlib.Core.Path.{◌≡◌, ◌∙◌, ap, subst}
-use native.Mathlib.Omega.{arith}
-use borrow.Author.Rules.{rules}
-use lib.ListN.{length, get_or}
-use lib.IntN.{pos, nat_abs}
+use Prim.Native.Nat.{◌≤◌, ◌-◌}
+use lib.ListN.{length}
 use Rattle.heights.specs.Above.{NoneAbove}
-use Rattle.heights.proofs.Looks.{none_more}
-use Rattle.heights.proofs.Signs.{passed}
 use Rattle.heights.proofs.above.Given as goal
 
 abbrev pub invariant-loop-i : goal.invariant-loop-i

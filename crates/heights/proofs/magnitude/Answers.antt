@@ -1,6 +1,5 @@
 -- `magnitude`: what stands beside the sign, and one more below 0 (Signs).
 use mathlib.Core.Path.{ap}
-use borrow.Author.Rules.{rules}
 use native.Mathlib.Omega.{arith}
 use lib.IntN.{nat_abs}
 use Rattle.heights.proofs.Signs.{casts, turned, nat_abs_below, plain}

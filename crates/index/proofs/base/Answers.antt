@@ -1,5 +1,4 @@
 -- `base` meets its contract: the two cases of the test.
-use borrow.Author.Rules.{rules}
 use borrow.Author.Tests.{eq-eqb, ne_eqb}
 use Rattle.definitions.specs.Numbers.{divides}
 use Rattle.index.proofs.base.Goals as goal

@@ -1,8 +1,6 @@
 -- `degree_of` meets its contract: where n is no index it is 0, and else by phi(n) (Laws).
 use mathlib.Core.Path.{sym, ◌∙◌}
-use borrow.Author.Tests.{not-true, not-false}
 use Rattle.index.proofs.Laws.{index_good, parts_degree, no_degree, its_degree}
-use borrow.Author.Rules.{rules}
 use Rattle.index.proofs.degree_of.Goals as goal
 
 pub returns-then-not-good_index : goal.returns-then-not-good_index

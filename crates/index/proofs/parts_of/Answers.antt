@@ -1,6 +1,5 @@
 -- `parts_of` meets its contract, by the laws of `Whole`.
 use native.Mathlib.Omega.{arith}
-use borrow.Author.Rules.{rules}
 use Rattle.index.proofs.Whole.{r_small, m-pos, phi_small, all-parts}
 use Rattle.index.proofs.parts_of.Goals as goal
 

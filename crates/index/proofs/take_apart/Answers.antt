@@ -1,8 +1,6 @@
 -- `take_apart` meets its contract: an index is taken apart, and of any other number the parts are those of 0 (Laws).
 use mathlib.Core.Path.{sym, ◌∙◌}
-use borrow.Author.Tests.{not-true, not-false}
 use Rattle.index.proofs.Laws.{index_good, taken_none, taken_good}
-use borrow.Author.Rules.{rules}
 use Rattle.index.proofs.take_apart.Goals as goal
 
 pub returns-then-not-good_index : goal.returns-then-not-good_index

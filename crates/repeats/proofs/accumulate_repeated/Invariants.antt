@@ -1,20 +1,10 @@
 -- `accumulate_repeated` meets its contract. The loop's invariant: the entries below x + rest are the accumulate's.
-use Prim.Native.Nat.{ℕ, ◌+◌, ◌-◌, ◌%◌, ◌<◌, ◌≤◌}
-use mathlib.Core.Path.{◌≡◌, refl, sym, ◌∙◌}
-use mathlib.Core.List.{List}
-use native.Mathlib.Omega.{arith}
-use native.Mathlib.Nat.{mod-lt}
-use borrow.Author.Rules.{rules}
+use Prim.Native.Nat.{ℕ, ◌+◌, ◌-◌, ◌<◌, ◌≤◌}
+use mathlib.Core.Path.{◌≡◌}
 use lib.ListN.{length}
-use lib.IntN.{ℤ}
-use lib.Seq.{length-take-le}
 use Rattle.definitions.specs.Series.{Series}
 use Rattle.definitions.specs.Steps.{accumulated, entries}
-use Rattle.step_laws.specs.Accumulated.{accumulated_below}
 use Rattle.repeats.specs.Repeats.{Again}
-use Rattle.repeats.proofs.Repeats.{again_sum}
-use Rattle.repeats.proofs.Summing.{first-row, row_sum_lem, next_row_lem, old, old_again, written, written-length}
-use Rattle.repeats.proofs.Summing.{fits, all_summed}
 use Rattle.repeats.proofs.accumulate_repeated.Given as goal
 
 abbrev pub invariant-loop-x : goal.invariant-loop-x

@@ -1,15 +1,12 @@
 -- `copy_up` meets its contract. The loop's invariant: the entries below i are f's, whichever f comes again at d and
 -- begins as they did.
-use Prim.Native.Nat.{ℕ, ◌-◌, ◌<◌, ◌≤◌}
-use mathlib.Core.Path.{◌≡◌, sym, ◌∙◌, ap}
+use mathlib.Core.Path.{sym, ◌∙◌, ap}
 use native.Mathlib.Omega.{arith}
 use lib.ListN.{length, length-set}
-use Rattle.definitions.specs.Series.{Series}
 use Rattle.definitions.specs.Steps.{entries}
 use Rattle.step_laws.specs.Machine.{handed}
 use Rattle.step_laws.specs.Firsts.{is_firsts}
 use Rattle.entry_steps.proofs.Split.{get_or-set_by}
-use Rattle.repeats.specs.Repeats.{Again}
 use Rattle.repeats.proofs.copy_up.Goals as goal
 
 pub loop-i-init : goal.loop-i-init

@@ -1,14 +1,10 @@
 -- `copy_up` meets its contract. The loop's invariant: the entries below i are f's, whichever f comes again at d and
 -- begins as they did.
 use Prim.Native.Nat.{ℕ, ◌-◌, ◌<◌, ◌≤◌}
-use mathlib.Core.Path.{◌≡◌, sym, ◌∙◌, ap}
-use native.Mathlib.Omega.{arith}
-use lib.ListN.{length, length-set}
+use mathlib.Core.Path.{◌≡◌}
+use lib.ListN.{length}
 use Rattle.definitions.specs.Series.{Series}
 use Rattle.definitions.specs.Steps.{entries}
-use Rattle.step_laws.specs.Machine.{handed}
-use Rattle.step_laws.specs.Firsts.{is_firsts}
-use Rattle.entry_steps.proofs.Split.{get_or-set_by}
 use Rattle.repeats.specs.Repeats.{Again}
 use Rattle.repeats.proofs.copy_up.Given as goal
 

@@ -1,8 +1,5 @@
 -- `far_back` meets its contract. The loop's invariant: what comes again at d comes again at `far`.
-use Prim.Native.Nat.{◌-◌, ◌≤◌}
 use native.Mathlib.Omega.{arith}
-use Rattle.definitions.specs.Series.{Series}
-use Rattle.repeats.specs.Repeats.{Again}
 use Rattle.repeats.proofs.Repeats.{again_sum}
 use Rattle.repeats.proofs.far_back.Goals as goal
 

@@ -1,9 +1,7 @@
 -- `far_back` meets its contract. The loop's invariant: what comes again at d comes again at `far`.
 use Prim.Native.Nat.{◌-◌, ◌≤◌}
-use native.Mathlib.Omega.{arith}
 use Rattle.definitions.specs.Series.{Series}
 use Rattle.repeats.specs.Repeats.{Again}
-use Rattle.repeats.proofs.Repeats.{again_sum}
 use Rattle.repeats.proofs.far_back.Given as goal
 
 abbrev pub invariant-loop-far : goal.invariant-loop-far

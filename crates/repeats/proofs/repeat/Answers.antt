@@ -4,7 +4,6 @@ use native.Mathlib.Omega.{arith}
 use lib.Seq.{length-take-le}
 use Rattle.repeats.specs.Repeats.{repeated}
 use Rattle.repeats.proofs.Repeats.{told-again}
-use borrow.Author.Rules.{rules}
 use Rattle.repeats.proofs.repeat.Goals as goal
 
 pub slice_bounds-copy_up-end-2 : goal.slice_bounds-copy_up-end-2

@@ -1,6 +1,5 @@
 -- `response::inside` meets its contract: each arm is one of the definition.
 use mathlib.Core.Path.{sym, ◌∙◌}
-use borrow.Author.Rules.{rules}
 use Rattle.response.specs.Response.{is_inside}
 use Rattle.response.proofs.inside.Goals as goal
 

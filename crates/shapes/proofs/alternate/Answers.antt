@@ -1,13 +1,9 @@
 -- `alternate` meets its contract. The loop's invariant: i is odd, the entries below it are the alternated ones, the
 -- rest the old.
-use Prim.Native.Nat.{◌-◌, ◌%◌}
 use mathlib.Core.Path.{◌≡◌}
 use native.Mathlib.Omega.{arith}
-use lib.ListN.{length}
-use Rattle.definitions.specs.Series.{alternate}
 use Rattle.definitions.specs.Steps.{entries}
 use Rattle.series.specs.Maps.{alternate_even}
-use Rattle.entry_steps.specs.Passes.{Split}
 use Rattle.entry_steps.proofs.Split.{all_below, all_firsts}
 use Rattle.shapes.proofs.Shaping.{starts, alternate_read, alternate-turn}
 use Rattle.shapes.proofs.alternate.Goals as goal

@@ -2,14 +2,10 @@
 -- rest the old.
 use Prim.Native.Nat.{◌-◌, ◌%◌}
 use mathlib.Core.Path.{◌≡◌}
-use native.Mathlib.Omega.{arith}
 use lib.ListN.{length}
 use Rattle.definitions.specs.Series.{alternate}
 use Rattle.definitions.specs.Steps.{entries}
-use Rattle.series.specs.Maps.{alternate_even}
 use Rattle.entry_steps.specs.Passes.{Split}
-use Rattle.entry_steps.proofs.Split.{all_below, all_firsts}
-use Rattle.shapes.proofs.Shaping.{starts, alternate_read, alternate-turn}
 use Rattle.shapes.proofs.alternate.Given as goal
 
 abbrev pub invariant-loop-i : goal.invariant-loop-i

@@ -1,14 +1,9 @@
 -- `clear` meets its contract. The loop's invariant: the entries below i are 0.
 use Prim.Native.Nat.{◌-◌, ◌≤◌}
-use native.Mathlib.Nat.{not-suc-le-zero}
-use native.Mathlib.Omega.{arith}
 use lib.ListN.{length}
 use Rattle.definitions.specs.Integers.{0ℤ}
 use Rattle.definitions.specs.Steps.{entries}
 use Rattle.entry_steps.specs.Passes.{Split}
-use Rattle.entry_steps.proofs.Split.{moved_up, all_below}
-use mathlib.Core.Path.{refl}
-use Rattle.shapes.proofs.Shaping.{all-zeros, starts}
 use Rattle.shapes.proofs.clear.Given as goal
 
 abbrev pub invariant-loop-i : goal.invariant-loop-i

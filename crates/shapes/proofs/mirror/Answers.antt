@@ -1,11 +1,8 @@
 -- `mirror` meets its contract: from where the fours got to, one by one. The loop's invariant: of whatever list the
 -- mirror got up to where the loop began, it got up to i.
-use Prim.Native.Nat.{◌-◌}
 use mathlib.Core.Path.{◌≡◌, sym, ◌∙◌}
-use mathlib.Core.List.{List}
 use native.Mathlib.Omega.{arith}
 use lib.ListN.{length}
-use lib.IntN.{ℤ}
 use Rattle.shapes.specs.Shapes.{MirroredTo}
 use Rattle.shapes.proofs.Shaping.{mirror_range, mirror-next, mirror-end}
 use Rattle.shapes.proofs.mirror.Goals as goal

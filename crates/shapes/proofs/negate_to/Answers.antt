@@ -1,5 +1,4 @@
 -- `negate_to` meets its contract, as `put_signed` does.
-use borrow.Author.Rules.{rules}
 use Rattle.shapes.proofs.negate_to.Goals as goal
 
 pub returns : goal.returns

@@ -1,13 +1,8 @@
 -- `negated_copy` meets its contract. The loop's invariant: the entries from r on and below i are the copies, the rest
 -- the old.
-use Prim.Native.Nat.{◌-◌, ◌≤◌}
-use mathlib.Core.Path.{◌≡◌}
 use native.Mathlib.Omega.{arith}
-use lib.ListN.{length}
 use Rattle.definitions.specs.Steps.{entries}
-use Rattle.entry_steps.specs.Passes.{Split}
 use Rattle.entry_steps.proofs.Split.{all_below, all_firsts}
-use Rattle.shapes.specs.Shapes.{negated_copy}
 use Rattle.shapes.proofs.Shaping.{starts, copied_low, copy_read, copy_turn}
 use Rattle.shapes.proofs.negated_copy.Goals as goal
 

@@ -2,13 +2,10 @@
 -- the old.
 use Prim.Native.Nat.{◌-◌, ◌≤◌}
 use mathlib.Core.Path.{◌≡◌}
-use native.Mathlib.Omega.{arith}
 use lib.ListN.{length}
 use Rattle.definitions.specs.Steps.{entries}
 use Rattle.entry_steps.specs.Passes.{Split}
-use Rattle.entry_steps.proofs.Split.{all_below, all_firsts}
 use Rattle.shapes.specs.Shapes.{negated_copy}
-use Rattle.shapes.proofs.Shaping.{starts, copied_low, copy_read, copy_turn}
 use Rattle.shapes.proofs.negated_copy.Given as goal
 
 abbrev pub invariant-loop-i : goal.invariant-loop-i

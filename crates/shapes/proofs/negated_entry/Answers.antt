@@ -3,7 +3,6 @@ use lib.ListN.{get_or}
 use Rattle.definitions.specs.Integers.{0ℤ}
 use Rattle.definitions.specs.Steps.{entries}
 use Rattle.shapes.proofs.Negation.{minus_seen, neg_fits, stored_minus}
-use borrow.Author.Rules.{rules}
 use Rattle.shapes.proofs.negated_entry.Goals as goal
 
 pub overflow_sub-result : goal.overflow_sub-result

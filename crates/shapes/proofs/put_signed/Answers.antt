@@ -2,7 +2,6 @@
 use mathlib.Core.Path.{◌∙◌, ap}
 use lib.ListN.{set}
 use Rattle.step_laws.specs.Machine.{handed}
-use borrow.Author.Rules.{rules}
 use Rattle.shapes.proofs.put_signed.Goals as goal
 
 pub returns : goal.returns

@@ -1,6 +1,5 @@
 -- `signed_entry` meets its contract, by the branch.
 use Rattle.step_laws.specs.Machine.{handed}
-use borrow.Author.Rules.{rules}
 use Rattle.shapes.proofs.signed_entry.Goals as goal
 
 pub returns-then-negate : goal.returns-then-negate

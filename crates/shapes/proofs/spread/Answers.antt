@@ -3,10 +3,8 @@
 use Prim.Native.Nat.{◌+◌, ◌<◌, ◌≤◌}
 use mathlib.Core.Path.{refl, ◌∙◌, ap}
 use native.Mathlib.Omega.{arith}
-use borrow.Author.Rules.{rules}
 use borrow.Rule.Slice.PartMut.{mid_len}
 use lib.ListN.{length, length-set}
-use Rattle.definitions.specs.Series.{Series}
 use Rattle.definitions.specs.Steps.{entries}
 use Rattle.definitions.specs.Requests.{zeros}
 use Rattle.step_laws.specs.Machine.{handed}

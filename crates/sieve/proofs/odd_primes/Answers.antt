@@ -1,11 +1,10 @@
 -- `odd_primes` meets its contract. The invariant: the odd primes of n below p are found, and those above are the primes
 -- of what is left. Where p p is more than that, it is 1 or the last prime (`Last`).
-use Prim.Native.Nat.{ℕ, suc, ◌+◌, ◌%◌, ◌-◌, ◌≤◌, ◌<◌}
+use Prim.Native.Nat.{ℕ, suc, ◌+◌, ◌-◌, ◌≤◌}
 use mathlib.Core.Path.{◌≡◌, refl, ◌∙◌}
 use native.Mathlib.Nat.{le_of_dvd, le_trans, le-mul_of_pos_right, mul-le-mul}
 use native.Mathlib.Omega.{arith}
 use Rattle.numbers.specs.Primes.{prime_two}
-use Rattle.sieve.specs.Sieving.{Sifted}
 use Rattle.sieve.proofs.Sifting.{Last, last_of, sifted-start, passed-even}
 use Rattle.sieve.proofs.odd_primes.Goals as goal
 use Rattle.sieve.proofs.odd_primes.Goals.{After-odd-1, In-loop-p}

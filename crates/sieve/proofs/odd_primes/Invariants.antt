@@ -1,12 +1,8 @@
 -- `odd_primes` meets its contract. The invariant: the odd primes of n below p are found, and those above are the primes
 -- of what is left. Where p p is more than that, it is 1 or the last prime (`Last`).
-use Prim.Native.Nat.{ℕ, suc, ◌+◌, ◌%◌, ◌-◌, ◌≤◌, ◌<◌}
-use mathlib.Core.Path.{◌≡◌, refl, ◌∙◌}
-use native.Mathlib.Nat.{le_of_dvd, le_trans, le-mul_of_pos_right, mul-le-mul}
-use native.Mathlib.Omega.{arith}
-use Rattle.numbers.specs.Primes.{prime_two}
+use Prim.Native.Nat.{◌%◌, ◌-◌, ◌≤◌, ◌<◌}
+use mathlib.Core.Path.{◌≡◌}
 use Rattle.sieve.specs.Sieving.{Sifted}
-use Rattle.sieve.proofs.Sifting.{Last, last_of, sifted-start, passed-even}
 use Rattle.sieve.proofs.odd_primes.Given as goal
 
 abbrev pub invariant-loop-p : goal.invariant-loop-p

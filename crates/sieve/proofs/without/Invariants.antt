@@ -1,8 +1,5 @@
 -- `without` meets its contract. The invariant: some of the factors p are out. The measure is what is left.
-use native.Mathlib.Nat.{div-lt_self, mod-eq-zero_of_dvd}
-use native.Mathlib.Omega.{arith}
 use Rattle.sieve.specs.Sieving.{Taking}
-use Rattle.sieve.proofs.Sifting.{taking_start, taking_step}
 use Rattle.sieve.proofs.without.Given as goal
 
 abbrev pub invariant-loop-rest : goal.invariant-loop-rest

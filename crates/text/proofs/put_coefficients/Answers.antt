@@ -1,17 +1,15 @@
 -- `text::put_coefficients` meets its contract. The loop's invariant: the first i coefficients are written, in
 -- at most 22 bytes each.
-use Prim.Native.Nat.{◌+◌, ◌*◌, ◌-◌, ◌≤◌, ◌<◌}
+use Prim.Native.Nat.{◌<◌}
 use mathlib.Core.Path.{◌≡◌, refl, ◌∙◌}
 use native.Mathlib.Omega.{arith}
 use native.Mathlib.Numerals.{add-one}
-use borrow.Author.Rules.{rules}
 use lib.IntN.{pos}
 use lib.Seq.{take-suc}
 use mir.Facts.{to_z-of_z}
 use Rattle.text.proofs.Putting.{nothing_put, then, spaced-append}
-use lib.ListN.{length, take}
+use lib.ListN.{length}
 use Rattle.text.specs.Text.{spaced}
-use Rattle.text.specs.Puts.{Puts}
 use Rattle.text.proofs.put_coefficients.Goals as goal
 
 pub loop-i-init : goal.loop-i-init

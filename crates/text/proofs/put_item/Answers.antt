@@ -3,7 +3,6 @@ use native.Mathlib.Omega.{arith}
 use lib.IntN.{pos}
 use Rattle.text.specs.Text.{sign}
 use Rattle.text.proofs.Putting.{put_plain, length-spaced, length-sign}
-use borrow.Author.Rules.{rules}
 use Rattle.text.proofs.put_item.Goals as goal
 
 pub returns : goal.returns

@@ -1,7 +1,6 @@
 -- `text::put_number` meets its contract: a number of 64 bits has at most 20 digits.
 use native.Mathlib.Omega.{arith}
 use Rattle.text.proofs.Decimal.{decimal_small, length_machine}
-use borrow.Author.Rules.{rules}
 use Rattle.text.proofs.put_number.Goals as goal
 
 pub returns-then-n-lt10 : goal.returns-then-n-lt10

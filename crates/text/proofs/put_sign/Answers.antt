@@ -4,7 +4,6 @@ use native.Mathlib.Omega.{arith}
 use lib.ListN.{length}
 use mir.Facts.{to_z-of_z}
 use Rattle.text.proofs.Sign.{sign_below, sign_above}
-use borrow.Author.Rules.{rules}
 use Rattle.text.proofs.put_sign.Goals as goal
 
 pub returns-then-c-lt0 : goal.returns-then-c-lt0

@@ -5,7 +5,6 @@ use Rattle.step_laws.specs.Machine.{seen}
 use Rattle.step_laws.specs.Signed.{abs_mag}
 use Rattle.text.proofs.Decimal.{some_digit}
 use Rattle.text.proofs.Putting.{after-sign, put_one, length-spaced, length-sign}
-use borrow.Author.Rules.{rules}
 use Rattle.text.proofs.put_signed.Goals as goal
 
 pub put_number-requires : goal.put_number-requires

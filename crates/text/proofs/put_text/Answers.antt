@@ -1,12 +1,11 @@
 -- `text::put_text` meets its contract. The loop's invariant: the first i bytes are written.
-use Prim.Native.Nat.{◌+◌, ◌-◌, ◌<◌, ◌≤◌}
-use mathlib.Core.Path.{◌≡◌, refl, ◌∙◌}
+use Prim.Native.Nat.{◌<◌}
+use mathlib.Core.Path.{refl, ◌∙◌}
 use native.Mathlib.Nat.{add-zero}
 use native.Mathlib.Numerals.{add-one}
 use native.Mathlib.Omega.{arith}
-use lib.ListN.{length, take, length-set}
+use lib.ListN.{length, length-set}
 use lib.Seq.{take-suc, take_all}
-use Rattle.text.specs.Puts.{Puts}
 use Rattle.text.proofs.Putting.{nothing_put, then}
 use Rattle.text.proofs.put_text.Goals as goal
 

@@ -1,8 +1,7 @@
 -- `class_of`: each test on v is one of the magnitude that v stands for (Classes).
-use Prim.Native.Nat.{◌-◌, ◌<◌, ◌^◌}
+use Prim.Native.Nat.{◌<◌, ◌^◌}
 use mathlib.Core.Path.{sym}
 use native.Mathlib.Omega.{arith}
-use borrow.Author.Rules.{rules}
 use Rattle.widths.specs.Numbers.{top}
 use Rattle.widths.proofs.Widths.{full, top_small}
 use Rattle.widths.proofs.Least.{width_bounds}

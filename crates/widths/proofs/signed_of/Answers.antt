@@ -1,7 +1,6 @@
 -- `signed_of`: above top w, 2^(8w) - (v + 1) is top w - (v - top w - 1) (Widths).
 use Prim.Native.Nat.{◌<◌, ◌^◌}
 use mathlib.Core.Path.{◌∙◌}
-use borrow.Author.Rules.{rules}
 use native.Mathlib.Omega.{arith}
 use Rattle.heights.proofs.Signs.{passed}
 use Rattle.widths.specs.Numbers.{top}

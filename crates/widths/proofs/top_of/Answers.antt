@@ -1,5 +1,4 @@
 -- `top_of`: the shift is 2^(8w - 1) (Widths).
-use borrow.Author.Rules.{rules}
 use native.Mathlib.Omega.{arith}
 use Rattle.widths.proofs.Widths.{shifted}
 use Rattle.widths.proofs.top_of.Goals as goal

@@ -1,7 +1,6 @@
 -- `twos_of`: below 0, 2^(8w) - (n + 1) is (top w - n) + top w + 1, which no sum on the way passes 2^64 (Signs, Widths).
 use Prim.Native.Nat.{◌<◌, ◌^◌}
 use mathlib.Core.Path.{◌∙◌, ap, sym}
-use borrow.Author.Rules.{rules}
 use native.Mathlib.Omega.{arith}
 use lib.IntN.{nat_abs}
 use Rattle.heights.proofs.Signs.{casts, turned, nat_abs_below, plain}

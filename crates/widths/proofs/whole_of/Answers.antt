@@ -1,5 +1,4 @@
 -- `whole_of`: below 0 by turning all bits round (Signs).
-use borrow.Author.Rules.{rules}
 use mir.Syntax.{w64}
 use mir.Facts.{to_z_pos}
 use Rattle.widths.proofs.Signs.{whole}

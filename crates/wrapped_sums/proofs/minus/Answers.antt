@@ -1,5 +1,5 @@
 -- `wrapped_sums::minus` meets its contract: the bits of the difference are those of the machine's.
-use Rattle.std.proofs.Common.{◌∙◌, arith, rules}
+use Rattle.std.proofs.Common.{◌∙◌, arith}
 use Rattle.step_laws.specs.Machine.{handed}
 use Rattle.wrapped_sums.specs.Residues.{wrap_fits}
 use Rattle.wrapped_sums.proofs.Bits.{difference_wraps, as_read}

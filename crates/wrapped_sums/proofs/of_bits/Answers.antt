@@ -1,5 +1,5 @@
 -- `wrapped_sums::of_bits` meets its contract: bits from 2^63 on go by their complement.
-use Rattle.std.proofs.Common.{ap, arith, w64, to_z, rules}
+use Rattle.std.proofs.Common.{ap, arith, w64, to_z}
 use Rattle.wrapped_sums.proofs.Bits.{twice}
 use Rattle.wrapped_sums.proofs.of_bits.Goals as goal
 

@@ -1,5 +1,5 @@
 -- `wrapped_sums::plus` meets its contract: the bits of the sum are those of the machine's.
-use Rattle.std.proofs.Common.{◌∙◌, rules}
+use Rattle.std.proofs.Common.{◌∙◌}
 use Rattle.step_laws.specs.Machine.{handed}
 use Rattle.wrapped_sums.specs.Residues.{wrap_fits}
 use Rattle.wrapped_sums.proofs.Bits.{sum_wraps, as_read}

@@ -1,13 +1,8 @@
 -- `entry_steps::entry::first_row` meets its contract: the loop's invariant is that the sums before q are begun.
-use mathlib.Core.Path.{◌≡◌, refl, sym, ◌∙◌, ap}
+use mathlib.Core.Path.{◌≡◌}
 use Prim.Native.Nat.{ℕ, ◌+◌, ◌-◌, ◌<◌, ◌≤◌}
-use native.Mathlib.Nat.{not-suc-le-zero}
-use native.Mathlib.Omega.{arith}
-use lib.ListN.{length, get_or, length-set}
+use lib.ListN.{length, get_or}
 use Rattle.definitions.specs.Integers.{0ℤ}
-use Rattle.definitions.specs.Steps.{entries}
-use Rattle.step_laws.specs.Machine.{handed}
-use Rattle.entry_steps.proofs.Split.{get_or-set_by}
 use Rattle.entry_steps.proofs.entry.first_row.Given as goal
 
 abbrev pub invariant-loop-q : goal.invariant-loop-q

@@ -9,7 +9,6 @@ use Rattle.definitions.specs.Integers.{0ℤ}
 use Rattle.step_laws.specs.Machine.{seen_both, handed}
 use Rattle.entry_steps.specs.Sorts.{sort_means}
 use Rattle.entry_steps.specs.Passes.{new_value}
-use borrow.Author.Rules.{rules}
 use Rattle.entry_steps.proofs.entry.new_entry.Goals as goal
 
 pub returns : goal.returns

@@ -1,7 +1,6 @@
 -- `entry_steps::entry::new_value` meets its contract: each arm computes the value of its own sort.
 use Rattle.definitions.specs.Integers.{◌⊕◌, ◌⊝◌, ⊖}
 use Rattle.step_laws.specs.Machine.{seen_both, answered}
-use borrow.Author.Rules.{rules}
 use Rattle.entry_steps.proofs.entry.new_value.Goals as goal
 
 pub overflow_sub-result : goal.overflow_sub-result

@@ -2,7 +2,6 @@
 -- arm tests that of its own sort.
 use mathlib.Core.Path.{sym, ◌∙◌, ap}
 use native.Mathlib.Omega.{arith}
-use borrow.Author.Rules.{rules}
 use Rattle.definitions.specs.Integers.{◌⊕◌, ◌⊝◌}
 use Rattle.definitions.specs.Steps.{in_range, largest}
 use Rattle.step_laws.specs.Machine.{seen_both, within}

@@ -1,6 +1,5 @@
 -- `entry_steps::entry::new_value_within` meets its contract: the value is a machine number, so it is what is tested.
 use mathlib.Core.Path.{◌∙◌, ap}
-use borrow.Author.Rules.{rules}
 use Rattle.definitions.specs.Steps.{in_range}
 use Rattle.step_laws.specs.Machine.{seen_both, handed}
 use Rattle.entry_steps.specs.Sorts.{sort_means}

@@ -1,6 +1,5 @@
 -- `entry_steps::entry::put_four` meets its contract: four stores, each of a value that was handed on.
 use mir.Facts.{to_z-of_z}
-use borrow.Author.Rules.{rules}
 use Rattle.entry_steps.proofs.entry.put_four.Goals as goal
 
 pub returns : goal.returns

@@ -5,7 +5,6 @@ use mir.Val.{SFits}
 use mir.Facts.{to_z-of_z}
 use Rattle.definitions.specs.Integers.{0ℤ}
 use Rattle.definitions.specs.Steps.{entries}
-use borrow.Author.Rules.{rules}
 use Rattle.entry_steps.proofs.entry.read_entry.Goals as goal
 
 pub returns : goal.returns

@@ -2,7 +2,6 @@
 use mathlib.Core.Path.{◌∙◌, ap}
 use lib.ListN.{set}
 use Rattle.step_laws.specs.Machine.{handed}
-use borrow.Author.Rules.{rules}
 use Rattle.entry_steps.proofs.entry.step_entry.Goals as goal
 
 pub returns : goal.returns

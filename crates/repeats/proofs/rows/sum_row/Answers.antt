@@ -1,5 +1,5 @@
 -- `sum_row` meets its contract. The loop's invariant: summed up to k.
-use Prim.Native.Nat.{ℕ, ◌-◌, ◌≤◌}
+use Prim.Native.Nat.{ℕ, ◌-◌}
 use mathlib.Core.Path.{◌≡◌, refl, sym, ◌∙◌, ap, ap₂}
 use native.Mathlib.Omega.{arith}
 use lib.ListN.{length, length-set}
@@ -10,7 +10,6 @@ use Rattle.definitions.specs.Integers.{◌⊕◌}
 use Rattle.definitions.specs.Steps.{entries}
 use Rattle.step_laws.specs.Machine.{seen, handed}
 use Rattle.entry_steps.proofs.Split.{get_or-set_by}
-use Rattle.repeats.specs.Repeats.{SummedTo}
 use Rattle.repeats.proofs.rows.sum_row.Goals as goal
 use Rattle.repeats.proofs.rows.sum_row.Goals.{After-read_entry-before, At-loop-k, Start}
 

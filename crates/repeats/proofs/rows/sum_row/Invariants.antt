@@ -1,15 +1,5 @@
 -- `sum_row` meets its contract. The loop's invariant: summed up to k.
-use Prim.Native.Nat.{ℕ, ◌-◌, ◌≤◌}
-use mathlib.Core.Path.{◌≡◌, refl, sym, ◌∙◌, ap, ap₂}
-use native.Mathlib.Omega.{arith}
-use lib.ListN.{length, length-set}
-use lib.IntN.{ℤ}
-use mir.Syntax.{w64}
-use mir.Val.{SFits}
-use Rattle.definitions.specs.Integers.{◌⊕◌}
-use Rattle.definitions.specs.Steps.{entries}
-use Rattle.step_laws.specs.Machine.{seen, handed}
-use Rattle.entry_steps.proofs.Split.{get_or-set_by}
+use Prim.Native.Nat.{◌-◌, ◌≤◌}
 use Rattle.repeats.specs.Repeats.{SummedTo}
 use Rattle.repeats.proofs.rows.sum_row.Given as goal
 

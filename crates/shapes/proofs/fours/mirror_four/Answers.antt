@@ -4,7 +4,6 @@ use mathlib.Core.Path.{refl}
 use native.Mathlib.Omega.{arith}
 use Rattle.step_laws.specs.Machine.{handed}
 use Rattle.shapes.proofs.Shaping.{mirrored_four}
-use borrow.Author.Rules.{rules}
 use Rattle.shapes.proofs.fours.mirror_four.Goals as goal
 
 pub signed_entry-v0-requires : goal.signed_entry-v0-requires

@@ -1,9 +1,5 @@
 -- `mirror_fours` meets its contract, which is the loop's invariant: the mirror got up to i.
-use Prim.Native.Nat.{◌-◌}
-use mathlib.Core.Path.{◌≡◌}
 use native.Mathlib.Omega.{arith}
-use lib.ListN.{length}
-use Rattle.shapes.specs.Shapes.{MirroredTo}
 use Rattle.shapes.proofs.Shaping.{mirror-start, mirror_range, mirror-next_four}
 use Rattle.shapes.proofs.fours.mirror_fours.Goals as goal
 

@@ -1,5 +1,4 @@
 -- `sieve::Sieve::sift` meets its contract: the cases of `Look`.
-use borrow.Author.Rules.{rules}
 use native.Mathlib.Omega.{arith}
 use Rattle.sieve.proofs.Sifting.{Look, look_at}
 use Prim.Native.Nat.{◌-◌}

@@ -1,5 +1,4 @@
 -- `wrapped_steps::down::comb` meets its contract: by fours, and then one by one, it is the whole comb.
-use borrow.Author.Rules.{rules}
 use Rattle.wrapped_combs.proofs.down.comb.Goals as goal
 
 pub returns : goal.returns

@@ -1,7 +1,5 @@
 -- `wrapped_steps::down::fours_down` meets its contract, which is the loop's invariant: the comb got down to t.
-use native.Mathlib.Omega.{arith}
 use Rattle.wrapped_combs.specs.Wrapped.{DownTo}
-use Rattle.wrapped_combs.proofs.Passes.{start_down, four_down}
 use Rattle.wrapped_combs.proofs.down.fours_down.Given as goal
 
 abbrev pub invariant-loop-t : goal.invariant-loop-t

@@ -1,9 +1,7 @@
 -- `wrapped_steps::down::ones_down` meets its contract. The invariant: of whatever list the comb got down to `from`, it
 -- got down to t.
 use mathlib.Core.Path.{sym, ◌∙◌}
-use mathlib.Core.List.{List}
 use native.Mathlib.Omega.{arith}
-use lib.IntN.{ℤ}
 use Rattle.wrapped_combs.specs.Wrapped.{DownTo}
 use Rattle.wrapped_combs.proofs.Passes.{next_down, ended_down}
 use Rattle.wrapped_combs.proofs.down.ones_down.Goals as goal

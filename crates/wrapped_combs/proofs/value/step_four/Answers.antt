@@ -4,7 +4,6 @@ use Rattle.entry_steps.specs.Sorts.{sort_means}
 use Rattle.entry_steps.proofs.FourEntries.{four_is}
 use Rattle.wrapped_combs.specs.Wrapped.{wrap_entry}
 use Rattle.wrapped_sums.specs.Residues.{wrap_fits}
-use borrow.Author.Rules.{rules}
 use Rattle.wrapped_combs.proofs.value.step_four.Goals as goal
 
 pub returns : goal.returns

@@ -3,7 +3,6 @@ use mathlib.Core.Path.{◌∙◌, ap}
 use lib.ListN.{set}
 use Rattle.step_laws.specs.Machine.{handed}
 use Rattle.wrapped_sums.specs.Residues.{wrap_fits}
-use borrow.Author.Rules.{rules}
 use Rattle.wrapped_combs.proofs.value.step_one.Goals as goal
 
 pub returns : goal.returns

@@ -10,7 +10,6 @@ use Rattle.entry_steps.specs.Sorts.{sort_means}
 use Rattle.entry_steps.specs.Passes.{new_value}
 use Rattle.wrapped_sums.specs.Wrapped.{wrap}
 use Rattle.wrapped_sums.specs.Residues.{wrap_fits}
-use borrow.Author.Rules.{rules}
 use Rattle.wrapped_combs.proofs.value.wrapped_entry.Goals as goal
 
 pub returns : goal.returns

@@ -4,7 +4,6 @@ use Rattle.definitions.specs.Integers.{◌⊕◌, ◌⊝◌}
 use Rattle.step_laws.specs.Machine.{seen_both, handed}
 use Rattle.wrapped_sums.specs.Wrapped.{wrap}
 use Rattle.wrapped_sums.specs.Residues.{wrap_fits}
-use borrow.Author.Rules.{rules}
 use Rattle.wrapped_combs.proofs.value.wrapped_value.Goals as goal
 
 pub returns-in-Comb : goal.returns-in-Comb
