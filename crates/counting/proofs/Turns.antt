@@ -14,7 +14,7 @@ use lib.ListN.{length, take, drop, length-append}
 use lib.Seq.{sets, sets-eq, length-sets, take_at, drop-append-add, drop-drop}
 use lib.IntN.{ℤ}
 use Rattle.definitions.specs.Steps.{largest}
-use Rattle.never_over.specs.Heights.{height_fits}
+use Rattle.never_over.proofs.Heights.{height_fits}
 use Rattle.counting.specs.declared.passes.Row.{Row}
 use Rattle.counting.specs.Census.{indices, tallest, with_height, row_of, rows_below, rows_of}
 use Rattle.counting.specs.Passes.{Heights, row_list, next_row}

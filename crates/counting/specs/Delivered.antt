@@ -12,7 +12,7 @@ use Rattle.numbers.specs.Phi.{phi-le}
 use Rattle.answers.specs.Polynomial as Polynomial
 use Rattle.index.proofs.Laws.{good_index_lem}
 use Rattle.counting.specs.Census.{census, good_range, census_code}
-use Rattle.never_over.specs.Delivered.{answer_delivered}
+use Rattle.never_over.proofs.Delivered.{answer_delivered}
 
 pub each-delivered :
     (n : ℕ) → 1 ≤ n → n ≤ 4095 → let told = Polynomial.answer 1 n (pos largest) (pos largest) 4096 in

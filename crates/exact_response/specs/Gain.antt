@@ -21,7 +21,7 @@ use Rattle.index.proofs.Laws.{index_good, r_small, degree-le}
 use Rattle.light_sums.specs.Weight.{weight, weight-most}
 use Rattle.cyclotomic.specs.Heights.{at_most-height}
 use Rattle.never_over.specs.Promised.{promised_of, promised_at}
-use Rattle.never_over.specs.Heights.{height-promised}
+use Rattle.never_over.proofs.Heights.{height-promised}
 use Rattle.whole_floats.specs.Holds.{most}
 use Rattle.response.specs.Response.{0ᶠ, answer}
 use Rattle.exact_response.specs.Points.{one, point_at, whole_at, times_and, whole_value}

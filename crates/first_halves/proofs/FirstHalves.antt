@@ -32,7 +32,7 @@ use Rattle.cyclotomic.specs.Apart.{taken_apart_lem}
 use Rattle.cyclotomic.specs.Degrees.{degree-apart}
 use Rattle.cyclotomic.specs.Kept.{kept-all}
 use Rattle.cyclotomic.specs.Heights.{told-half}
-use Rattle.never_over.specs.Heights.{never, coefficient_fits}
+use Rattle.never_over.proofs.Heights.{never, coefficient_fits}
 use Rattle.index.specs.declared.Parts.{Parts}
 use Rattle.index.specs.Parts.{parts_of}
 use Rattle.index.proofs.Laws.{index_good, parts_t, r_small}

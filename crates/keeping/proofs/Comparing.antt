@@ -30,7 +30,7 @@ use Rattle.record.proofs.Headers.{Right, right}
 use Rattle.record.proofs.HeaderTrips.{index_small}
 use Rattle.answers.specs.declared.Answer.{Answer}
 use Rattle.answers.specs.Polynomial.{answered, answer, leaves}
-use Rattle.never_over.specs.Delivered.{answer_delivered, leaves_delivered}
+use Rattle.never_over.proofs.Delivered.{answer_delivered, leaves_delivered}
 use Rattle.forms.specs.declared.Form.TheVariants.{Whole}
 use Rattle.forms.specs.Format.{mark, stored_in, coefficients_in, size_in}
 use Rattle.forms.proofs.Done.{Read_right, looked}

@@ -1,5 +1,5 @@
--- That OVER is never met at the largest working limit, nor under any from `Promised` on: how far the steps of an index
--- can carry a value, in closed form up to four odd primes and computed by the checker for five.
+-- How far the steps of an index can carry a value: in closed form up to four odd primes, and as the checker computes it
+-- for five. That OVER is never met at the largest working limit, nor under any from `Promised` on, is in proofs/.
 pub mod Promised
 pub mod Scales
 pub mod Stops
@@ -9,9 +9,3 @@ pub mod FourPrimes
 pub mod Weights
 pub mod Pairs
 pub mod Listed
-pub mod FivePrimes
-pub mod NotOver
-pub mod Heights
-pub mod Delivered
-pub mod Second
-pub mod Never

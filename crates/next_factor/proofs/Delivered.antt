@@ -36,8 +36,8 @@ use Rattle.answers.specs.declared.Answer.{Answer}
 use Rattle.answers.specs.Polynomial.{answered, answer, left, leaves}
 use Rattle.index.proofs.Laws.{index_good}
 use Rattle.never_over.specs.Promised.{promised_at}
-use Rattle.never_over.specs.Heights as Heights
-use Rattle.never_over.specs.Delivered as Deliveries
+use Rattle.never_over.proofs.Heights as Heights
+use Rattle.never_over.proofs.Delivered as Deliveries
 use Rattle.next_factor.specs.Taking.{First}
 use Rattle.next_factor.specs.Times.{factor}
 

@@ -13,8 +13,8 @@ use Rattle.definitions.specs.Polynomials.{degree}
 use Rattle.definitions.specs.Steps.{largest, below_one}
 use Rattle.definitions.specs.Requests.{good_index}
 use Rattle.step_laws.specs.WorkingLimit.{no_limit}
-use Rattle.never_over.specs.Heights.{never}
-use Rattle.never_over.specs.Second.{second_never}
+use Rattle.never_over.proofs.Heights.{never}
+use Rattle.never_over.proofs.Second.{second_never}
 use Rattle.index.proofs.Laws.{index_good}
 use Rattle.answers.proofs.Told.{uncounted}
 use Rattle.answers.specs.Polynomial as Plain

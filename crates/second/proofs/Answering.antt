@@ -15,7 +15,7 @@ use Rattle.definitions.specs.Steps.{below_one}
 use Rattle.definitions.specs.Requests.{known_kind, good_index, written, zeros}
 use Rattle.definitions.specs.Answer.{coefficients, height, peak, gain}
 use Rattle.step_laws.specs.Firsts.{length-firsts}
-use Rattle.never_over.specs.Second.{second_never}
+use Rattle.never_over.proofs.Second.{second_never}
 use Rattle.index.proofs.Laws.{index_good}
 use Rattle.answers.specs.Second.{code, answered, answer, left, leaves, scratched, scratches}
 use Rattle.answers.specs.declared.Answer.{Answer}

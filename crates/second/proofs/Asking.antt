@@ -25,7 +25,7 @@ use Rattle.step_laws.specs.Bound.{Bounded}
 use Rattle.step_laws.specs.Tests.{by_order}
 use Rattle.cyclotomic.specs.Degrees.{half_below}
 use Rattle.cyclotomic.specs.Heights.{told-one}
-use Rattle.never_over.specs.Heights.{coefficient_fits}
+use Rattle.never_over.proofs.Heights.{coefficient_fits}
 use Rattle.index.proofs.Laws.{index_good, r_small, parts_k}
 use Rattle.index.proofs.Rows.{entry_new, entry_odd, row-r}
 use Rattle.index.specs.Parts.{padded, parts_of}

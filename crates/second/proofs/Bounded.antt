@@ -17,7 +17,7 @@ use Rattle.step_laws.specs.Tests.{by_order}
 use Rattle.cyclotomic.specs.Heights.{at_most-height}
 use Rattle.flat_for_two_primes.specs.Flat.{flat_of_two}
 use Rattle.never_over.specs.Promised.{promised_of, promised_at}
-use Rattle.never_over.specs.Heights.{height-promised, twice_fits}
+use Rattle.never_over.proofs.Heights.{height-promised, twice_fits}
 use Rattle.index.proofs.Rows.{list_r}
 use Rattle.second.specs.Bounds.{bound_for}
 

@@ -19,7 +19,7 @@ use Rattle.step_laws.specs.Firsts.{length-firsts, firsts_here}
 use Rattle.cyclotomic.specs.Degrees.{monic}
 use Rattle.definitions.specs.Halves.{negates, mirrored_up}
 use Rattle.cyclotomic.specs.Mirrors.{mirrored_any}
-use Rattle.never_over.specs.Heights.{coefficient_fits}
+use Rattle.never_over.proofs.Heights.{coefficient_fits}
 use Rattle.shapes.proofs.Shaping.{mirrored_low, mirrored_high}
 use Rattle.shapes.proofs.Stretches.{put_before, put_in}
 use Rattle.second_engine.specs.Halves.{Half, HalfFrom, Filled}

@@ -19,7 +19,7 @@ use Rattle.numbers.specs.Primes.{prime_pos}
 use Rattle.step_laws.specs.Tests.{by_order}
 use Rattle.step_laws.specs.Firsts.{firsts_here}
 use Rattle.cyclotomic.specs.Second.{divided_first, product_inverse}
-use Rattle.never_over.specs.Heights.{coefficient_fits}
+use Rattle.never_over.proofs.Heights.{coefficient_fits}
 use Rattle.wrapped_sums.specs.Wrapped.{wrap}
 use Rattle.wrapped_sums.specs.Alike.{like_exact}
 use Rattle.spread_products.specs.Rows.{Made}

@@ -11,7 +11,7 @@ use mir.Val.{to_z}
 use mir.Facts.{to_z_pos}
 use Rattle.definitions.specs.Steps.{largest}
 use Rattle.definitions.specs.Answer.{height, additions_for}
-use Rattle.never_over.specs.Heights.{height_fits}
+use Rattle.never_over.proofs.Heights.{height_fits}
 use Rattle.counting.specs.Census.{from_to, all_additions}
 use Rattle.counting.specs.Passes.{heights_of}
 use Rattle.counting.proofs.Indices.{from_none, from_more, heights_none, filled_more}

@@ -10,7 +10,7 @@ use Rattle.definitions.specs.Requests.{known_kind, good_index, written}
 use Rattle.definitions.specs.Answer.{coefficients, height}
 use Rattle.answers.specs.Polynomial.{code, answered, answer, left, leaves}
 use Rattle.index.proofs.Laws.{index_good}
-use Rattle.never_over.specs.Heights.{never, height_fits}
+use Rattle.never_over.proofs.Heights.{never, height_fits}
 
 module _ (kind n : ℕ) (known : known_kind kind ≡ true) (good : good_index n ≡ true) where
   module _ (room : ℕ) (fits : degree kind n < room) where

@@ -21,8 +21,8 @@ use Rattle.answers.specs.Partial as Partial
 use Rattle.answers.specs.Second as Second
 use Rattle.index.proofs.Laws.{index_good}
 use Rattle.never_over.specs.Promised.{promised}
-use Rattle.never_over.specs.NotOver.{not-over, promised_fits}
-use Rattle.never_over.specs.Second.{second_never}
+use Rattle.never_over.proofs.NotOver.{not-over, promised_fits}
+use Rattle.never_over.proofs.Second.{second_never}
 
 -- another code, whose test comes before
 before : (b : Bool) (c : ℕ) {x : ℕ} → c ≢ OVER → (b ≡ false → x ≢ OVER) → cond b c x ≢ OVER

@@ -11,7 +11,7 @@ use Rattle.definitions.specs.Answer.{height}
 use Rattle.cyclotomic.specs.Heights.{at_most-height}
 use Rattle.cyclotomic.specs.Inside.{height_inside}
 use Rattle.never_over.specs.Promised.{promised_of, promised_at, promised}
-use Rattle.never_over.specs.NotOver.{not-over, not-over-at, promised_fits}
+use Rattle.never_over.proofs.NotOver.{not-over, not-over-at, promised_fits}
 
 -- a promise, doubled
 both_doubled : (k : ℕ) → (2 * suc (promised true k) ≤ largest) × (2 * suc (promised false k) ≤ largest)

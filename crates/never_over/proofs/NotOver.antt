@@ -17,7 +17,7 @@ use Rattle.step_laws.specs.Tests.{by_order}
 use Rattle.never_over.specs.Promised.{promised_of, promised_at, promised}
 use Rattle.never_over.specs.Stops.{Held, never_over}
 use Rattle.never_over.specs.FourPrimes.{reach, held_to_reach}
-use Rattle.never_over.specs.FivePrimes.{held_five}
+use Rattle.never_over.proofs.FivePrimes.{held_five}
 
 -- ---- up to four primes
 -- the least prime of r: its k-th power is no larger than r

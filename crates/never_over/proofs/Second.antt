@@ -19,7 +19,7 @@ use Rattle.step_laws.specs.Signed.{abs_⊝, in_range_lem}
 use Rattle.step_laws.specs.Outside.{inside_all}
 use Rattle.cyclotomic.specs.Second.{times-z^_1, made_is, product_is}
 use Rattle.index.proofs.Rows.{list_new, list_r}
-use Rattle.never_over.specs.Heights.{coefficient_fits, twice_fits}
+use Rattle.never_over.proofs.Heights.{coefficient_fits, twice_fits}
 
 -- a series whose coefficients are all in range
 none-outside : (r : ℕ) (f : Series) → ((i : ℕ) → nat_abs (f i) ≤ largest) → outside r f ≡ false
