@@ -1,18 +1,11 @@
--- A notch is a point where a polynomial is 0. Where its whole-number value at 1, i, -1 or -i is 0, so is the response
--- there (`notch_exact`). Those of F(n) among them are 1 for n = 1, -1 for n = 2, and i and -i for n = 4 (`notches`).
-use Rattle.std.specs.Prelude.{◌≡◌, refl, Bool, List, [], ◌∷◌, ℕ, zero, suc, ◌≤◌, T, ℤ, pos, negsuc}
-use Rattle.std.proofs.Common.{ap, arith}
+-- What is proved at a notch, a point where a polynomial is 0 (`Notches` of proofs/): that the response is 0 there.
+use Rattle.std.specs.Prelude.{◌≡◌, Bool, List, ℕ, T, ℤ}
 use Rattle.std.specs.Float.Ieee.{eq}
-use Rattle.definitions.specs.Integers.{◌⊕◌, ◌⊗◌, ⊖, 0ℤ}
+use Rattle.definitions.specs.Integers.{0ℤ}
 use Rattle.definitions.specs.Codes.{DONE}
-use Rattle.definitions.specs.Answer.{coefficients}
-use Rattle.cyclotomic.specs.Worked.{Worked, worked, made, worked-right}
-use Rattle.light_sums.specs.Weight.{weight}
-use Rattle.whole_floats.specs.Holds.{most}
 use Rattle.response.specs.Response.{0ᶠ, answer}
 use Rattle.exact_response.specs.Points.{Quarter, one, i, minusOne, minusI, point_at}
-use Rattle.exact_response.specs.Points.{Gauss, whole_at, times_and, whole_value}
-use Rattle.exact_response.specs.Exact.{zero_is, response_exact}
+use Rattle.exact_response.specs.Points.{Gauss}
 
 abbrev pub nought : Gauss
 nought = record { re = 0ℤ; im = 0ℤ }
@@ -22,39 +15,9 @@ pub record NotchAt (cs : List ℤ) (q : Quarter) (s : Bool) : Type 0 where
   pub real : T (eq (answer cs (point_at q s)).real 0ᶠ)
   pub imag : T (eq (answer cs (point_at q s)).imag 0ᶠ)
 
-pub notch_exact : (cs : List ℤ) (q : Quarter) (s : Bool) → weight cs ≤ most → whole_value cs (whole_at q) ≡ nought
-    → NotchAt cs q s
-notch_exact cs q s l e =
-    let exact = response_exact cs q s l in
-    record { done = exact.done; real = rw (e, zero_is) at exact.real; imag = rw (e, zero_is) at exact.imag }
-
 -- the index whose F has the notch: the order of the root
 abbrev pub order : Quarter → ℕ
 order one = 1
 order i = 4
 order minusOne = 2
 order minusI = 4
-
-printed : ℕ → List Worked → List ℤ
-printed k [] = []
-printed zero (w ∷ ws) = w.printed
-printed (suc k) (w ∷ ws) = printed k ws
-
-F_1 : coefficients 1 1 ≡ negsuc 0 ∷ pos 1 ∷ []
-unfolding worked made printed
-F_1 = ap (printed 0) worked-right
-
-F_2 : coefficients 1 2 ≡ pos 1 ∷ pos 1 ∷ []
-unfolding worked made printed
-F_2 = ap (printed 1) worked-right
-
-F_4 : coefficients 1 4 ≡ pos 1 ∷ pos 0 ∷ pos 1 ∷ []
-unfolding worked made printed
-F_4 = ap (printed 3) worked-right
-
-pub notches : (q : Quarter) (s : Bool) → NotchAt (coefficients 1 (order q)) q s
-unfolding weight whole_value whole_at times_and ◌⊕◌ ◌⊗◌ ⊖
-notches one s = rw F_1 (notch_exact (negsuc 0 ∷ pos 1 ∷ []) one s (omega arith) refl)
-notches i s = rw F_4 (notch_exact (pos 1 ∷ pos 0 ∷ pos 1 ∷ []) i s (omega arith) refl)
-notches minusOne s = rw F_2 (notch_exact (pos 1 ∷ pos 1 ∷ []) minusOne s (omega arith) refl)
-notches minusI s = rw F_4 (notch_exact (pos 1 ∷ pos 0 ∷ pos 1 ∷ []) minusI s (omega arith) refl)
