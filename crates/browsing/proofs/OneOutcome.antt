@@ -67,7 +67,7 @@ pub stretch-of-one :
     → stretch-of-reads.Post κs a z e → stretch-of-reads.Post κs a z' e' → (z.now ≡ z'.now) × (z.ref_ptr ≡ z'.ref_ptr)
 stretch-of-one κs a z z' e e' p p' = (p.0 ∙ sym p'.0, p.1 ∙ sym p'.1)
 
--- The functions over a reader are proved by hand, and the checker reads no clauses off them: here they are said again.
+-- The clauses of the functions over a reader are said here again, over plain values.
 pub open_one : (shelf : Bor (List ℕ)) (z z' : Reader) → z ≡ opened shelf → z' ≡ opened shelf → z ≡ z'
 open_one shelf z z' p p' = p ∙ sym p'
 
