@@ -1,6 +1,5 @@
 -- `bv_cascade` meets its contract, the request's; the limit that was passed is read back as it is.
 use mir.Facts.{to_z-of_z}
-use borrow.Author.Rules.{rules}
 use Rattle.bonvedrick.proofs.bv_cascade.Goals as goal
 
 pub returns : goal.returns

@@ -2,7 +2,6 @@
 -- which stand for it since it fits.
 use mir.Facts.{to_z-of_z}
 use Rattle.definitions.specs.Steps.{comb}
-use borrow.Author.Rules.{rules}
 use Rattle.bonvedrick.proofs.Limits.{asked_as_seen}
 use Rattle.bonvedrick.proofs.bv_comb.Goals as goal
 

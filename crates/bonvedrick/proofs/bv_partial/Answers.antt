@@ -5,7 +5,6 @@ use lib.IntN.{ℤ}
 use lib.ListN.{length}
 use mir.Facts.{to_z-of_z}
 use Rattle.answers.specs.Partial.{answer, leaves}
-use borrow.Author.Rules.{rules}
 use Rattle.bonvedrick.proofs.bv_partial.Goals as goal
 
 pub returns : goal.returns
