@@ -19,7 +19,7 @@ WIDE, HIGH, ROW, GAP, LEFT, TOP = 1720, 30, 74, 16, 60, 64
 def crates():
     """Each crate with what it stands on; the kit's own libraries are left out."""
     lines = (DOCS.parent / "crates.txt").read_text().splitlines()
-    named = dict(line.split(":") for line in lines if line.strip() and not line.startswith("#"))
+    named = dict(line.replace(" staticlib:", ":").split(":") for line in lines if line.strip() and not line.startswith("#"))
     return {c: [d for d in deps.split() if d in named] for c, deps in named.items()}
 
 
