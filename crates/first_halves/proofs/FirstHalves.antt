@@ -12,7 +12,7 @@ use native.Mathlib.Numerals.{add-one}
 use lib.ListN.{length, take, get_or-append}
 use lib.Seq.{get_or-take, length-take-le}
 use lib.Dec.{eqb}
-use lib.IntN.{ℤ}
+use lib.IntN.{ℤ, nat_abs}
 use Rattle.definitions.specs.Integers.{0ℤ}
 use Rattle.definitions.specs.Series.{Series, firsts, alternate, spread}
 use Rattle.definitions.specs.Steps.{entries, largest}
@@ -86,6 +86,9 @@ module _ (n : ℕ) (a : Parts) (parts : a ≡ parts_of n) (good : good_index n �
 
     pub steps_bounded : Bounded h.bound (entries m)
     steps_bounded = made.ran.bounded inside
+
+    pub steps-within : (i : ℕ) → nat_abs (entries m i) ≤ largest
+    steps-within i = made.ran.inside inside i
 
     pub added : h.additions ≡ additions_for 1 n
     unfolding additions_for divisors_due
