@@ -5,7 +5,7 @@
 
 `crate/File: name` is in that file of specs/ or proofs/, and in docs/RULES.md so is a name without a file, in the file
 named last before it in its cell; `crate::name` is in that crate's code; a path is one of the repository or of crates/;
-anything else is a word of some source file. docs/PORT.md, which has old names, is left out.
+anything else is a word of some source file. docs/PORT.md and docs/DESIGN-PASS.md, which have old names, are left out.
 """
 import re
 import subprocess
@@ -75,7 +75,7 @@ def cells():
 
 def main():
     looked, missing = 0, []
-    for page in [f for f in TRACKED if f.endswith(".md") and f != "docs/PORT.md"]:
+    for page in [f for f in TRACKED if f.endswith(".md") and f not in ("docs/PORT.md", "docs/DESIGN-PASS.md")]:
         text = re.sub(r"```.*?```", "", (ROOT / page).read_text(), flags=re.S)
         for name in re.findall(r"`([^`\n]+)`", text):
             looked += 1

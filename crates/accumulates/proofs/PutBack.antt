@@ -1,13 +1,13 @@
 -- Putting back: in a range of places that were taken the old entries come out, and below it nothing has changed yet.
 -- Then which places of a row were taken, and what stands when all of them are put back.
-use mathlib.Core.Path.{◌≡◌, refl, sym, ◌∙◌, ap, ap₂, subst}
+use mathlib.Core.Path.{◌≡◌, refl, ◌∙◌, ap, ap₂, subst}
 use mathlib.Core.Bool.{true, false, cond}
 use mathlib.Core.List.{List}
 use Prim.Native.Nat.{ℕ, ◌+◌, ◌-◌, ◌%◌, ◌<◌, ◌≤◌}
 use native.Mathlib.Nat.{mod-lt, not-suc-le-zero}
 use native.Mathlib.Omega.{arith}
 use borrow.Author.Tests.{le-leb, lt-leb}
-use lib.ListN.{length, get_or, set, length-set}
+use lib.ListN.{length, get_or}
 use lib.IntN.{ℤ}
 use Rattle.definitions.specs.Integers.{◌⊕◌, ◌⊝◌, 0ℤ}
 use Rattle.definitions.specs.Series.{Series}
@@ -17,44 +17,8 @@ use Rattle.step_laws.specs.Firsts.{is_firsts, firsts-entries}
 use Rattle.step_laws.specs.Signed.{add-sub}
 use Rattle.step_laws.specs.Tests.{by_order}
 use Rattle.entry_steps.specs.Passes.{new_entry, Split}
-use Rattle.entry_steps.proofs.Split.{get_or-set_by}
 use Rattle.accumulates.specs.Stopped.{is_taken, Stopped, taken_in_row, PutBack}
 use Rattle.accumulates.proofs.TestedPass.{by_taken}
-
--- ---- a range, from the top down
-
-pub back_start : (d to : ℕ) (m : List ℤ) → PutBack d to to m m
-back_start d to m =
-    record { len = refl; back = λ x low high. absurd (none low high); others = λ x out. refl }
-  where
-    none : {x : ℕ} → to ≤ x → x < to → ⊥
-    none low high = omega arith
-
-module _ {d x to : ℕ} {l m : List ℤ} (p : PutBack d (x + 1) to l m) (one : 1 ≤ d) (from : d ≤ x) where
-  -- neither the entry nor what is taken away has changed yet
-  pub back_is : new_entry comb d m x ≡ new_entry comb d l x
-  back_is =
-      ap₂ ◌⊝◌ (p.others x (λ low high. early low)) (p.others (x - d) (λ low high. far low))
-    where
-      early : x + 1 ≤ x → ⊥
-      early h = omega arith
-
-      far : x + 1 ≤ x - d → ⊥
-      far h = omega arith
-
-  pub back_next : x < to → to ≤ length l → PutBack d x to l (set m x (new_entry comb d m x))
-  back_next below in' =
-      record {
-        len = length-set m x _ ∙ p.len;
-        back = λ k low high.
-            get_or-set_by m x _ (omega (arith, p.len)) k (new_entry comb d l k)
-            (λ e. back_is ∙ ap (new_entry comb d l) (sym e))
-            (λ ne. p.back k (omega arith) high);
-        others = λ k out.
-            get_or-set_by m x _ (omega (arith, p.len)) k (get_or l k 0ℤ)
-            (λ e. absurd (out (omega arith) (omega arith)))
-            (λ ne. p.others k (λ low high. out (omega arith) high));
-      }
 
 -- ---- in a list on which a pass was stopped
 

@@ -1,7 +1,7 @@
 -- Chains of at most two entries, taken as one row: what is added to an entry is one of the first ones, which stay.
 use mathlib.Core.Path.{◌≡◌, refl, sym, ◌∙◌, ap, ap₂}
 use mathlib.Core.List.{List}
-use Prim.Native.Nat.{ℕ, zero, suc, ◌-◌, ◌%◌, ◌<◌, ◌≤◌}
+use Prim.Native.Nat.{ℕ, ◌-◌, ◌%◌, ◌<◌, ◌≤◌}
 use native.Mathlib.Nat.{mod-lt, not-suc-le-zero}
 use native.Mathlib.Omega.{arith}
 use lib.ListN.{length}
@@ -11,7 +11,7 @@ use Rattle.definitions.specs.Steps.{accumulate, accumulated, entries, in_range, 
 use Rattle.step_laws.specs.Accumulated.{accumulated_from, accumulated_below}
 use Rattle.step_laws.specs.Step.{not-over_each}
 use Rattle.entry_steps.specs.Passes.{new_entry, Split}
-use Rattle.entry_steps.specs.Asked.{AskedAt, AskedOfStep}
+use Rattle.entry_steps.specs.Asked.{Way, known, narrow, wide, AskedAt, AskedOfStep}
 use Rattle.chains.specs.Tested.{Found, Tested}
 use Rattle.accumulates.proofs.TestedPass.{still_narrow}
 
@@ -50,11 +50,11 @@ module _ (d : ℕ) where
         wide k h = omega (arith, mod-lt k one)
 
     -- what is asked of the step is asked of the next place
-    pub asked_second : (w : ℕ) → ((k : ℕ) → k < x → Found w d l k) → d ≤ x → x < length l → (t : ℕ)
+    pub asked_second : (w : ℕ) → ((k : ℕ) → k < x → Found w d l k) → d ≤ x → x < length l → (t : Way)
         → AskedOfStep t w accumulate d l → AskedAt t w accumulate d m x
     unfolding entries stepped
-    asked_second w found from b zero none =
+    asked_second w found from b known none =
         ap (in_range w) (second_is from b) ∙ not-over_each accumulate d l w none x from b
-    asked_second w found from b (suc zero) n =
+    asked_second w found from b narrow n =
         let s = (still_narrow (second_tested found) n).small in (s x, s (x - d))
-    asked_second w found from b (suc (suc _)) _ = tt
+    asked_second w found from b wide _ = tt

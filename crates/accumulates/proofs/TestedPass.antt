@@ -3,7 +3,7 @@
 use mathlib.Core.Path.{◌≡◌, sym, ◌∙◌, ap, ap₂}
 use mathlib.Core.Bool.{Bool, true, false, true≢false, cond}
 use mathlib.Core.List.{List}
-use Prim.Native.Nat.{ℕ, zero, suc, ◌-◌, ◌%◌, ◌<◌, ◌≤◌, min}
+use Prim.Native.Nat.{ℕ, ◌-◌, ◌%◌, ◌<◌, ◌≤◌, min}
 use native.Mathlib.Nat.{mod-eq-sub-mod, not-suc-le-zero, lt_of_lt_of_le}
 use native.Mathlib.Omega.{arith}
 use borrow.Author.Tests.{lt-ltb, le-ltb}
@@ -18,7 +18,7 @@ use Rattle.step_laws.specs.Signed.{range_in}
 use Rattle.step_laws.specs.Tests.{by_order}
 use Rattle.step_laws.specs.Step.{not-over_each}
 use Rattle.entry_steps.specs.Passes.{addable, Narrow, SteppedOrUndone}
-use Rattle.entry_steps.specs.Asked.{AskedOfStep}
+use Rattle.entry_steps.specs.Asked.{Way, known, narrow, wide, AskedOfStep}
 use Rattle.entry_steps.proofs.Tested.{whole}
 use Rattle.chains.specs.Tested.{AskedOfGroup, Tested}
 use Rattle.accumulates.specs.Stopped.{is_taken, Stopped}
@@ -66,13 +66,13 @@ still_narrow {w} {d} {c} {end} {l} {m} p n = record { limit = n.limit; small = s
 -- the chains below c are taken, and then a group of the others
 module _ {w d c : ℕ} (one : 1 ≤ d) {l m : List ℤ} (p : Tested w d 0 c (length l) l m) where
   -- what is asked of the step is asked of the group
-  pub asked_still : (to t : ℕ) → AskedOfStep t w accumulate d l → AskedOfGroup t w d c to m
+  pub asked_still : (to : ℕ) (t : Way) → AskedOfStep t w accumulate d l → AskedOfGroup t w d c to m
   unfolding stepped
-  asked_still to zero none = λ x low high below b from.
+  asked_still to known none = λ x low high below b from.
       let in' : x < length l = omega (arith, p.taken.len) in
       ap (in_range w) (same_new one p.taken x low in') ∙ not-over_each accumulate d l w none x from in'
-  asked_still to (suc zero) n = still_narrow p n
-  asked_still to (suc (suc _)) _ = tt
+  asked_still to narrow n = still_narrow p n
+  asked_still to wide _ = tt
 
   module _ {to : ℕ} {m' : List ℤ} (up : c ≤ to) where
     -- to its end

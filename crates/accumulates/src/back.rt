@@ -8,7 +8,6 @@ ghost use Rattle.entry_steps.specs.Passes.{new_entry};
 ghost use Rattle.accumulates.specs.Stopped.{taken_in_row, PutBack, Stopped, Undoable};
 
 use entry_steps::{Sort, step_entry};
-use heights::smaller;
 
 // The places from `from` on and below `to`.
 fn put_back(a: &mut [i64], d: usize, from: usize, to: usize)
@@ -16,14 +15,13 @@ fn put_back(a: &mut [i64], d: usize, from: usize, to: usize)
     requires by_index { (x : ℕ) → from ≤ x → x < to → SFits w64 (new_entry comb d a.old x) }
     ensures { PutBack d from to a.old a.new }
 {
-    let mut x = to;
-    while from < x {
-        x -= 1;
+    for x in (from..to).rev() {
         step_entry(Sort::Comb, a, x, d);
     }
 }
 
 // How many neighbours are taken from k on, the first place of a row.
+#[tactic(auto, unfolding(crate::specs::Stopped::taken_in_row))]
 fn taken_in_row(k: usize, full: usize, to: usize, stop: usize) -> usize
     requires { (full ≤ to) × Fits w64 (k + to) }
     ensures { result ≡ taken_in_row full to stop k }
@@ -43,8 +41,9 @@ fn undo_rows(a: &mut [i64], d: usize, full: usize, to: usize, stop: usize)
     ensures { (l : List ℤ) → Stopped d full to stop l a.old → a.new ≡ l }
 {
     let mut k = a.len() - a.len() % d;
+    // Stays a while: it goes down, from one row to the one d before.
     while d <= k {
-        let end = smaller((k + taken_in_row(k, full, to, stop)) as u64, a.len() as u64) as usize;
+        let end = (k + taken_in_row(k, full, to, stop)).min(a.len());
         put_back(a, d, k, end);
         k -= d;
     }

@@ -13,20 +13,20 @@ ghost use Rattle.entry_steps.specs.Asked.{AskedOfStep};
 ghost use Rattle.entry_steps.specs.Passes.{SteppedOrUndone};
 
 use back::undo;
-use chain_groups::{next_width, take_next};
-use heights::smaller;
+use chain_groups::{Groups, take_next};
 use second::take_second_row;
 
 // The chains that have more than one entry, group by group.
-fn chains_or_undo(test: u8, w: u64, a: &mut [i64], d: usize) -> bool
-    requires { (1 ≤ d) × (d ≤ length a.old) × Workable w × AskedOfStep test w accumulate d a.old }
+fn chains_or_undo<T: Groups>(w: u64, a: &mut [i64], d: usize) -> bool
+    requires { (1 ≤ d) × (d ≤ length a.old) × Workable w × AskedOfStep T.way w accumulate d a.old }
     ensures { SteppedOrUndone w accumulate d a.old a.new result }
 {
-    let to = smaller(d as u64, (a.len() - d) as u64) as usize;
+    let to = d.min(a.len() - d);
     let mut c = 0;
+    // Stays a while: the next group begins where the last one ends, and not all are equally wide.
     while c < to {
-        let g = next_width(test, to - c);
-        let stop = take_next(test, w, a, c, d, g);
+        let g = T::next_width(to - c);
+        let stop = take_next::<T>(w, a, c, d, g);
         if stop < a.len() {
             undo(a, d, c, c + g, stop);
             return false;
@@ -37,14 +37,14 @@ fn chains_or_undo(test: u8, w: u64, a: &mut [i64], d: usize) -> bool
 }
 
 // The accumulate, whole; or, where a value passes w, nothing.
-pub fn accumulate_or_undo(test: u8, w: u64, a: &mut [i64], d: usize) -> bool
-    requires { (1 ≤ d) × (d ≤ length a.old) × Workable w × AskedOfStep test w accumulate d a.old }
+pub fn accumulate_or_undo<T: Groups>(w: u64, a: &mut [i64], d: usize) -> bool
+    requires { (1 ≤ d) × (d ≤ length a.old) × Workable w × AskedOfStep T.way w accumulate d a.old }
     ensures { SteppedOrUndone w accumulate d a.old a.new result }
 {
     if d + d < a.len() {
-        return chains_or_undo(test, w, a, d);
+        return chains_or_undo::<T>(w, a, d);
     }
-    let stop = take_second_row(test, w, a, d);
+    let stop = take_second_row::<T>(w, a, d);
     if stop == a.len() {
         return true;
     }

@@ -6,6 +6,7 @@
 ghost use Rattle.std.specs.Prelude.{◌≡◌, pos};
 ghost use Rattle.definitions.specs.Requests.{known_kind, good_index};
 ghost use Rattle.definitions.specs.Halves.{negates};
+ghost use Rattle.answers.specs.Refusals.{number_of};
 
 pub const DONE: u64 = 0;
 
@@ -51,6 +52,65 @@ pub const RANGE: u64 = 21;
 
 pub const ROWS: u64 = 22;
 
+// Why a request is refused, by the names of the codes (docs/RULES.md, 'The codes').
+#[derive(Clone, Copy, Debug, PartialEq, Eq)]
+pub enum Refusal {
+    Kind,
+    Index,
+    Limit,
+    Short,
+    Over,
+    Tall,
+    Step,
+    Cut,
+    Mark,
+    Width,
+    RecordKind,
+    RecordWidth,
+    RecordIndex,
+    RecordCount,
+    List,
+    Absent,
+    Uneven,
+    Point,
+    Coarse,
+    Range,
+    Rows,
+}
+
+impl From<Refusal> for u64 {
+    ghost from_gives = { λ refusal code. code ≡ number_of refusal };
+
+    // The code that C is told.
+    fn from(refusal: Refusal) -> u64
+        ensures { result ≡ number_of refusal }
+    {
+        match refusal {
+            Refusal::Kind => KIND,
+            Refusal::Index => INDEX,
+            Refusal::Limit => LIMIT,
+            Refusal::Short => SHORT,
+            Refusal::Over => OVER,
+            Refusal::Tall => TALL,
+            Refusal::Step => STEP,
+            Refusal::Cut => CUT,
+            Refusal::Mark => MARK,
+            Refusal::Width => WIDTH,
+            Refusal::RecordKind => RKIND,
+            Refusal::RecordWidth => RWIDTH,
+            Refusal::RecordIndex => RINDEX,
+            Refusal::RecordCount => RCOUNT,
+            Refusal::List => LIST,
+            Refusal::Absent => ABSENT,
+            Refusal::Uneven => UNEVEN,
+            Refusal::Point => POINT,
+            Refusal::Coarse => COARSE,
+            Refusal::Range => RANGE,
+            Refusal::Rows => ROWS,
+        }
+    }
+}
+
 // A polynomial request's answer.
 #[repr(C)]
 #[derive(Clone, Copy)]
@@ -74,12 +134,13 @@ pub struct Stop {
 }
 
 impl Answer {
-    // A refusal: its code and the degree that it tells; the rest is 0.
-    pub fn refused(code: u64, degree: u64) -> Answer
-        ensures { result ≡ record { code = code; degree = degree; additions = 0; height = 0; peak = 0; gain = pos 0 } }
+    // A refusal: its number and the degree that it tells; the rest is 0.
+    pub fn refused(refusal: Refusal, degree: u64) -> Answer
+        ensures { result
+            ≡ record { code = number_of refusal; degree = degree; additions = 0; height = 0; peak = 0; gain = pos 0 } }
     {
         Answer {
-            code,
+            code: u64::from(refusal),
             degree,
             additions: 0,
             height: 0,
@@ -90,12 +151,12 @@ impl Answer {
 }
 
 impl Stop {
-    // A refusal: its code and the half degree that it tells; the rest is 0.
-    pub fn refused(code: u64, degree: u64) -> Stop
-        ensures { result ≡ record { code = code; degree = degree; additions = 0; due = 0 } }
+    // A refusal: its number and the half degree that it tells; the rest is 0.
+    pub fn refused(refusal: Refusal, degree: u64) -> Stop
+        ensures { result ≡ record { code = number_of refusal; degree = degree; additions = 0; due = 0 } }
     {
         Stop {
-            code,
+            code: u64::from(refusal),
             degree,
             additions: 0,
             due: 0,

@@ -67,6 +67,7 @@ pub fn bv_second(kind: u64, n: u64, h: i64, buf: &mut [i64], scratch: &mut [i64]
 }
 
 // A comb on its own, within w.
+// Stays apart from `bv_accumulate`: C calls each by its name.
 pub fn bv_comb(size: u64, w: i64, buf: &mut [i64]) -> Stepped
     ensures code { result.code ≡ step_code w comb size buf.old }
     ensures count { result.count ≡ step_count w comb size buf.old }

@@ -10,7 +10,7 @@ use lib.IntN.{ℤ}
 use Rattle.definitions.specs.Steps.{Sort, comb, accumulate, entries, step_over, step_list}
 use Rattle.step_laws.specs.Bound.{Bounded, growth, growth-not-over, step_list_bound}
 use Rattle.step_laws.specs.Step.{long-not-over, long_stays}
-use Rattle.bounded_steps.specs.Outcome.{StepOutcomeIs}
+use Rattle.bounded_steps.specs.Outcome.{Taken}
 
 -- the growth as a product and a sum
 pub comb_more : (d n b : ℕ) → growth comb d n b ≡ b * 1 + b
@@ -38,9 +38,9 @@ grown s d b one l h e w u = (
 
 module _ (w : ℕ) (s : Sort) (d b : ℕ) (l : List ℤ) where
   pub under : {m : List ℤ} {g : ℕ} → (step_over w s d l ≡ false) × Bounded g (entries (step_list s d l))
-      → m ≡ step_list s d l → (b ≤ w → g ≤ w) → StepOutcomeIs w s d b l m (record { over = false; bound = g })
-  under f e u = record { over = sym f.0; leaves = e; bounded = λ t. rw e f.1; inside = u }
+      → m ≡ step_list s d l → (b ≤ w → g ≤ w) → Taken w s d b l m g
+  under f e u = record { over = f.0; leaves = e; bounded = rw e f.1; inside = u }
 
   -- a size that is at least the length
-  pub long : length l ≤ d → Bounded b (entries l) → StepOutcomeIs w s d b l l (record { over = false; bound = b })
+  pub long : length l ≤ d → Bounded b (entries l) → Taken w s d b l l b
   long n h = under (long-not-over s d l w n, rw (long_stays s d l n) h) (sym (long_stays s d l n)) (λ u. u)

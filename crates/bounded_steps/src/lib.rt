@@ -14,16 +14,13 @@ ghost use Rattle.entry_steps.specs.Passes.{addable, SteppedOrUndone};
 ghost use Rattle.bounded_steps.specs.Outcome.{StepOutcomeIs};
 
 use accumulates::accumulate_or_undo;
-use combs::comb_or_undo;
-use entry_steps::{ADDABLE, KNOWN, NARROW, Sort, WIDE};
-use heights::{larger, magnitude, smaller};
+use chain_groups::Groups;
+use combs::Combs;
+use entry_steps::{ADDABLE, Known, Narrow, Sort, Wide};
 
-// The outcome of one step: a value that passes the working limit, or the bound of the magnitudes after it.
-#[derive(Drop)]
-pub struct StepOutcome {
-    pub over: bool,
-    pub bound: u64,
-}
+// A value passes the working limit, so the step was not taken.
+#[derive(Clone, Copy, Debug, PartialEq, Eq, Drop)]
+pub struct Over;
 
 // 2^47: up to here a look is not worth its time. A step on up to 2^15 entries stays within the largest limit, and under
 // a smaller one the entries' own magnitudes are mostly no better.
@@ -52,65 +49,59 @@ pub fn stays_within(bound: u64, times: u64, w: u64) -> bool
 }
 
 // The step of either sort, whole; or, where a value passes w, nothing.
-fn step_or_undo(sort: Sort, test: u8, w: u64, a: &mut [i64], d: usize) -> bool
-    requires { (1 ≤ d) × (d ≤ length a.old) × Workable w × AskedOfStep test w (sort_means sort) d a.old }
+fn step_or_undo<T: Combs + Groups>(sort: Sort, w: u64, a: &mut [i64], d: usize) -> bool
+    requires { (1 ≤ d) × (d ≤ length a.old) × Workable w × AskedOfStep T.way w (sort_means sort) d a.old }
     ensures { SteppedOrUndone w (sort_means sort) d a.old a.new result }
 {
     match sort {
-        Sort::Comb => comb_or_undo(test, w, a, d),
-        Sort::Accumulate => accumulate_or_undo(test, w, a, d),
+        Sort::Comb => T::comb_or_undo(w, a, d),
+        Sort::Accumulate => accumulate_or_undo::<T>(w, a, d),
     }
 }
 
 // A step that looks at each value, and before at whether it can be taken.
-fn take_wide(a: &mut [i64], sort: Sort, d: u64, bound: u64, w: u64) -> StepOutcome
+fn take_wide(a: &mut [i64], sort: Sort, d: u64, bound: u64, w: u64) -> Result<u64, Over>
     requires { (1 ≤ d) × (d < length a.old) × Bounded bound (entries a.old) × Workable w }
     ensures { StepOutcomeIs w (sort_means sort) d bound a.old a.new result }
 {
-    let done = step_or_undo(sort, WIDE, w, a, d as usize);
-    StepOutcome {
-        over: !done,
-        bound: larger(bound, w),
+    if step_or_undo::<Wide>(sort, w, a, d as usize) {
+        return Ok(bound.max(w));
     }
+    Err(Over)
 }
 
 // A step on entries that can all be added: first under a limit that keeps them so. Where that is passed and w is above
 // it, the step is taken once more.
-fn take_narrow(a: &mut [i64], sort: Sort, d: u64, bound: u64, w: u64) -> StepOutcome
+fn take_narrow(a: &mut [i64], sort: Sort, d: u64, bound: u64, w: u64) -> Result<u64, Over>
     requires le_d { (1 ≤ d) × (d < length a.old) × Bounded bound (entries a.old) × Workable w }
     requires bound_le_addable { bound ≤ addable }
     ensures { StepOutcomeIs w (sort_means sort) d bound a.old a.new result }
 {
-    let most = smaller(w, ADDABLE);
-    if step_or_undo(sort, NARROW, most, a, d as usize) {
-        return StepOutcome {
-            over: false,
-            bound: larger(bound, most),
-        };
+    let most = w.min(ADDABLE);
+    if step_or_undo::<Narrow>(sort, most, a, d as usize) {
+        return Ok(bound.max(most));
     }
     if w <= ADDABLE {
-        return StepOutcome { over: true, bound };
+        return Err(Over);
     }
     take_wide(a, sort, d, bound, w)
 }
 
-// One step on entries of magnitude at most `bound`: untested where these can't grow past w.
-pub fn take_bounded(a: &mut [i64], sort: Sort, d: u64, bound: u64, w: u64) -> StepOutcome
+// One step on entries of magnitude at most `bound`: untested where these can't grow past w. It tells the bound of the
+// magnitudes after it.
+pub fn take_bounded(a: &mut [i64], sort: Sort, d: u64, bound: u64, w: u64) -> Result<u64, Over>
     requires { (1 ≤ d) × Bounded bound (entries a.old) × Workable w }
     ensures { StepOutcomeIs w (sort_means sort) d bound a.old a.new result }
 {
     let n = a.len() as u64;
     if n <= d {
-        return StepOutcome { over: false, bound };
+        return Ok(bound);
     }
     let times = times_added(sort, d, n);
     if stays_within(bound, times, w) {
         let grown = bound * times + bound;
-        step_or_undo(sort, KNOWN, w, a, d as usize);
-        return StepOutcome {
-            over: false,
-            bound: grown,
-        };
+        step_or_undo::<Known>(sort, w, a, d as usize);
+        return Ok(grown);
     }
     if bound <= ADDABLE {
         return take_narrow(a, sort, d, bound, w);
@@ -124,10 +115,8 @@ pub fn look(a: &[i64]) -> u64
     ensures { Bounded result (entries a.now) }
 {
     let mut all: u64 = 0;
-    let mut i = 0;
-    while i < a.len() {
-        all = all | magnitude(a[i]);
-        i += 1;
+    for x in a {
+        all |= x.unsigned_abs();
     }
     all
 }
@@ -148,11 +137,11 @@ fn better_bound(a: &[i64], sort: Sort, d: u64, bound: u64, w: u64) -> u64
     if stays_within(bound, times_added(sort, d, n), w) {
         return bound;
     }
-    smaller(bound, look(a))
+    bound.min(look(a))
 }
 
 // One step of a run.
-pub fn take_step(a: &mut [i64], sort: Sort, d: u64, bound: u64, w: u64) -> StepOutcome
+pub fn take_step(a: &mut [i64], sort: Sort, d: u64, bound: u64, w: u64) -> Result<u64, Over>
     requires { (1 ≤ d) × Bounded bound (entries a.old) × Workable w }
     ensures { StepOutcomeIs w (sort_means sort) d bound a.old a.new result }
 {

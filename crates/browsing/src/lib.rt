@@ -16,6 +16,7 @@ use record::{count_in, index_in, kind_in};
 use shelf::size_in;
 
 // What is shown of a shelf.
+// Stays an enum: the end tells its place too, which no None does, and a reader stays there as at a refusal.
 #[derive(Clone, Copy)]
 pub enum Shown {
     // A record that reads well: the shelf from `start` up to `end`, and what its header says.
@@ -72,6 +73,34 @@ impl Browsed {
     }
 }
 
+// What was shown, in numbers.
+impl From<Shown> for Browsed {
+    ghost from_gives = { λ shown browsed. browsed ≡ told shown };
+
+    fn from(shown: Shown) -> Browsed
+        ensures { result ≡ told shown }
+    {
+        match shown {
+            Shown::Record {
+                start,
+                end,
+                kind,
+                n,
+                degree,
+            } => Browsed {
+                code: answers::DONE,
+                start: start as u64,
+                length: between(start, end) as u64,
+                kind,
+                n,
+                degree,
+            },
+            Shown::Refused { code, start } => Browsed::without_record(code, start as u64),
+            Shown::End { start } => Browsed::without_record(answers::DONE, start as u64),
+        }
+    }
+}
+
 // A record that reads well, at a place of a shelf.
 fn record_of(bytes: &[u8], at: usize) -> Shown
     requires { (look_code bytes.now ≡ DONE) × (at + length bytes.now < 2 ^ 64) }
@@ -106,14 +135,8 @@ fn place_after(shown: Shown) -> usize
     ensures { result ≡ place_after shown }
 {
     match shown {
-        Shown::Record {
-            start: _,
-            end,
-            kind: _,
-            n: _,
-            degree: _,
-        } => end,
-        Shown::Refused { code: _, start } => start,
+        Shown::Record { end, .. } => end,
+        Shown::Refused { start, .. } => start,
         Shown::End { start } => start,
     }
 }
@@ -134,22 +157,17 @@ pub fn part<'a>(shelf: &'a [u8], start: usize, length: usize) -> &'a [u8]
     ensures part { result.now ≡ part_of shelf.entry start length }
     ensures lies { result.ref_ptr ≡ lies shelf.entry start }
 {
-    if shelf.len() <= start {
-        let end = shelf.len();
-        return &shelf[end..];
-    }
-    let rest = &shelf[start..];
-    if rest.len() <= length {
-        return rest;
-    }
-    &rest[..length]
+    let from = start.min(shelf.len());
+    let rest = &shelf[from..];
+    let size = length.min(rest.len());
+    &rest[..size]
 }
 
 // How many bytes there are from one place to another.
 pub fn between(start: usize, end: usize) -> usize
     ensures { result ≡ end - start }
 {
-    if end < start { 0 } else { end - start }
+    end.saturating_sub(start)
 }
 
 // That very stretch of a shelf which was shown; an empty one where none was.
@@ -158,39 +176,9 @@ pub fn stretch_of<'a>(shelf: &'a [u8], shown: Shown) -> &'a [u8]
         × (result.ref_ptr ≡ lies shelf.entry (start_of shown)) }
 {
     match shown {
-        Shown::Record {
-            start,
-            end,
-            kind: _,
-            n: _,
-            degree: _,
-        } => part(shelf, start, between(start, end)),
-        Shown::Refused { code: _, start: _ } => part(shelf, 0, 0),
-        Shown::End { start: _ } => part(shelf, 0, 0),
-    }
-}
-
-// What was shown, in numbers.
-fn numbers_of(shown: Shown) -> Browsed
-    ensures { result ≡ told shown }
-{
-    match shown {
-        Shown::Record {
-            start,
-            end,
-            kind,
-            n,
-            degree,
-        } => Browsed {
-            code: answers::DONE,
-            start: start as u64,
-            length: between(start, end) as u64,
-            kind,
-            n,
-            degree,
-        },
-        Shown::Refused { code, start } => Browsed::without_record(code, start as u64),
-        Shown::End { start } => Browsed::without_record(answers::DONE, start as u64),
+        Shown::Record { start, end, .. } => part(shelf, start, between(start, end)),
+        Shown::Refused { .. } => part(shelf, 0, 0),
+        Shown::End { .. } => part(shelf, 0, 0),
     }
 }
 
@@ -198,5 +186,5 @@ fn numbers_of(shown: Shown) -> Browsed
 pub fn browse(shelf: &[u8], at: u64) -> Browsed
     ensures { result ≡ told (shown_at shelf.now at) }
 {
-    numbers_of(shown_at(shelf, at as usize))
+    Browsed::from(shown_at(shelf, at as usize))
 }

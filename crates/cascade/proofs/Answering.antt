@@ -20,8 +20,10 @@ use Rattle.step_laws.specs.Firsts.{length-firsts}
 use Rattle.answers.specs.Cascade.{code, answered, answer, left, leaves, scratched, scratches}
 use Rattle.answers.specs.declared.Answer.{Answer}
 use Rattle.answers.proofs.Told.{told-only, same_done}
+use Rattle.std.specs.Prelude.{Result, Ok, is_err, IsErr}
+use Rattle.exact_products.specs.declared.Over.{Over}
 use Rattle.next_factor.specs.declared.SoFar.{SoFar}
-use Rattle.cascade.specs.Making.{Ready, ProductIs, making_code, laid}
+use Rattle.cascade.specs.Making.{Ready, ProductOf, ProductIs, making_code, laid}
 use Rattle.cascade.proofs.Lists.{over_by_firsts}
 
 -- ---- after the making
@@ -29,10 +31,10 @@ use Rattle.cascade.proofs.Lists.{over_by_firsts}
 abbrev pub Made : List ℕ → ℕ → Answer → List ℤ → List ℤ → List ℤ → Type 0
 Made ns h a b s s₀ = (a ≡ answered ns (making_code ns h)) × ((b ≡ laid ns (making_code ns h)) × (s ≡ zeros (length s₀)))
 
-module _ {ns : List ℕ} {m : List ℤ} {r : SoFar} (good : all_good ns ≡ true) (P : ProductIs ns m r) (h : ℕ) {total : ℕ}
+module _ {ns : List ℕ} {m : List ℤ} {r : Result SoFar Over} (good : all_good ns ≡ true) (P : ProductIs ns m r) (h : ℕ) {total : ℕ}
     (is : total ≡ total_degree ns) (s s₁ s₀ : List ℤ) (cleared : s ≡ zeros (length s₁)) (len : length s₁ ≡ length s₀)
   where
-    over_is : cascade_over ns ≡ r.over
+    over_is : cascade_over ns ≡ is_err r
     over_is = over_by_firsts ns good ∙ sym P.over
 
     by_code : (c : ℕ) {a : Answer} {b : List ℤ} → making_code ns h ≡ c → a ≡ answered ns c → b ≡ laid ns c
@@ -44,31 +46,37 @@ module _ {ns : List ℕ} {m : List ℤ} {r : SoFar} (good : all_good ns ≡ true
     refuses c e p q a b =
         by_code c e (a ∙ ap (told-only c) is ∙ sym p) (b ∙ ap zeros P.len ∙ sym q)
 
-    pub made_over_lem : {a : Answer} {b : List ℤ} → r.over ≡ true → a ≡ told-only OVER total → b ≡ zeros (length m)
+    pub made_over_lem : {a : Answer} {b : List ℤ} → IsErr r → a ≡ told-only OVER total → b ≡ zeros (length m)
         → Made ns h a b s s₀
     unfolding making_code answered laid
     made_over_lem o =
         refuses OVER (ap (λ x. cond x OVER (cond (ltb h (height_of (product_coefficients ns))) TALL DONE)) (over_is ∙ o))
         refl refl
 
-    module _ (o : r.over ≡ false) where
-      by_height : (b : Bool) → ltb h r.height ≡ b → making_code ns h ≡ cond b TALL DONE
+    module _ {made : SoFar} (made_is : r ≡ Ok made) where
+      o : is_err r ≡ false
+      o = ap is_err made_is
+
+      M : ProductOf ns m made
+      M = rw made_is at P.product
+
+      by_height : (b : Bool) → ltb h made.height ≡ b → making_code ns h ≡ cond b TALL DONE
       unfolding making_code
       by_height b e =
-          ap₂ (λ x y. cond x OVER (cond y TALL DONE)) (over_is ∙ o) (ap (ltb h) (sym (P.height o)) ∙ e)
+          ap₂ (λ x y. cond x OVER (cond y TALL DONE)) (over_is ∙ o) (ap (ltb h) (sym M.height) ∙ e)
 
-      pub made_tall : {a : Answer} {b : List ℤ} → h < r.height → a ≡ told-only TALL total → b ≡ zeros (length m)
+      pub made_tall : {a : Answer} {b : List ℤ} → h < made.height → a ≡ told-only TALL total → b ≡ zeros (length m)
           → Made ns h a b s s₀
       unfolding answered laid
-      made_tall l = refuses TALL (by_height true (lt-ltb h r.height l)) refl refl
+      made_tall l = refuses TALL (by_height true (lt-ltb h made.height l)) refl refl
 
-      pub made_done : r.height ≤ h → {g : ℤ} → g ≡ pos r.gain
+      pub made_done : made.height ≤ h → {g : ℤ} → g ≡ pos made.gain
           → Made ns h
-          (record { code = DONE; degree = total; additions = 0; height = r.height; peak = r.peak; gain = g }) m s s₀
+          (record { code = DONE; degree = total; additions = 0; height = made.height; peak = made.peak; gain = g }) m s s₀
       unfolding answered laid
       made_done l read =
-          by_code DONE (by_height false (le-ltb h r.height l))
-          (same_done is refl (P.height o) (P.peak o) (read ∙ P.gain o)) (P.leaves o)
+          by_code DONE (by_height false (le-ltb h made.height l))
+          (same_done is refl M.height M.peak (read ∙ M.gain)) M.leaves
 
 -- ---- the whole request
 abbrev pub Answers : List ℕ → ℤ → Answer → List ℤ → List ℤ → List ℤ → List ℤ → Type 0

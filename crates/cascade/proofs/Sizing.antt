@@ -1,7 +1,7 @@
 -- The look over the list: what is known of its first i indices, one more, and at the end.
 use Prim.Native.Nat.{ℕ, ◌+◌, ◌*◌, ◌<◌, ◌≤◌, max}
 use mathlib.Core.Path.{◌≡◌, refl, sym, ◌∙◌, ap, ap₂}
-use mathlib.Core.Bool.{Bool, true, false, true≢false, cond}
+use mathlib.Core.Bool.{Bool, true, false, cond}
 use mathlib.Core.List.{List}
 use native.Mathlib.Omega.{arith}
 use native.Mathlib.Nat as NatL
@@ -17,6 +17,7 @@ use Rattle.definitions.specs.KeptHalf.{sum_of}
 use Rattle.definitions.specs.Cascades.{total_degree, longest, all_good}
 use Rattle.numbers.specs.Phi.{phi-le}
 use Rattle.index.proofs.Laws.{index_good}
+use Rattle.std.specs.Prelude.{Some, None}
 use Rattle.cascade.specs.Asked.{SizesAre}
 use Rattle.cascade.proofs.Lists.{good_more, bad_at, longest_more, degree_more}
 
@@ -38,23 +39,8 @@ unfolding degree
 told n d g e = e ∙ ap (λ b. cond b 0 (phi n)) (le-ltb 65535 n (index_good n g).1)
 
 module _ {ns : List ℕ} {total long i : ℕ} (S : Sized ns total long i) where
-  pub refused : i < length ns → {g : Bool} → g ≡ good_index (get_or ns i 0) → g ≡ false
-      → SizesAre ns (record { good = false; total = 0; longest = 0 })
-  refused l e bad =
-      record {
-        good = sym (bad_at ns i l (sym e ∙ bad));
-        total = λ x. absurd (true≢false (sym x));
-        longest = λ x. absurd (true≢false (sym x));
-      }
-
-  pub sized_done : length ns ≤ i → SizesAre ns (record { good = true; total = total; longest = long })
-  sized_done l =
-      let all = take_all i ns l in
-      record {
-        good = sym S.good ∙ ap all_good all;
-        total = λ x. S.sum ∙ ap total_degree all;
-        longest = λ x. S.most ∙ ap longest all;
-      }
+  pub refused : i < length ns → {g : Bool} → g ≡ good_index (get_or ns i 0) → g ≡ false → SizesAre ns None
+  refused l e bad = record { good = sym (bad_at ns i l (sym e ∙ bad)); sizes = tt }
 
   module _ (l : i < length ns) {g : Bool} {d : ℕ} (e : g ≡ good_index (get_or ns i 0)) (yes' : g ≡ true)
       (is : d ≡ cond (ltb 65535 (get_or ns i 0)) 0 (degree 1 (get_or ns i 0))) where

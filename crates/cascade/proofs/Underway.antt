@@ -1,7 +1,7 @@
 -- The product of the first i factors: the start, what is asked of one factor more, what it comes to, and the end.
 use Prim.Native.Nat.{ℕ, suc, ◌+◌, ◌-◌, ◌<◌, ◌≤◌}
 use mathlib.Core.Path.{◌≡◌, sym, ◌∙◌, ap, ap₂, fun_ext}
-use mathlib.Core.Bool.{true, false, true≢false, not, ◌||◌, not-not}
+use mathlib.Core.Bool.{true, false, not, ◌||◌, not-not}
 use mathlib.Core.List.{List, [], ◌∷◌}
 use native.Mathlib.Omega.{arith}
 use native.Mathlib.Numerals.{add-one}
@@ -24,12 +24,15 @@ use Rattle.step_laws.specs.Outside.{inside_each}
 use Rattle.step_laws.specs.Signed.{range_in}
 use Rattle.cyclotomic.specs.Heights.{entry_height, height_least}
 use Rattle.next_factor.specs.Times.{signed}
-use Rattle.next_factor.specs.Taking.{First, Known, Room, Taken}
+use Rattle.std.specs.Prelude.{Result, Ok, is_err, IsErr}
+use Rattle.std.proofs.lemmas.Result.{IfOk-from_err}
+use Rattle.exact_products.specs.declared.Over.{Over}
+use Rattle.next_factor.specs.Taking.{First, Known, Room, Extended, Taken}
 use Rattle.next_factor.specs.declared.SoFar.{SoFar}
 use Rattle.next_factor.proofs.Delivered.{height_fits, gain-whole}
 use Rattle.next_factor.proofs.Mirroring.{turned-factor}
 use Rattle.index.proofs.Laws.{index_good}
-use Rattle.cascade.specs.Making.{Roomy, ProductIs}
+use Rattle.cascade.specs.Making.{Roomy, ProductOf, ProductIs}
 use Rattle.cascade.proofs.Lists.{good_part, good_at, longest_at, degree-part, degree_more, product_more}
 use Rattle.cascade.proofs.Lists.{monic_product, gain_more, stays_over}
 use Rattle.cascade.proofs.OneFactor.{one-degree, one_product, one-coefficients, one_fine}
@@ -37,7 +40,6 @@ use Rattle.cascade.proofs.OneFactor.{one-degree, one_product, one-coefficients, 
 pub record Underway (ns : List ℕ) (b scratch : List ℤ) (so : SoFar) (i : ℕ) : Type 0 where
   pub roomy : Roomy ns b scratch
   pub at : i ≤ length ns
-  pub told : so.over ≡ false
   pub fine : firsts_over i ns ≡ false
   pub leaves : b ≡ firsts (suc (total_degree ns)) (product (take i ns))
   pub have : so.have ≡ suc (total_degree (take i ns))
@@ -99,7 +101,6 @@ module _ {ns : List ℕ} (some : 0 < length ns) {l scratch : List ℤ} (R : Room
             factor = R.factor;
           };
           at = some;
-          told = T.over;
           fine = ap product_over one-first ∙ one_fine n good;
           leaves = T.leaves ∙ ap₂ firsts size (sym product_is);
           have = T.have ∙ ap suc (sym degree_is);
@@ -158,7 +159,7 @@ module _ {ns : List ℕ} {b scratch : List ℤ} {so : SoFar} {i : ℕ} (U : Unde
           factor = omega (arith, longest_at ns i l, U.roomy.factor);
         }
 
-    module _ {m : List ℤ} {r : SoFar} (T : Taken (get_or ns i 0) b so m r) where
+    module _ {m : List ℤ} {r : Result SoFar Over} (T : Taken (get_or ns i 0) b so m r) where
       count : so.have + phi (get_or ns i 0) ≡ suc (total_degree (take (suc i) ns))
       count = omega (arith, U.have, degree_more ns i l)
 
@@ -170,7 +171,7 @@ module _ {ns : List ℕ} {b scratch : List ℤ} {so : SoFar} {i : ℕ} (U : Unde
       gains = ap (λ g. g ⊗ Rattle.definitions.specs.Answer.gain 1 (get_or ns i 0)) U.gain
           ∙ sym (gain_more ns i l U.roomy.good)
 
-      tested : r.over ≡ firsts_over (suc i) ns
+      tested : is_err r ≡ firsts_over (suc i) ns
       unfolding firsts_over product_over
       tested =
           T.over
@@ -186,16 +187,12 @@ module _ {ns : List ℕ} {b scratch : List ℤ} {so : SoFar} {i : ℕ} (U : Unde
             factor = rw e U.roomy.factor;
           }
 
-      pub over_here : r.over ≡ true → ProductIs ns m r
-      over_here o =
+      pub over_here : IsErr r → {told : Result SoFar Over} → IsErr told → ProductIs ns m told
+      over_here o {told} err =
           record {
-            over = o ∙ sym (stays_over ns (suc i) (length ns) l (sym tested ∙ o));
+            over = err ∙ sym (stays_over ns (suc i) (length ns) l (sym tested ∙ o));
             len = T.len ∙ U.roomy.room;
-            leaves = λ e. absurd (true≢false (sym o ∙ e));
-            height = λ e. absurd (true≢false (sym o ∙ e));
-            peak = λ e. absurd (true≢false (sym o ∙ e));
-            gain = λ e. absurd (true≢false (sym o ∙ e));
-            small = λ e. absurd (true≢false (sym o ∙ e));
+            product = IfOk-from_err told (ProductOf ns m) err;
           }
 
       coefficients_are : firsts (so.have + phi (get_or ns i 0)) (F (get_or ns i 0) · entries b)
@@ -203,7 +200,13 @@ module _ {ns : List ℕ} {b scratch : List ℤ} {so : SoFar} {i : ℕ} (U : Unde
       unfolding product_coefficients
       coefficients_are = ap₂ firsts count series
 
-      module _ (o : r.over ≡ false) where
+      module _ {more : SoFar} (is : r ≡ Ok more) where
+        o : is_err r ≡ false
+        o = ap is_err is
+
+        E : Extended (get_or ns i 0) b so m more
+        E = rw is at T.extended
+
         in_range_lem : (some_outside largest 0 (so.have + phi (get_or ns i 0)) (F (get_or ns i 0) · entries b) ≡ false)
             × (not (in_range largest (pos so.gain ⊗ Rattle.definitions.specs.Answer.gain 1 (get_or ns i 0))) ≡ false)
         in_range_lem =
@@ -211,55 +214,56 @@ module _ {ns : List ℕ} {b scratch : List ℤ} {so : SoFar} {i : ℕ} (U : Unde
             (not (in_range largest (pos so.gain ⊗ Rattle.definitions.specs.Answer.gain 1 (get_or ns i 0))))
             (sym T.over ∙ o)
 
-        height_inside : r.height ≤ largest
+        height_inside : more.height ≤ largest
         height_inside =
-            rw (T.height o)
+            rw E.height
             (height_least (so.have + phi (get_or ns i 0)) (F (get_or ns i 0) · entries b) largest
             (λ k c. range_in largest _
             (inside_each largest 0 (F (get_or ns i 0) · entries b) (so.have + phi (get_or ns i 0)) in_range_lem.0 k
             (omega arith) c)))
 
-        gain_inside : r.gain ≤ largest
+        gain_inside : more.gain ≤ largest
         gain_inside =
-            rw (sym (T.gain o))
+            rw (sym E.gain)
             at (range_in largest (pos so.gain ⊗ Rattle.definitions.specs.Answer.gain 1 (get_or ns i 0))
             (sym (not-not _) ∙ ap not in_range_lem.1))
 
         turned-next : mirror (total_degree (take (suc i) ns)) (product (take (suc i) ns))
-            ≡ signed r.turned (product (take (suc i) ns))
+            ≡ signed more.turned (product (take (suc i) ns))
         turned-next =
             let last : so.have + phi (get_or ns i 0) - 1 ≡ total_degree (take (suc i) ns) = omega (arith, count) in
-            ap₂ mirror (sym last) (sym series) ∙ T.mirrored o ∙ ap (signed r.turned) series
+            ap₂ mirror (sym last) (sym series) ∙ E.mirrored ∙ ap (signed more.turned) series
 
-        pub underway_more : (s : List ℤ) → length s ≡ length scratch → Underway ns m s r (i + 1)
+        pub underway_more : (s : List ℤ) → length s ≡ length scratch → Underway ns m s more (i + 1)
         underway_more s e =
             rw (add-one i)
             (record {
               roomy = still_roomy s e;
               at = l;
-              told = o;
               fine = sym tested ∙ o;
-              leaves = T.leaves o ∙ ap₂ firsts U.roomy.room series;
-              have = T.have o ∙ count;
-              height = T.height o ∙ ap height_of coefficients_are;
-              peak = T.peak o ∙ ap peak_of coefficients_are;
-              gain = T.gain o ∙ gains;
+              leaves = E.leaves ∙ ap₂ firsts U.roomy.room series;
+              have = E.have ∙ count;
+              height = E.height ∙ ap height_of coefficients_are;
+              peak = E.peak ∙ ap peak_of coefficients_are;
+              gain = E.gain ∙ gains;
               inside = height_inside;
               small = gain_inside;
               mirrored = turned-next;
             })
 
-  pub done : length ns ≤ i → ProductIs ns b so
+  pub done : length ns ≤ i → ProductIs ns b (Ok so)
   unfolding product_coefficients
   done l =
       let all = take_all i ns l in
       let last : i ≡ length ns = omega (arith, U.at) in
       record {
-        over = U.told ∙ sym U.fine ∙ ap (λ k. firsts_over k ns) last;
+        over = sym U.fine ∙ ap (λ k. firsts_over k ns) last;
         len = U.roomy.room;
-        leaves = λ e. U.leaves ∙ ap (λ x. firsts (suc (total_degree ns)) (product x)) all;
-        height = λ e. U.height ∙ ap (λ x. height_of (product_coefficients x)) all;
-        peak = λ e. U.peak ∙ ap (λ x. peak_of (product_coefficients x)) all;
-        gain = λ e. U.gain ∙ ap (λ x. gain_of (product_coefficients x)) all;
-        small = λ e. U.small;
+        product = record {
+          leaves = U.leaves ∙ ap (λ x. firsts (suc (total_degree ns)) (product x)) all;
+          height = U.height ∙ ap (λ x. height_of (product_coefficients x)) all;
+          peak = U.peak ∙ ap (λ x. peak_of (product_coefficients x)) all;
+          gain = U.gain ∙ ap (λ x. gain_of (product_coefficients x)) all;
+          small = U.small;
+        };
       }

@@ -8,8 +8,7 @@ mod making;
 ghost use Rattle.std.specs.Prelude.{◌≡◌, length};
 ghost use Rattle.answers.specs.Cascade as Cascade;
 
-use answers::Answer;
-use heights::magnitude;
+use answers::{Answer, Refusal};
 
 // The product of F(n) for the n of a list, no taller than h, in entries 0 to its degree. The scratch is all zero
 // afterwards, or untouched.
@@ -22,20 +21,19 @@ pub fn cascade(indices: &[u64], h: i64, buf: &mut [i64], scratch: &mut [i64]) ->
         ≡ Cascade.scratches indices.now h (length buf.old) scratch.old }
 {
     if indices.len() == 0 {
-        return Answer::refused(answers::LIST, 0);
+        return Answer::refused(Refusal::List, 0);
     }
     if 8 < indices.len() {
-        return Answer::refused(answers::LIST, 0);
+        return Answer::refused(Refusal::List, 0);
     }
-    let sizes = asked::sizes_of(indices);
-    if !sizes.good {
-        return Answer::refused(answers::INDEX, 0);
-    }
+    let Some(sizes) = asked::sizes_of(indices) else {
+        return Answer::refused(Refusal::Index, 0);
+    };
     if 65535 < sizes.total {
-        return Answer::refused(answers::LIST, 0);
+        return Answer::refused(Refusal::List, 0);
     }
     if h < 1 {
-        return Answer::refused(answers::LIMIT, 0);
+        return Answer::refused(Refusal::Limit, 0);
     }
-    making::answer_in(indices, sizes, magnitude(h), buf, scratch)
+    making::answer_in(indices, sizes, h.unsigned_abs(), buf, scratch)
 }

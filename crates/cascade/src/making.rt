@@ -3,30 +3,25 @@ ghost use Rattle.std.specs.Prelude.{◌≡◌, ◌<◌, length, pos};
 ghost use Rattle.definitions.specs.Requests.{zeros};
 ghost use Rattle.definitions.specs.Cascades.{total_degree};
 ghost use Rattle.answers.specs.Cascade as Cascade;
-ghost use Rattle.cascade.specs.Asked.{SizesAre};
+ghost use Rattle.cascade.specs.Asked.{SizesOf};
 ghost use Rattle.cascade.specs.Making.{Ready, Roomy, ProductIs, making_code, laid};
 
 use crate::asked::Sizes;
-use answers::Answer;
-use next_factor::{SoFar, first_factor, take_factor};
+use answers::{Answer, Refusal};
+use next_factor::{Over, SoFar, first_factor, take_factor};
 
 // The product, one factor after the other; it stops where one is out of range.
-fn make(indices: &[u64], b: &mut [i64], scratch: &mut [i64]) -> SoFar
+fn make(indices: &[u64], b: &mut [i64], scratch: &mut [i64]) -> Result<SoFar, Over>
     requires { (0 < length indices.now) × Roomy indices.now b.old scratch.old }
     ensures product_is { ProductIs indices.now b.new result }
     ensures scratch_len_unchanged { length scratch.new ≡ length scratch.old }
 {
     shapes::clear(b);
     let mut so = first_factor(b, indices[0]);
-    let mut i = 1;
-    while i < indices.len() {
-        so = take_factor(b, scratch, indices[i], so);
-        if so.over {
-            return so;
-        }
-        i += 1;
+    for i in 1..indices.len() {
+        so = take_factor(b, scratch, indices[i], so)?;
     }
-    so
+    Ok(so)
 }
 
 // OVER, TALL or the product, in as many entries as it has. The scratch is cleared whatever comes.
@@ -39,13 +34,13 @@ fn answer_of(indices: &[u64], total: u64, h: u64, b: &mut [i64], scratch: &mut [
 {
     let made = make(indices, b, scratch);
     shapes::clear(scratch);
-    if made.over {
+    let Ok(made) = made else {
         shapes::clear(b);
-        return Answer::refused(answers::OVER, total);
-    }
+        return Answer::refused(Refusal::Over, total);
+    };
     if h < made.height {
         shapes::clear(b);
-        return Answer::refused(answers::TALL, total);
+        return Answer::refused(Refusal::Tall, total);
     }
     Answer {
         code: answers::DONE,
@@ -65,7 +60,7 @@ pub(crate) fn answer_in(
     buf: &mut [i64],
     scratch: &mut [i64],
 ) -> Answer
-    requires { SizesAre indices.now sizes × Ready indices.now h }
+    requires { SizesOf indices.now sizes × Ready indices.now h }
     ensures value { result
         ≡ Cascade.answer indices.now (pos h) (length buf.old) (length scratch.old) }
     ensures buf_after { buf.new
@@ -75,10 +70,10 @@ pub(crate) fn answer_in(
 {
     let total = sizes.total;
     if buf.len() as u64 <= total {
-        return Answer::refused(answers::SHORT, total);
+        return Answer::refused(Refusal::Short, total);
     }
     if scratch.len() as u64 <= sizes.longest {
-        return Answer::refused(answers::SHORT, total);
+        return Answer::refused(Refusal::Short, total);
     }
     let size = total as usize + 1;
     answer_of(indices, total, h, &mut buf[..size], scratch)

@@ -6,47 +6,39 @@
 
 #![tactic(auto)]
 
-ghost use Rattle.std.specs.Prelude.{◌≡◌};
+ghost use Rattle.std.specs.Prelude.{◌≡◌, MatchResult};
 ghost use Rattle.io.specs.Counts.{IsPrefixLen};
 ghost use Rattle.census_lines.specs.Printed.{printed};
 
 use census_lines::MOST;
-use streams::Got;
+use std::io::Write;
+use streams::ReadFailed;
 
 // Reads until there is a newline, or the input ends, or the buffer is full: no more is looked at. A terminal hands over
 // a line of at most 4,096 bytes, so all of it is read, and none is left for the shell.
-fn read_first_line(rt: &HostRuntime, input: &mut [u8]) -> Got
-    ensures { IsPrefixLen result.count input.new }
+fn read_first_line(rt: &HostRuntime, input: &mut [u8]) -> Result<usize, ReadFailed>
+    ensures { MatchResult result (λ n. IsPrefixLen n input.new) (λ e. IsPrefixLen e.after input.new) }
 {
+    // Stays a while: how far a turn comes is what the read gave.
     let mut at = 0;
     while at < input.len() {
-        let got = streams::read_more(&mut rt.stdin(), input, at);
-        let n = got.count;
+        let n = streams::read_more(&mut rt.stdin(), input, at)?;
         if n == 0 {
-            return Got {
-                count: at,
-                failed: got.failed,
-            };
+            break;
         }
         at += n;
         if census_lines::has_newline(&input[..at]) {
-            return Got {
-                count: at,
-                failed: false,
-            };
+            break;
         }
     }
-    Got {
-        count: at,
-        failed: false,
-    }
+    Ok(at)
 }
 
 // Hands a text to a write: all that is printed for an input, which is there for the contract alone.
 fn write_reply(rt: &HostRuntime, input: &[u8], text: &[u8])
     requires { text.now ≡ printed input.now }
 {
-    if !streams::write_whole(&mut rt.stdout(), text) {
+    if rt.stdout().write_all(text).is_err() {
         streams::say(
             rt,
             b"census: writing failed, of",
@@ -64,16 +56,13 @@ fn answer(rt: &HostRuntime, input: &[u8]) {
 
 fn main(rt: HostRuntime) {
     let mut input = [0u8; 4096];
-    let got = read_first_line(&rt, &mut input);
-    let n = got.count;
-    if got.failed {
-        streams::say(
+    match read_first_line(&rt, &mut input) {
+        Ok(n) => answer(&rt, &input[..n]),
+        Err(failed) => streams::say(
             &rt,
             b"census: reading failed after",
-            n as u64,
+            failed.after as u64,
             b" bytes, nothing is written\n",
-        );
-        return;
+        ),
     }
-    answer(&rt, &input[..n]);
 }

@@ -1,56 +1,62 @@
--- When a line is good, from the tests that the code makes in its own order; and that it has at most 19 bytes then.
-use mathlib.Core.Path.{◌≡◌, refl, sym, ◌∙◌}
-use mathlib.Core.Bool.{Bool, true, false, true≢false, ◌&&◌, and-false}
-use mathlib.Core.List.{List}
-use Prim.Native.Nat.{ℕ, ◌+◌, ◌≤◌}
-use native.Mathlib.Omega.{arith}
-use borrow.Author.Tests.{lt-leb, eqb-true}
-use lib.ListN.{length, get_or}
-use lib.Dec.{eqb}
+-- What is read of a first line, part by part: a part that is wrong makes the line wrong, and where none is, it is good.
+use Rattle.std.proofs.Common.{◌≡◌, ℕ, ◌+◌, ◌≤◌, Bool, true, false, ◌&&◌, cond, List, length, get_or, Option, None, Some, refl, sym, ◌∙◌, arith}
+use mathlib.Core.Bool.{and-false, true≢false}
+use Rattle.std.specs.Bool.{then_some}
+use Rattle.std.proofs.Math.Dec.{eqb}
+use borrow.Author.Tests.{eqb-true}
 use Rattle.text.specs.Text.{SPACE}
-use Rattle.digits.specs.Digits.{between, digits_at, number_at, one_to_nine}
+use Rattle.digits.specs.Digits.{digits_at, number_at, one_to_nine, IsNumber}
 use Rattle.digits.proofs.Digits.{nine_range}
-use Rattle.census_lines.specs.Asked.{is_good_with, place_of_b, is_good, no_bounds, bounds_in}
+use Rattle.census_lines.specs.Asked.{is_good_with, place_of_b, is_good, bounds_in}
 use Rattle.census_lines.specs.declared.asked.Bounds.{Bounds}
+
+pub reads_wrong : (l : List ℕ) → is_good l ≡ false → bounds_in l ≡ None
+unfolding bounds_in
+reads_wrong l g = rw g
+
+chosen : (w : Bool) (b : Bounds) → then_some w b ≡ cond w (Some b) None
+chosen true b = refl
+chosen false b = refl
 
 both : (a b : Bool) → (a && b) ≡ true → (a ≡ true) × (b ≡ true)
 both true b e = (refl, e)
 both false b e = absurd (true≢false (sym e))
 
-module _ (l : List ℕ) (p q : ℕ) where
-  pub counted : is_good_with l p q ≡ true → (p ≤ 9) × (q ≤ 9) × (length l ≡ 1 + p + q)
-  unfolding is_good_with
-  counted e =
-      let (first, rest) = both (one_to_nine p) _ e in
-      let (_, last) = both (eqb (get_or l p 0) SPACE) _ rest in
-      let (second, long) = both (one_to_nine q) (eqb (length l) (1 + p + q)) last in
-      ((nine_range p first).1, (nine_range q second).1, eqb-true (length l) (1 + p + q) long)
+module _ (l : List ℕ) where
+  pub no_first : one_to_nine (digits_at l 0) ≡ false → bounds_in l ≡ None
+  unfolding is_good is_good_with
+  no_first h = reads_wrong l (simp h)
 
-  too_many : 10 ≤ p → is_good_with l p q ≡ false
-  unfolding is_good_with between
-  too_many h = simp (lt-leb p 9 h, and-false)
+  pub no_space : eqb (get_or l (digits_at l 0) 0) SPACE ≡ false → bounds_in l ≡ None
+  unfolding is_good is_good_with
+  no_space h = reads_wrong l (simp (h, and-false))
 
-  pub good_as : p ≡ digits_at l 0 → q ≡ digits_at l (1 + p) → is_good_with l p q ≡ is_good l
-  unfolding is_good place_of_b
-  good_as e f = rw (f, e)
+  pub no_second : one_to_nine (digits_at l (1 + digits_at l 0)) ≡ false → bounds_in l ≡ None
+  unfolding is_good is_good_with place_of_b
+  no_second h = reads_wrong l (simp (h, and-false))
 
--- a of ten digits or more; where b stands
-pub too_many_good : (l : List ℕ) (p : ℕ) → p ≡ digits_at l 0 → 10 ≤ p → is_good l ≡ false
-too_many_good l p e h = sym (good_as l p (digits_at l (1 + p)) e refl) ∙ too_many l p (digits_at l (1 + p)) h
+  all_of_it : one_to_nine (digits_at l 0) ≡ true → eqb (get_or l (digits_at l 0) 0) SPACE ≡ true
+      → one_to_nine (digits_at l (1 + digits_at l 0)) ≡ true
+      → then_some (eqb (length l) (1 + digits_at l 0 + digits_at l (1 + digits_at l 0)))
+      (record { a = number_at l 0; b = number_at l (1 + digits_at l 0) })
+      ≡ bounds_in l
+  unfolding bounds_in is_good is_good_with place_of_b
+  all_of_it f s g = simp (f, s, g) (chosen _ _)
 
-pub second : (l : List ℕ) (p : ℕ) → p ≡ digits_at l 0 → number_at l (1 + p) ≡ number_at l (place_of_b l)
-unfolding place_of_b
-second l p e = rw e
+  -- where all parts are right, the line is good if that is all of it
+  pub reads_all : (p a q b : ℕ) (r : Option Bounds) → IsNumber l 0 (Some (p, a)) → eqb (get_or l p 0) SPACE ≡ true
+      → IsNumber l (1 + p) (Some (q, b)) → r ≡ then_some (eqb (length l) (1 + p + q)) (record { a = a; b = b })
+      → r ≡ bounds_in l
+  reads_all p a q b r f s g e =
+      let gap = rw f.1 at s in
+      let second = rw f.1 at g in
+      e ∙ rw (f.2, second.2, second.1, f.1) (all_of_it f.0 gap second.0)
 
-pub good_short : (l : List ℕ) → is_good l ≡ true → length l ≤ 19
-unfolding is_good
-good_short l e = omega (arith, counted l (digits_at l 0) (digits_at l (place_of_b l)) e)
-
-pub reads_good : (l : List ℕ) (a b : ℕ) → is_good l ≡ true → a ≡ number_at l 0 → b ≡ number_at l (place_of_b l)
-    → ◌≡◌ {A = Bounds} (record { good = true; a = a; b = b }) (bounds_in l)
-unfolding bounds_in
-reads_good l a b g e f = rw g (λ i. record { good = true; a = e i; b = f i })
-
-pub reads_wrong : (l : List ℕ) → is_good l ≡ false → bounds_in l ≡ no_bounds
-unfolding bounds_in
-reads_wrong l g = rw g
+  pub good_short : is_good l ≡ true → length l ≤ 19
+  unfolding is_good is_good_with
+  good_short e =
+      let p = digits_at l 0 in
+      let q = digits_at l (place_of_b l) in
+      let first = both (one_to_nine p) (eqb (get_or l p 0) SPACE && (one_to_nine q && eqb (length l) (1 + p + q))) e in
+      let second = both (one_to_nine q) (eqb (length l) (1 + p + q)) (both (eqb (get_or l p 0) SPACE) _ first.1).1 in
+      omega (arith, nine_range p first.0, nine_range q second.0, eqb-true (length l) (1 + p + q) second.1)

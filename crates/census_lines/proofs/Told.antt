@@ -1,7 +1,7 @@
 -- What a census answers, and leaves in the numbers that are lent to it, is what is printed for its bounds; and those
 -- are read from the first line.
 use mathlib.Core.Path.{◌≡◌, refl, sym, ◌∙◌, ap, ap₂}
-use mathlib.Core.Bool.{true, false, not}
+use mathlib.Core.Bool.{not}
 use mathlib.Core.List.{List, ◌++◌}
 use Prim.Native.Nat.{ℕ, suc, ◌*◌, ◌/◌, ◌≤◌}
 use native.Mathlib.Omega.{arith}
@@ -9,6 +9,7 @@ use borrow.Author.Tests.{ne_eqb, ltb-false}
 use lib.ListN.{length, take}
 use lib.Seq.{take_at}
 use lib.Dec.{ltb}
+use Rattle.std.specs.Prelude.{None, Some}
 use Rattle.definitions.specs.Codes.{DONE, SHORT, RANGE, ROWS}
 use Rattle.step_laws.specs.Tests.{past}
 use Rattle.counting.specs.declared.Counted.{Counted}
@@ -65,11 +66,11 @@ module _ (a b : ℕ) where
           rw (← code_is, done, all) refl
 
 -- the reply to the bounds in the first line
-module _ (input : List ℕ) (asked : Bounds) (e : asked ≡ bounds_in (first_line input)) where
-  pub replied : asked.good ≡ true → reply asked.a asked.b ≡ printed input
+module _ (input : List ℕ) where
+  pub replied : (asked : Bounds) → Some asked ≡ bounds_in (first_line input) → reply asked.a asked.b ≡ printed input
   unfolding printed reply_to
-  replied g = rw (← e, g)
+  replied asked e = rw (← e)
 
-  pub replied_wrong : asked.good ≡ false → wrong ≡ printed input
+  pub replied_wrong : None ≡ bounds_in (first_line input) → wrong ≡ printed input
   unfolding printed reply_to
-  replied_wrong g = rw (← e, g)
+  replied_wrong e = rw (← e)

@@ -1,6 +1,6 @@
 -- What an input asks for, by its first line alone: a, a space and b, each number 1 to 9 digits as in the listing,
 -- leading zeros allowed, and nothing else.
-use Rattle.std.specs.Prelude.{ℕ, ◌+◌, Bool, true, false, cond, ◌&&◌, List, [], ◌∷◌, length, get_or, eqb}
+use Rattle.std.specs.Prelude.{ℕ, ◌+◌, Option, None, Some, Bool, cond, ◌&&◌, List, [], ◌∷◌, length, get_or, eqb}
 use Rattle.text.specs.Text.{NEWLINE, SPACE}
 use Rattle.digits.specs.Digits.{digits_at, number_at, one_to_nine}
 use Rattle.census_lines.specs.declared.asked.Bounds.{Bounds}
@@ -21,9 +21,6 @@ place_of_b line = 1 + digits_at line 0
 unfoldable pub is_good : List ℕ → Bool
 is_good line = is_good_with line (digits_at line 0) (digits_at line (place_of_b line))
 
-unfoldable pub no_bounds : Bounds
-no_bounds = record { good = false; a = 0; b = 0 }
-
-unfoldable pub bounds_in : List ℕ → Bounds
-bounds_in line =
-    cond (is_good line) (record { good = true; a = number_at line 0; b = number_at line (place_of_b line) }) no_bounds
+-- the two bounds, and nothing where the line isn't good
+unfoldable pub bounds_in : List ℕ → Option Bounds
+bounds_in line = cond (is_good line) (Some (record { a = number_at line 0; b = number_at line (place_of_b line) })) None

@@ -9,7 +9,7 @@ use Rattle.text.specs.Text.{decimal_in, decimal, sign, signed, spaced}
 use Rattle.digits.specs.Digits.{between, digits, value_from, value_of, digits_at, number_at}
 use Rattle.counting.specs.Census.{indices, from_to, with_height, tallest, row_of, rows_below, rows_of, census, good_range}
 use Rattle.counting.specs.Census.{census_code}
-use Rattle.census_lines.specs.Asked.{first_line, is_good_with, place_of_b, is_good, no_bounds, bounds_in}
+use Rattle.census_lines.specs.Asked.{first_line, is_good_with, place_of_b, is_good, bounds_in}
 use Rattle.census_lines.specs.Printed.{two_more, word, heading_of, row_line, row_lines, refusal, wrong, table}
 use Rattle.census_lines.specs.Printed.{told, reply, reply_to, printed}
 
@@ -37,6 +37,6 @@ not_good :
     (printed [] ≡ 63 ∷ 10 ∷ []) × (printed (53 ∷ []) ≡ 63 ∷ 10 ∷ [])
     × (printed (49 ∷ 32 ∷ 32 ∷ 53 ∷ []) ≡ 63 ∷ 10 ∷ []) × (printed (49 ∷ 32 ∷ 53 ∷ 32 ∷ []) ≡ 63 ∷ 10 ∷ [])
     × (printed (49 ∷ 32 ∷ 48 ∷ 48 ∷ 48 ∷ 48 ∷ 48 ∷ 48 ∷ 48 ∷ 48 ∷ 48 ∷ 53 ∷ []) ≡ 63 ∷ 10 ∷ [])
-unfolding printed reply_to wrong bounds_in no_bounds is_good is_good_with place_of_b first_line number_at digits_at value_of
+unfolding printed reply_to wrong bounds_in is_good is_good_with place_of_b first_line number_at digits_at value_of
     value_from digits between
 not_good = (refl, refl, refl, refl, refl)

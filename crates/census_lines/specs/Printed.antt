@@ -1,6 +1,6 @@
 -- What is printed for an input: the heading and the rows; for a refusal its code alone; for a first line that is not
 -- good, `?`. Numbers are decimal without leading zeros, with one space between two, and each line ends in a newline.
-use Rattle.std.specs.Prelude.{ℕ, cond, List, [], ◌∷◌, ◌++◌, eqb, pos}
+use Rattle.std.specs.Prelude.{ℕ, Option, None, Some, cond, List, [], ◌∷◌, ◌++◌, eqb, pos}
 use Rattle.definitions.specs.Codes.{DONE}
 use Rattle.text.specs.Text.{NEWLINE, QUERY, decimal, spaced}
 use Rattle.counting.specs.Census.{census, census_code}
@@ -56,8 +56,9 @@ told a b code = cond (eqb code DONE) (table a b) (refusal code)
 unfoldable pub reply : (a b : ℕ) → List ℕ
 reply a b = told a b (census_code a b SLOTS ENTRIES)
 
-unfoldable pub reply_to : Bounds → List ℕ
-reply_to asked = cond asked.good (reply asked.a asked.b) wrong
+unfoldable pub reply_to : Option Bounds → List ℕ
+reply_to None = wrong
+reply_to (Some asked) = reply asked.a asked.b
 
 unfoldable pub printed : List ℕ → List ℕ
 printed input = reply_to (bounds_in (first_line input))

@@ -1,14 +1,13 @@
 // The first line of an input, and the bounds that it asks for.
 
 ghost use Rattle.std.specs.Prelude.{◌≡◌, ◌≤◌, length, take, ltb};
-ghost use Rattle.census_lines.specs.Asked.{first_line, is_good_with, bounds_in};
+ghost use Rattle.census_lines.specs.Asked.{first_line, bounds_in};
 
-use digits::{between, byte_at, digits_at, number_at};
+use digits::{byte_at, number};
 
-// What a line asks for: the two bounds; or it is not good, and both are 0.
+// What a good line asks for: the two bounds.
 #[derive(Drop)]
 pub(crate) struct Bounds {
-    pub(crate) good: bool,
     pub(crate) a: u64,
     pub(crate) b: u64,
 }
@@ -18,14 +17,7 @@ pub(crate) fn first_line_end(input: &[u8]) -> usize
     ensures upper_bound { result ≤ length input.now }
     ensures input_value { take result input.now ≡ first_line input.now }
 {
-    let mut i = 0;
-    while i < input.len() {
-        if input[i] == b'\n' {
-            return i;
-        }
-        i += 1;
-    }
-    i
+    input.iter().take_while(|b| **b != b'\n').count()
 }
 
 // Inner, for the program `census`: is the first line whole? Then what comes after it makes no difference, and need not
@@ -36,39 +28,15 @@ pub fn has_newline(input: &[u8]) -> bool
     first_line_end(input) < input.len()
 }
 
-// The line has a of p digits, b of q digits, a space between, and nothing else.
-fn is_good_with(line: &[u8], p: usize, q: usize) -> bool
-    ensures { result ≡ is_good_with line.now p q }
-{
-    if !between(1, 9, p) {
-        return false;
-    }
-    if !between(1, 9, q) {
-        return false;
-    }
-    if byte_at(line, p) != b' ' {
-        return false;
-    }
-    line.len() == 1 + p + q
-}
-
-pub(crate) fn read_bounds(line: &[u8]) -> Bounds
+// A number, a space, a number, and nothing else; `None` where the line isn't good.
+pub(crate) fn read_bounds(line: &[u8]) -> Option<Bounds>
     ensures { result ≡ bounds_in line.now }
 {
-    let p = digits_at(line, 0);
-    if p < 10 {
-        let q = digits_at(line, 1 + p);
-        if is_good_with(line, p, q) {
-            return Bounds {
-                good: true,
-                a: number_at(line, 0, p),
-                b: number_at(line, 1 + p, q),
-            };
-        }
+    let (p, a) = number(line, 0)?;
+    if byte_at(line, p) != b' ' {
+        return None;
     }
-    Bounds {
-        good: false,
-        a: 0,
-        b: 0,
-    }
+    let (q, b) = number(line, 1 + p)?;
+    let whole = line.len() == 1 + p + q;
+    whole.then_some(Bounds { a, b })
 }

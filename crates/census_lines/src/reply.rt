@@ -46,10 +46,8 @@ fn put_rows(out: &mut [u8], at: usize, rows: &[u64], count: usize) -> usize
     ensures upper_bound { result ≤ at + 63 * count }
 {
     let mut p = at;
-    let mut i = 0;
-    while i < count {
+    for i in 0..count {
         p = put_row(out, p, rows[3 * i], rows[3 * i + 1], rows[3 * i + 2]);
-        i += 1;
     }
     p
 }
@@ -88,10 +86,9 @@ pub fn answer_input(input: &[u8], out: &mut [u8]) -> usize
         return 0;
     }
     let end = first_line_end(input);
-    let asked = read_bounds(&input[..end]);
-    if !asked.good {
+    let Some(asked) = read_bounds(&input[..end]) else {
         return put_text(out, 0, b"?\n");
-    }
+    };
     let mut rows = [0u64; 192];
     let mut work = [0i64; 4096];
     put_reply(out, asked.a, asked.b, &mut rows, &mut work)

@@ -1,7 +1,8 @@
--- How many chains a group can have, by how it is tested (passes: KNOWN, NARROW, WIDE): as many as there is a loop for.
-use Rattle.std.specs.Prelude.{ℕ, zero, suc, ◌<◌, ◌≤◌, ◌≡◌}
+-- How many chains a group can have, by how it is tested: as many as there is a loop for.
+use Rattle.std.specs.Prelude.{ℕ, ◌<◌, ◌≤◌, ◌≡◌}
+use Rattle.entry_steps.specs.Asked.{Way, known, narrow, wide}
 
-abbrev pub WidthOf : ℕ → ℕ → Type 0
-WidthOf zero g = (g ≤ 16) × (g < 16 → g ≤ 8)
-WidthOf (suc zero) g = g ≤ 6
-WidthOf (suc (suc _)) g = g ≡ 1
+abbrev pub WidthOf : Way → ℕ → Type 0
+WidthOf known g = (g ≤ 16) × (g < 16 → g ≤ 8)
+WidthOf narrow g = g ≤ 6
+WidthOf wide g = g ≡ 1

@@ -3,7 +3,7 @@
 use mathlib.Core.Path.{◌≡◌, refl, sym, ◌∙◌, ap, ap₂, subst}
 use mathlib.Core.Bool.{false}
 use mathlib.Core.List.{List}
-use Prim.Native.Nat.{ℕ, zero, suc, ◌+◌, ◌-◌, ◌%◌, ◌<◌, ◌≤◌}
+use Prim.Native.Nat.{ℕ, ◌+◌, ◌-◌, ◌%◌, ◌<◌, ◌≤◌}
 use native.Mathlib.Nat.{mod-eq_of_lt, mod-eq-sub-mod, add-mod_right}
 use native.Mathlib.Omega.{arith}
 use lib.ListN.{length, get_or}
@@ -15,6 +15,7 @@ use Rattle.step_laws.specs.Chain.{in_row, next_row_lem}
 use Rattle.step_laws.specs.Signed.{range_in}
 use Rattle.step_laws.specs.Tests.{by_order}
 use Rattle.entry_steps.specs.Passes.{addable, Narrow}
+use Rattle.entry_steps.specs.Asked.{Way, known, narrow, wide}
 use Rattle.chains.specs.Chains.{sum_at, RowTaken, Each, Taken}
 use Rattle.chains.specs.Tested.{AskedInRow, FoundInRow, Found, AskedOfGroup, Tested, GroupTaken}
 
@@ -132,18 +133,18 @@ module _ (d c g : ℕ) (one : 1 ≤ d) (room : c + g ≤ d) where
         ))
 
     -- what is asked of the group is asked of the row
-    pub asked-row : (t : ℕ) → AskedOfGroup t w d c (c + g) l → (j : ℕ) → j < g → k + j < length l
+    pub asked-row : (t : Way) → AskedOfGroup t w d c (c + g) l → (j : ℕ) → j < g → k + j < length l
         → AskedInRow t w s a k j
     unfolding entries
-    asked-row zero asked j h b =
+    asked-row known asked j h b =
         let r = member k p.first j h in
         ap (in_range w) (row_sum_lem j h b)
         ∙ asked (k + j) (omega (arith, r)) (omega (arith, r)) b b (omega (arith, p.from))
-    asked-row (suc zero) n j h b = (
+    asked-row narrow n j h b = (
       rw (p.tested.taken.later (k + j) (omega arith) b) (n.small (k + j)),
       rw (p.sums j h) (small_sum n j h b (k - d + j) (omega (arith, p.from))),
     )
-    asked-row (suc (suc _)) _ j h b = tt
+    asked-row wide _ j h b = tt
 
     -- its first q entries
     module _ {q : ℕ} {s' a' : List ℤ} (r : RowTaken k q s a s' a') (most : q ≤ g) (in' : k + q ≤ length l)
@@ -209,26 +210,6 @@ module _ (d c g : ℕ) (one : 1 ≤ d) (room : c + g ≤ d) where
           sums = λ j h.
               let back : k + d - d + j ≡ k + j = omega arith in
               r.carried j h ∙ row_sum_lem j h (omega arith) ∙ ap (accumulated d (entries l)) (sym back);
-        }
-
-    -- past the last one
-    pub group_ended : d ≤ length l → length l ≤ k → GroupTaken w d c (c + g) l a (length l)
-    group_ended long past =
-        let t = p.tested.taken in
-        record {
-          tested = record {
-            taken = record {
-              len = t.len;
-              new = λ x low high below b. t.new x low high (omega arith) b;
-              lower = t.lower;
-              upper = t.upper;
-              later = λ x h b. absurd (early b h);
-            };
-            found = λ x low high below b. p.tested.found x low high (omega arith) b;
-          };
-          first = long;
-          most = omega arith;
-          over = λ short. absurd (early short (omega arith));
         }
 
 -- the same, its numbers written otherwise

@@ -1,3 +1,2 @@
 -- Laws that the functions' proofs share, here, in `chain_groups` and in `accumulates`.
-mod RowTaken
 pub mod Group

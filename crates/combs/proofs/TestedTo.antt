@@ -3,7 +3,7 @@
 use mathlib.Core.Path.{◌≡◌, sym, ◌∙◌, ap, subst}
 use mathlib.Core.Bool.{true}
 use mathlib.Core.List.{List}
-use Prim.Native.Nat.{ℕ, zero, suc, ◌+◌, ◌-◌, ◌<◌, ◌≤◌}
+use Prim.Native.Nat.{ℕ, ◌+◌, ◌-◌, ◌<◌, ◌≤◌}
 use native.Mathlib.Nat.{not-le_of_lt}
 use native.Mathlib.Omega.{arith}
 use lib.ListN.{length, set, get_or-eq_default}
@@ -17,7 +17,7 @@ use Rattle.step_laws.specs.Signed.{range_in}
 use Rattle.step_laws.specs.Step.{not-over_each}
 use Rattle.step_laws.specs.Tests.{by_order}
 use Rattle.entry_steps.specs.Passes.{new_entry, addable, Narrow}
-use Rattle.entry_steps.specs.Asked.{AskedAt, AskedOfStep}
+use Rattle.entry_steps.specs.Asked.{Way, known, narrow, wide, AskedAt, AskedOfStep}
 use Rattle.combs.specs.Combs.{ReadTo, TestedTo}
 use Rattle.combs.proofs.CombedTo.{start, new_is, next, back, old_is}
 
@@ -65,13 +65,13 @@ module _ {w d : ℕ} {l m : List ℤ} {i : ℕ} (p : TestedTo w d l m i) where
       (λ out. rw (get_or-eq_default m 0ℤ {n = k} (omega arith)) (omega arith))
 
   -- what is asked of the step is asked of the next place
-  pub asked-next : (k : ℕ) → d ≤ k → k < i → (t : ℕ) → AskedOfStep t w comb d l → AskedAt t w comb d m k
+  pub asked-next : (k : ℕ) → d ≤ k → k < i → (t : Way) → AskedOfStep t w comb d l → AskedAt t w comb d m k
   unfolding entries
-  asked-next k h b zero none =
+  asked-next k h b known none =
       ap (in_range w) (new_is p.read.done k h b)
       ∙ not-over_each comb d l w none k h (omega (arith, p.read.done.most))
-  asked-next k h b (suc zero) n = (still_small n k, still_small n (k - d))
-  asked-next k h b (suc (suc _)) _ = tt
+  asked-next k h b narrow n = (still_small n k, still_small n (k - d))
+  asked-next k h b wide _ = tt
 
 -- one place back
 module _ {d : ℕ} {l m : List ℤ} {i : ℕ} (p : ReadTo d l m i) (one : 1 ≤ d) (b : i < length l) where

@@ -1,15 +1,17 @@
 // The converter, over the form of what it is given: looks at everything, then stores.
-ghost use Rattle.std.specs.Prelude.{◌≡◌, ◌≤◌, ◌++◌, length, drop};
+ghost use Rattle.std.specs.Prelude.{◌≡◌, ℕ, ◌≤◌, ◌++◌, length, drop};
 ghost use Rattle.definitions.specs.Codes.{DONE};
+ghost use Rattle.answers.specs.Refusals.{number_of, code_of};
 ghost use Rattle.record.specs.Header.{kind_in, index_in};
 ghost use Rattle.forms.specs.Format.{record_of, uneven_for, coefficients_in, size_in, look_code};
-ghost use Rattle.conversions.specs.Converting.{other, convert_answer, convert_leaves};
+ghost use Rattle.conversions.specs.Converting.{other, convert_code, convert_tells, convert_answer, convert_leaves};
 ghost use Rattle.conversions.specs.Front.{front};
 
 use super::Converted;
+use answers::Refusal;
 use forms::{Form, mark_of};
 use half_passes::{copy, put_other};
-use reading::{negates_in, size_in};
+use reading::{look, negates_in, size_in};
 use record::{byte_of, count_in, width_in};
 
 fn other_of(form: Form) -> Form
@@ -76,29 +78,54 @@ fn store(bytes: &[u8], from: Form, out: &mut [u8])
     }
 }
 
+// Refuses what reading does but for the room, then what the other form does not take, then too little room for it.
+fn check(bytes: &[u8], from: Form, room: usize) -> Result<(), Refusal>
+    ensures { code_of result ≡ convert_code from bytes.now room }
+{
+    look(bytes, from)?;
+    let uneven = uneven_from(bytes, from);
+    let short = room < size_in(bytes, other_of(from));
+    if uneven {
+        return Err(Refusal::Uneven);
+    }
+    if short {
+        return Err(Refusal::Short);
+    }
+    Ok(())
+}
+
+// What is told with a refusal.
+fn refused(bytes: &[u8], from: Form, refusal: Refusal) -> Converted
+    requires { (room : ℕ) × (convert_code from bytes.now room ≡ number_of refusal) }
+    ensures { result ≡ convert_tells from bytes.now (number_of refusal) }
+{
+    match refusal {
+        Refusal::Short => Converted::refused(refusal, count_in(bytes) - 1, 0),
+        _ => Converted::refused(refusal, 0, byte_of(refusal)),
+    }
+}
+
+// What is told of a record that is converted.
+fn told(bytes: &[u8], from: Form) -> Converted
+    requires { look_code from bytes.now ≡ DONE }
+    ensures { result ≡ convert_tells from bytes.now DONE }
+{
+    Converted {
+        code: answers::DONE,
+        degree: count_in(bytes) - 1,
+        read: size_in(bytes, from) as u64,
+        written: size_in(bytes, other_of(from)) as u64,
+        byte: 0,
+    }
+}
+
 pub(crate) fn convert(bytes: &[u8], from: Form, out: &mut [u8]) -> Converted
     ensures answer { result ≡ convert_answer from bytes.now (length out.old) }
     ensures leaves { out.new ≡ convert_leaves from bytes.now out.old }
 {
-    let code = reading::look(bytes, from);
-    if code != answers::DONE {
-        return Converted::refused(code, 0, byte_of(code));
-    }
-    let uneven = uneven_from(bytes, from);
-    let written = size_in(bytes, other_of(from));
-    let degree = count_in(bytes) - 1;
-    if uneven {
-        return Converted::refused(answers::UNEVEN, 0, 0);
-    }
-    if out.len() < written {
-        return Converted::refused(answers::SHORT, degree, 0);
+    if let Err(refusal) = check(bytes, from, out.len()) {
+        return refused(bytes, from, refusal);
     }
     store(bytes, from, out);
-    Converted {
-        code: answers::DONE,
-        degree,
-        read: size_in(bytes, from) as u64,
-        written: written as u64,
-        byte: 0,
-    }
+    told(bytes, from)
 }

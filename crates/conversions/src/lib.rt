@@ -6,8 +6,10 @@
 mod converter;
 
 ghost use Rattle.std.specs.Prelude.{◌≡◌, length};
+ghost use Rattle.answers.specs.Refusals.{number_of};
 ghost use Rattle.conversions.specs.Converting.{convert_answer, convert_leaves};
 
+use answers::Refusal;
 use converter::convert;
 use forms::Form;
 
@@ -25,11 +27,11 @@ pub struct Converted {
 
 impl Converted {
     // A refusal: the degree is told with SHORT only, the byte where a field of the header is wrong.
-    pub(crate) fn refused(code: u64, degree: u64, byte: u64) -> Converted
-        ensures { result ≡ record { code = code; degree = degree; read = 0; written = 0; byte = byte } }
+    pub(crate) fn refused(refusal: Refusal, degree: u64, byte: u64) -> Converted
+        ensures { result ≡ record { code = number_of refusal; degree = degree; read = 0; written = 0; byte = byte } }
     {
         Converted {
-            code,
+            code: refusal.into(),
             degree,
             read: 0,
             written: 0,

@@ -1,12 +1,12 @@
 -- The answer and what is left, by the code: the bounds are good and there are 4,096 entries, or one of the two is not
 -- so.
-use Prim.Native.Nat.{ℕ, suc, ◌+◌, ◌*◌, ◌-◌, ◌/◌, ◌≤◌, ◌<◌}
+use Prim.Native.Nat.{ℕ, suc, ◌+◌, ◌-◌, ◌/◌, ◌≤◌, ◌<◌}
 use mathlib.Core.Path.{◌≡◌, refl, sym, ◌∙◌, ap}
 use mathlib.Core.Bool.{Bool, true, false, cond}
 use mathlib.Core.List.{List, ◌++◌}
 use native.Mathlib.Omega.{arith}
-use borrow.Author.Tests.{lt-ltb, le-ltb, leb-true, leb-false, le-leb, lt-leb}
-use lib.Dec.{leb, ltb}
+use borrow.Author.Tests.{lt-ltb, le-ltb}
+use lib.Dec.{ltb}
 use lib.ListN.{length, take, drop, length-drop, length-replicate}
 use lib.Seq.{length-take-le}
 use lib.IntN.{ℤ}
@@ -14,7 +14,7 @@ use Rattle.definitions.specs.Integers.{0ℤ}
 use Rattle.definitions.specs.Codes.{DONE, SHORT, RANGE, ROWS}
 use Rattle.definitions.specs.Requests.{written, zeros}
 use Rattle.numbers.specs.Tests.{test_and, test_le}
-use Rattle.counting.specs.declared.passes.Laid.{Laid}
+use Rattle.std.specs.Prelude.{Some, None}
 use Rattle.counting.specs.Census.{indices, from_to, census, rows_of, all_additions, good_range, census_code, answered}
 use Rattle.counting.specs.Census.{answer, leaves, cleared_by, clears}
 use Rattle.counting.specs.Passes.{Heights, LaidIs, heights_of}
@@ -46,13 +46,6 @@ module _ (a b : ℕ) (w : List ℤ) (low : 1 ≤ a) (order : a ≤ b) (high : b 
   pub rows_are : rows_of (indices a (length (take (b + 1 - a) (drop a w)))) ≡ census a b
   unfolding census from_to
   rows_are = ap (λ k. rows_of (indices a k)) count
-
--- ---- a third of the numbers lent, and the rows
-pub too_few : (all slots rows : ℕ) → 3 * rows ≡ all → slots / 3 < rows → false ≡ leb all slots
-too_few all slots rows e l = sym (lt-leb all slots (omega arith))
-
-pub enough_for : (all slots rows : ℕ) → 3 * rows ≡ all → rows ≤ slots / 3 → true ≡ leb all slots
-enough_for all slots rows e l = sym (le-leb all slots (omega arith))
 
 zeros-long : length (zeros 4096) ≡ 4096
 unfolding zeros
@@ -100,24 +93,19 @@ module _ (a b : ℕ) (rows : List ℕ) (work : List ℤ) where
           go false = refl
 
 -- ---- by whether the rows fit
-module _ (a b : ℕ) (good : good_range a b ≡ true) (rows₀ rows : List ℕ) (r : Laid)
-    (L : LaidIs (census a b) rows₀ rows r) where
-  pub not_fit : r.fit ≡ false
+module _ (a b : ℕ) (good : good_range a b ≡ true) (rows₀ rows : List ℕ) where
+  pub not_fit : LaidIs (census a b) rows₀ rows None
       → (answer a b (length rows₀) 4096 ≡ record { code = ROWS; rows = 0; additions = 0 })
       × (rows ≡ leaves a b rows₀ 4096)
   unfolding answer answered leaves census_code
-  not_fit e =
-      let more : ltb (length rows₀) (length (census a b)) ≡ true =
-      lt-ltb _ _ (leb-false (length (census a b)) (length rows₀) (sym L.fit ∙ e)) in
-      (rw (good, more) refl, L.left ∙ rw (good, more, e) refl)
+  not_fit L = let more = lt-ltb _ _ L.0 in (rw (good, more) refl, L.1 ∙ rw (good, more) refl)
 
-  pub fits_all : r.fit ≡ true
+  pub fits_all : (count : ℕ) → LaidIs (census a b) rows₀ rows (Some count)
       → (answer a b (length rows₀) 4096
-      ≡ record { code = DONE; rows = r.count; additions = all_additions (from_to a b) })
+      ≡ record { code = DONE; rows = count; additions = all_additions (from_to a b) })
       × (rows ≡ leaves a b rows₀ 4096)
   unfolding answer answered leaves census_code
-  fits_all e =
-      let enough : ltb (length rows₀) (length (census a b)) ≡ false =
-      le-ltb _ _ (leb-true (length (census a b)) (length rows₀) (sym L.fit ∙ e)) in
-      let third : length (census a b) / 3 ≡ r.count = omega (arith, L.many) in
-      (rw (good, enough, third) refl, L.left ∙ rw (good, enough, e) refl)
+  fits_all count L =
+      let enough = le-ltb _ _ L.0 in
+      let third : length (census a b) / 3 ≡ count = omega (arith, L.1) in
+      (rw (good, enough, third) refl, L.2 ∙ rw (good, enough) refl)

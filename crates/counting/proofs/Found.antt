@@ -3,17 +3,18 @@
 -- none is due all rows are there (`rows_none`).
 use Prim.Native.Nat.{ℕ, zero, suc, ◌+◌, ◌-◌, ◌≤◌, ◌<◌}
 use mathlib.Core.Path.{◌≡◌, refl, sym, ◌∙◌, ap}
-use mathlib.Core.Bool.{Bool, true, false, cond, ◌||◌}
+use mathlib.Core.Bool.{Bool, true, false, cond}
 use mathlib.Core.List.{List, [], ◌∷◌, ◌++◌, append-nil}
 use native.Mathlib.Omega.{arith}
 use native.Mathlib.Nat as NatL
 use borrow.Author.Tests.{ltb-true, ltb-false, eq-eqb, ne_eqb}
-use lib.Dec.{eqb, ltb}
+use lib.Dec.{ltb}
 use lib.ListN.{length}
 use Rattle.definitions.specs.Answer.{height}
+use Rattle.std.specs.Prelude.{Option, Some, None, IfSome}
 use Rattle.counting.specs.declared.passes.Row.{Row}
 use Rattle.counting.specs.Census.{indices, with_height, tallest, row_of, rows_below, rows_of}
-use Rattle.counting.specs.Passes.{no_row, row_list, joined_to, next_row}
+use Rattle.counting.specs.Passes.{row_list, first_of, row_with, joined_to, next_row}
 
 -- one index more, of another height or of this one
 with_other : (h n : ℕ) (ns : List ℕ) → (height 1 n ≡ h → ⊥) → with_height h (n ∷ ns) ≡ with_height h ns
@@ -37,9 +38,9 @@ pub record Least (due : ℕ) (ns : List ℕ) (row : Row) : Type 0 where
   pub free : Free due row.height ns
   pub most : row.height ≤ tallest ns
 
-pub data Found (due : ℕ) (ns : List ℕ) (row : Row) : Type 0 where
-  none : row.count ≡ 0 → ((h : ℕ) → due ≤ h → with_height h ns ≡ []) → Found due ns row
-  some : Least due ns row → Found due ns row
+abbrev pub Found : (due : ℕ) → List ℕ → Option Row → Type 0
+Found due ns None = (h : ℕ) → due ≤ h → with_height h ns ≡ []
+Found due ns (Some row) = Least due ns row
 
 module _ (due n : ℕ) (ns : List ℕ) where
   taller : tallest ns ≤ tallest (n ∷ ns)
@@ -86,51 +87,44 @@ module _ (due n : ℕ) (ns : List ℕ) where
     most = new_tallest;
   }
 
-  join_found : (row : Row) → Found due ns row → Found due (n ∷ ns) (joined_to due (height 1 n) n row)
-  unfolding joined_to
-  join_found row f = by_due (ltb (height 1 n) due) refl f
+  -- one of a height that is due: it is below the row's, above it, or the same
+  with_least : (row : Row) → Least due ns row → due ≤ height 1 n → Least due (n ∷ ns) (row_with (height 1 n) n row)
+  unfolding row_with
+  with_least row l d = by_less (ltb (height 1 n) row.height) refl
     where
       again : Row
       again = record { height = height 1 n; smallest = n; count = suc row.count }
 
-      new : Row
-      new = record { height = height 1 n; smallest = n; count = 1 }
+      by_more : (b : Bool) → ltb row.height (height 1 n) ≡ b → row.height ≤ height 1 n
+          → Least due (n ∷ ns) (cond b row again)
+      by_more true e m = stays row l (λ h g k x. omega (arith, ltb-true row.height (height 1 n) e))
+      by_more false e m = joins row l (omega (arith, ltb-false row.height (height 1 n) e))
 
-      -- by whether the height is above the row's
-      by_more : Least due ns row → (b : Bool) → ltb row.height (height 1 n) ≡ b → row.height ≤ height 1 n
-          → Found due (n ∷ ns) (cond b row again)
-      by_more l true e m = some (stays row l (λ h g k x. omega (arith, ltb-true row.height (height 1 n) e)))
-      by_more l false e m = some (joins row l (omega (arith, ltb-false row.height (height 1 n) e)))
+      by_less : (b : Bool) → ltb (height 1 n) row.height ≡ b
+          → Least due (n ∷ ns) (cond b (first_of (height 1 n) n) (cond (ltb row.height (height 1 n)) row again))
+      by_less true e = begins d (λ h g k. l.free h g (omega (arith, ltb-true (height 1 n) row.height e)))
+      by_less false e = by_more (ltb row.height (height 1 n)) refl (ltb-false (height 1 n) row.height e)
 
-      -- by whether it is below
-      by_less : due ≤ height 1 n → Least due ns row → (b : Bool) → ltb (height 1 n) row.height ≡ b
-          → Found due (n ∷ ns) (cond b new (cond (ltb row.height (height 1 n)) row again))
-      by_less d l true e =
-          some (begins d (λ h g k. l.free h g (omega (arith, ltb-true (height 1 n) row.height e))))
-      by_less d l false e =
-          by_more l (ltb row.height (height 1 n)) refl (ltb-false (height 1 n) row.height e)
-
-      -- by whether it is due
-      by_due : (b : Bool) → ltb (height 1 n) due ≡ b → Found due ns row
-          → Found due (n ∷ ns)
-          (cond b row
-          (cond (eqb row.count 0 || ltb (height 1 n) row.height) new
-          (cond (ltb row.height (height 1 n)) row again)))
-      by_due true e (none c free) =
-          none c (λ h l. with_other h n ns (λ x. omega (arith, ltb-true (height 1 n) due e)) ∙ free h l)
-      by_due true e (some l) = some (stays row l (λ h g k x. omega (arith, ltb-true (height 1 n) due e)))
-      by_due false e (none c free) =
-          rw (eq-eqb row.count 0 c) (some (begins (ltb-false (height 1 n) due e) (λ h g k. free h g)))
-      by_due false e (some l) =
-          rw (ne_eqb row.count 0 (λ (x : row.count ≡ 0). omega (arith, l.many)))
-          (by_less (ltb-false (height 1 n) due e) l (ltb (height 1 n) row.height) refl)
+  join_found : (row : Option Row) → Found due ns row → Found due (n ∷ ns) (joined_to due (height 1 n) n row)
+  unfolding joined_to
+  join_found None free = go (ltb (height 1 n) due) refl
+    where
+      go : (b : Bool) → ltb (height 1 n) due ≡ b → Found due (n ∷ ns) (cond b None (Some (first_of (height 1 n) n)))
+      go true e = λ h l. with_other h n ns (λ x. omega (arith, ltb-true (height 1 n) due e)) ∙ free h l
+      go false e = begins (ltb-false (height 1 n) due e) (λ h g k. free h g)
+  join_found (Some row) l = go (ltb (height 1 n) due) refl
+    where
+      go : (b : Bool) → ltb (height 1 n) due ≡ b
+          → Found due (n ∷ ns) (cond b (Some row) (Some (row_with (height 1 n) n row)))
+      go true e = stays row l (λ h g k x. omega (arith, ltb-true (height 1 n) due e))
+      go false e = with_least row l (ltb-false (height 1 n) due e)
 
 pub next-found : (due : ℕ) (ns : List ℕ) → Found due ns (next_row due ns)
 unfolding next_row with_height
-next-found due [] = none refl (λ h l. refl)
+next-found due [] = λ h l. refl
 next-found due (n ∷ ns) = join_found due n ns (next_row due ns) (next-found due ns)
 
-pub nothing_due : (due a k : ℕ) → k ≡ 0 → next_row due (indices a k) ≡ no_row
+pub nothing_due : (due a k : ℕ) → k ≡ 0 → next_row due (indices a k) ≡ None
 unfolding next_row indices
 nothing_due due a k e = ap (λ j. next_row due (indices a j)) e
 
@@ -140,22 +134,28 @@ unfolding next_row
 next_more due n ns = refl
 
 -- a row has no more indices than there are
-join_most : (due h n : ℕ) (row : Row) → (joined_to due h n row).count ≤ suc row.count
-unfolding joined_to
-join_most due h n row = go (ltb h due) (eqb row.count 0 || ltb h row.height) (ltb row.height h)
+join_most : (due h n m : ℕ) (row : Option Row) → IfSome row (λ r. r.count ≤ m)
+    → IfSome (joined_to due h n row) (λ r. r.count ≤ suc m)
+unfolding joined_to row_with
+join_most due h n m None few = go (ltb h due)
   where
-    go : (x y z : Bool) → (cond x row
-        (cond y (record { height = h; smallest = n; count = 1 })
-        (cond z row (record { height = h; smallest = n; count = suc row.count })))).count ≤ suc row.count
+    go : (x : Bool) → IfSome (cond x None (Some (first_of h n))) (λ r. r.count ≤ suc m)
+    go true = tt
+    go false = omega arith
+join_most due h n m (Some row) few = go (ltb h due) (ltb h row.height) (ltb row.height h)
+  where
+    go : (x y z : Bool) → IfSome (cond x (Some row)
+        (Some (cond y (first_of h n) (cond z row (record { height = h; smallest = n; count = suc row.count })))))
+        (λ r. r.count ≤ suc m)
     go true y z = omega arith
     go false true z = omega arith
     go false false true = omega arith
     go false false false = omega arith
 
-pub count_most : (due : ℕ) (ns : List ℕ) → (next_row due ns).count ≤ length ns
+pub count_most : (due : ℕ) (ns : List ℕ) → IfSome (next_row due ns) (λ r. r.count ≤ length ns)
 unfolding next_row
-count_most due [] = omega arith
-count_most due (n ∷ ns) = omega (arith, join_most due (height 1 n) n (next_row due ns), count_most due ns)
+count_most due [] = tt
+count_most due (n ∷ ns) = join_most due (height 1 n) n (length ns) (next_row due ns) (count_most due ns)
 
 -- ---- rows
 rows_suc : (ns : List ℕ) (h : ℕ) → rows_below (suc h) ns ≡ rows_below h ns ++ row_of h (with_height h ns)
@@ -175,11 +175,11 @@ rows_free ns due (suc k) free =
     (omega arith))
     ∙ (no_row_lem (due + k) (rows_below (due + k) ns) ∙ rows_free ns due k (λ h f b. free h f (omega arith)))))
 
-module _ (due : ℕ) (ns : List ℕ) (row : Row) where
-  pub rows_some : Least due ns row
+module _ (due : ℕ) (ns : List ℕ) where
+  pub rows_some : (row : Row) → Least due ns row
       → rows_below (suc row.height) ns ≡ rows_below due ns ++ row_list row
   unfolding rows_below row_of
-  rows_some l =
+  rows_some row l =
       let upto : rows_below row.height ns ≡ rows_below due ns =
       ap (λ x. rows_below x ns) (sym (NatL.add-sub_of_le l.from))
       ∙ rows_free ns due (row.height - due) (λ h f b. l.free h f (omega (arith, l.from))) in

@@ -33,9 +33,7 @@ pub(crate) fn fill(a: usize, b: usize, work: &mut [i64]) -> u64
     ensures work_after { take (suc b - a) (drop a work.new) ≡ heights_of (from_to a b) }
 {
     let mut additions = 0;
-    let mut n = b + 1;
-    while a < n {
-        n -= 1;
+    for n in (a..b + 1).rev() {
         let measured = measure(n as u64, work);
         work[n] = measured.height as i64;
         additions += measured.additions;

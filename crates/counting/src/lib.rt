@@ -10,8 +10,10 @@ mod passes;
 
 ghost use Rattle.std.specs.Prelude.{◌≡◌, true, length};
 ghost use Rattle.definitions.specs.Requests.{zeros};
+ghost use Rattle.answers.specs.Refusals.{number_of};
 ghost use Rattle.counting.specs.Census.{good_range, answer, leaves, clears};
 
+use answers::Refusal;
 use filling::fill;
 use passes::lay_rows;
 
@@ -28,30 +30,26 @@ pub struct Counted {
 const USED: usize = 4096;
 
 // A refusal: its code, and 0 and 0.
-fn refused(code: u64) -> Counted
-    ensures { result ≡ record { code = code; rows = 0; additions = 0 } }
+fn refused(refusal: Refusal) -> Counted
+    ensures { result ≡ record { code = number_of refusal; rows = 0; additions = 0 } }
 {
     Counted {
-        code,
+        code: u64::from(refusal),
         rows: 0,
         additions: 0,
     }
 }
 
 // Is 1 <= a <= b <= 4,095?
+#[tactic(auto, unfolding(crate::specs::Census::good_range))]
 fn good_range(a: u64, b: u64) -> bool
     ensures { result ≡ good_range a b }
 {
-    if a < 1 {
-        return false;
-    }
-    if b < a {
-        return false;
-    }
-    b <= 4095
+    1 <= a && a <= b && b <= 4095
 }
 
 // The census where the bounds are good, in just the entries that are used: all zero afterwards.
+#[tactic(auto, using(crate::proofs::Codes::range_good))]
 fn census_in(a: usize, b: usize, rows: &mut [u64], work: &mut [i64]) -> Counted
     requires { (good_range a b ≡ true) × (length work.old ≡ 4096) }
     ensures value { result ≡ answer a b (length rows.old) 4096 }
@@ -61,12 +59,12 @@ fn census_in(a: usize, b: usize, rows: &mut [u64], work: &mut [i64]) -> Counted
     let additions = fill(a, b, work);
     let laid = lay_rows(a, &work[a..b + 1], rows);
     shapes::clear(work);
-    if !laid.fit {
-        return refused(answers::ROWS);
-    }
+    let Some(count) = laid else {
+        return refused(Refusal::Rows);
+    };
     Counted {
         code: answers::DONE,
-        rows: laid.count as u64,
+        rows: count as u64,
         additions,
     }
 }
@@ -79,10 +77,10 @@ pub fn census(a: u64, b: u64, rows: &mut [u64], work: &mut [i64]) -> Counted
     ensures clears { work.new ≡ clears a b (length rows.old) work.old }
 {
     if !good_range(a, b) {
-        return refused(answers::RANGE);
+        return refused(Refusal::Range);
     }
     if work.len() < USED {
-        return refused(answers::SHORT);
+        return refused(Refusal::Short);
     }
     census_in(a as usize, b as usize, rows, &mut work[..USED])
 }

@@ -1,11 +1,12 @@
 // The rows, from the heights of neighbouring indices: a pass for each row finds the least height that is still due. The
 // heights that occur are few, so the passes are nothing beside the polynomials.
-ghost use Rattle.std.specs.Prelude.{◌≡◌, ◌+◌, ◌*◌, ◌≤◌, length, drop, ◌||◌, ◌++◌, eqb, ltb};
-ghost use Rattle.std.proofs.lemmas.List.Edits.{sets};
+ghost use Rattle.std.specs.Prelude.{◌≡◌, ◌+◌, ◌*◌, ◌≤◌, length, take, drop, ◌++◌, IfSome};
 ghost use Rattle.counting.specs.Census.{indices, rows_of};
-ghost use Rattle.counting.specs.Passes.{Heights, LaidIs, row_list, joined_to, next_row};
+ghost use Rattle.counting.specs.Passes.{Heights, LaidIs, row_list, first_of, row_with, joined_to, next_row};
 
-// A row: a height, the smallest index that has it, and how many have it. Where none is due all three are 0.
+use std::cmp::Ordering;
+
+// A row: a height, the smallest index that has it, and how many have it.
 #[derive(Clone, Copy)]
 struct Row {
     height: u64,
@@ -13,53 +14,59 @@ struct Row {
     count: u64,
 }
 
-// Does a height begin the row anew: is it the first that is due, or less than the one so far?
-fn begins(row: Row, h: u64) -> bool
-    ensures { result ≡ (eqb row.count 0 || ltb h row.height) }
-{
-    row.count == 0 || h < row.height
-}
-
-// A row that is being found, among heights from `due` on, and one index more, smaller than all before it.
-fn joined(row: Row, due: u64, h: u64, n: u64) -> Row
-    requires { row.count ≤ 4095 }
-    ensures { result ≡ joined_to due h n row }
-{
-    if h < due {
-        return row;
-    }
-    if begins(row, h) {
-        return Row {
-            height: h,
+impl Row {
+    // The row of a height that only index n has.
+    fn first(height: u64, n: u64) -> Row
+        ensures { result ≡ first_of height n }
+    {
+        Row {
+            height,
             smallest: n,
             count: 1,
-        };
+        }
     }
-    if row.height < h {
-        return row;
-    }
-    let smallest = n;
-    let count = row.count + 1;
-    Row {
-        height: h,
-        smallest,
-        count,
+
+    // The row of the least height, with one index more, which is smaller than all before it.
+    #[tactic(auto, unfolding(crate::specs::Passes::row_with))]
+    fn with(self, height: u64, n: u64) -> Row
+        requires { self.count ≤ 4095 }
+        ensures { result ≡ row_with height n self }
+    {
+        match height.cmp(&self.height) {
+            Ordering::Less => Row::first(height, n),
+            Ordering::Equal => Row {
+                height,
+                smallest: n,
+                count: self.count + 1,
+            },
+            Ordering::Greater => self,
+        }
     }
 }
 
-// The row of the least height from `due` on.
-fn next_row(a: usize, heights: &[i64], due: u64) -> Row
+// A row that is being found among heights from `due` on, if one is due yet, and one index more, smaller than all before
+// it.
+#[tactic(auto, unfolding(crate::specs::Passes::joined_to))]
+fn joined(row: Option<Row>, due: u64, height: u64, n: u64) -> Option<Row>
+    requires { IfSome row (λ r. r.count ≤ 4095) }
+    ensures { result ≡ joined_to due height n row }
+{
+    if height < due {
+        return row;
+    }
+    match row {
+        None => Some(Row::first(height, n)),
+        Some(row) => Some(row.with(height, n)),
+    }
+}
+
+// The row of the least height from `due` on, if one is due.
+fn next_row(a: usize, heights: &[i64], due: u64) -> Option<Row>
     requires { Heights a heights.now }
     ensures { result ≡ next_row due (indices a (length heights.now)) }
 {
-    let mut row = Row {
-        height: 0,
-        smallest: 0,
-        count: 0,
-    };
-    let mut i = heights.len();
-    while 0 < i {
-        i -= 1;
+    let mut row = None;
+    for i in (0..heights.len()).rev() {
         row = joined(row, due, heights[i] as u64, (a + i) as u64);
     }
     row
@@ -71,10 +78,10 @@ fn count_rows(a: usize, heights: &[i64]) -> usize
     ensures { 3 * result ≡ length (rows_of (indices a (length heights.now))) }
 {
     let mut count = 0;
-    let mut row = next_row(a, heights, 0);
-    while 0 < row.count {
+    let mut due = 0;
+    while let Some(row) = next_row(a, heights, due) {
         count += 1;
-        row = next_row(a, heights, row.height + 1);
+        due = row.height + 1;
     }
     count
 }
@@ -82,11 +89,9 @@ fn count_rows(a: usize, heights: &[i64]) -> usize
 // A row, at a place.
 fn put_row(rows: &mut [u64], at: usize, row: Row)
     requires { at + 3 ≤ length rows.old }
-    ensures { rows.new ≡ sets rows.old at (row_list row) }
+    ensures { rows.new ≡ take at rows.old ++ row_list row ++ drop (at + 3) rows.old }
 {
-    rows[at] = row.height;
-    rows[at + 1] = row.smallest;
-    rows[at + 2] = row.count;
+    rows[at..at + 3].copy_from_slice(&[row.height, row.smallest, row.count]);
 }
 
 // All of them, written.
@@ -98,30 +103,23 @@ fn write_rows(a: usize, heights: &[i64], rows: &mut [u64])
         ++ drop (length (rows_of (indices a (length heights.now)))) rows.old }
 {
     let mut at = 0;
-    let mut row = next_row(a, heights, 0);
-    while 0 < row.count {
+    let mut due = 0;
+    while let Some(row) = next_row(a, heights, due) {
         put_row(rows, at, row);
         at += 3;
-        row = next_row(a, heights, row.height + 1);
+        due = row.height + 1;
     }
 }
 
-// How many rows there are, and whether they fit: only then they are written.
-#[derive(Drop)]
-pub(crate) struct Laid {
-    pub fit: bool,
-    pub count: usize,
-}
-
-// The rows, where they fit.
-pub(crate) fn lay_rows(a: usize, heights: &[i64], rows: &mut [u64]) -> Laid
+// The rows, written where they fit: how many there are, or none.
+pub(crate) fn lay_rows(a: usize, heights: &[i64], rows: &mut [u64]) -> Option<usize>
     requires { Heights a heights.now }
     ensures { LaidIs (rows_of (indices a (length heights.now))) rows.old rows.new result }
 {
     let count = count_rows(a, heights);
     if rows.len() / 3 < count {
-        return Laid { fit: false, count };
+        return None;
     }
     write_rows(a, heights, rows);
-    Laid { fit: true, count }
+    Some(count)
 }

@@ -1,13 +1,15 @@
 -- A digit of a machine number: how large it is; and the sum of the products of two digits, as far as the term j.
-use mathlib.Core.Path.{◌≡◌, refl, sym, ◌∙◌, ap}
+use mathlib.Core.Path.{◌≡◌, refl, sym, ◌∙◌, ap, ap₂}
 use mathlib.Core.List.{List}
 use Prim.Native.Nat.{ℕ, zero, suc, ◌+◌, ◌*◌, ◌-◌, ◌<◌, ◌≤◌}
 use native.Mathlib.Nat.{mul-le-mul}
 use native.Mathlib.Omega.{arith}
 use lib.IntN.{ℤ, nat_abs}
+use lib.ListN.{get_or}
 use lib.Signed.{mag, shr_z}
 use mir.Syntax.{w64}
 use mir.Val.{SFits}
+use mir.Facts.{to_z-of_z}
 use Rattle.definitions.specs.Integers.{◌⊕◌, ◌⊗◌, 0ℤ}
 use Rattle.definitions.specs.Series.{◌·◌}
 use Rattle.definitions.specs.Steps.{entries}
@@ -70,22 +72,38 @@ module _ {f b : List ℤ} {i from to : ℕ} (a c : ℕ) (t : Terms f b i from to
   done s = s.sum ∙ ends (digit_of a) (digit_of c) t (digit_none a)
 
 -- one term more, of the entries x and y
-module _ {f b : List ℤ} {i j a c : ℕ} {s : ℤ} (so_far : DigitsTo f b i j a c s) (fx : SFits w64 (entries f j))
-    (fy : SFits w64 (entries b (i - j))) where
+module _ {f b : List ℤ} {i j a c : ℕ} {s : ℤ} (so_far : DigitsTo f b i j a c s)
+    (fx : SFits w64 (get_or f j 0ℤ)) (fy : SFits w64 (get_or b (i - j) 0ℤ)) where
   abbrev p : ℤ
   p = digit_of a (entries f j) ⊗ digit_of c (entries b (i - j))
 
   product_small : nat_abs p ≤ 17592186044416
+  unfolding entries
   product_small =
       rw (abs_⊗ (digit_of a (entries f j)) (digit_of c (entries b (i - j))))
       (omega (arith, mul-le-mul (digit_most a (entries f j) fx) (digit_most c (entries b (i - j)) fy)))
 
-  pub more : DigitsTo f b i (j + 1) a c (s ⊕ p)
+  more : DigitsTo f b i (j + 1) a c (s ⊕ p)
   more =
       record {
         sum = ap (λ q. q ⊕ p) so_far.sum ∙ sym (dot_more (through (digit_of a) f) (through (digit_of c) b) i j);
         small = omega (arith, so_far.small, abs_⊕ s p, product_small);
       }
 
-  pub more_asks : j < 65536 → SFits w64 p × SFits w64 (s ⊕ p)
+  more_asks : j < 65536 → SFits w64 p × SFits w64 (s ⊕ p)
   more_asks few = (small_fits p (omega (arith, product_small)), small_fits (s ⊕ p) (omega (arith, more.small)))
+
+  -- as the machine reads the entries and their digits
+  module _ {x y : ℤ} (is : x ≡ digit_of a (seen (get_or f j 0ℤ))) (is_too : y ≡ digit_of c (seen (get_or b (i - j) 0ℤ)))
+      (few : j < 65536) where
+    product-seen : seen x ⊗ seen y ≡ p
+    unfolding entries
+    product-seen =
+        ap₂ ◌⊗◌ (handed (digit_fits a _ fx) (is ∙ ap (digit_of a) (to_z-of_z fx)))
+        (handed (digit_fits c _ fy) (is_too ∙ ap (digit_of c) (to_z-of_z fy)))
+
+    pub term_asks : SFits w64 (seen x ⊗ seen y) × SFits w64 (s ⊕ seen x ⊗ seen y)
+    term_asks = rw product-seen (more_asks few)
+
+    pub term_more : {r : ℤ} → r ≡ s ⊕ seen x ⊗ seen y → DigitsTo f b i (j + 1) a c (seen r)
+    term_more e = rw (handed (more_asks few).1 (e ∙ ap (λ q. s ⊕ q) product-seen)) more

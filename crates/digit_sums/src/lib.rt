@@ -14,8 +14,7 @@ ghost use Rattle.light_sums.specs.Told.{told};
 ghost use Rattle.light_sums.specs.Terms.{Terms};
 ghost use Rattle.digit_sums.specs.Digits.{digit_of, digits, place, number};
 
-use entry_steps::read_entry;
-use light_sums::{OUTSIDE, add_product, less_product, plus};
+use light_sums::{add_product, joined, less_product, plus};
 
 fn above_digit(v: i64) -> i64
     ensures { result ≡ shr_z v base }
@@ -32,29 +31,12 @@ fn last_digit(v: i64) -> i64
 fn digit(v: i64, a: usize) -> i64
     ensures { result ≡ digit_of a v }
 {
-    if a == 0 {
-        return last_digit(v);
+    match a {
+        0 => last_digit(v),
+        1 => last_digit(above_digit(v)),
+        2 => above_digit(above_digit(v)),
+        _ => 0,
     }
-    if a == 1 {
-        return last_digit(above_digit(v));
-    }
-    if a == 2 {
-        return above_digit(above_digit(v));
-    }
-    0
-}
-
-// The number that has v above the last digit of c; or OUTSIDE.
-fn with_digit(v: i64, c: i64) -> i64
-    ensures { result ≡ told (v ⊗ pos base ⊕ pos (rest base c)) }
-{
-    if v < -2199023255552 {
-        return OUTSIDE;
-    }
-    if 2199023255551 < v {
-        return OUTSIDE;
-    }
-    add_product(last_digit(c), v, 4194304)
 }
 
 // The sum of the products of f's digits a and b's digits c: 2^16 products of two numbers up to 2^22, so at most 2^60.
@@ -64,12 +46,8 @@ fn digit_sum(f: &[i64], b: &[i64], i: usize, from: usize, to: usize, a: usize, c
         × (nat_abs result ≤ 1152921504606846976) }
 {
     let mut s: i64 = 0;
-    let mut j = from;
-    while j < to {
-        let x = digit(read_entry(f, j), a);
-        let y = digit(read_entry(b, i - j), c);
-        s = add_product(s, x, y);
-        j += 1;
+    for j in from..to {
+        s = add_product(s, digit(f[j], a), digit(b[i - j], c));
     }
     s
 }
@@ -80,30 +58,36 @@ fn place_sum(f: &[i64], b: &[i64], i: usize, from: usize, to: usize, k: usize) -
     ensures { (result ≡ place (entries f.now) (entries b.now) i k) × (nat_abs result ≤ 5764607523034234880) }
 {
     let mut s: i64 = 0;
-    let mut a = 0;
-    while a <= k {
+    for a in 0..=k {
         s = plus(s, digit_sum(f, b, i, from, to, a, k - a));
-        a += 1;
     }
     s
 }
 
 // The number of what is carried to the place k and what stands from there on: the last digit stays at the place, and
 // what is above it, at most 2^41, is carried on.
-fn from_place(f: &[i64], b: &[i64], i: usize, from: usize, to: usize, k: usize, carry: i64) -> i64
+fn from_place(
+    f: &[i64],
+    b: &[i64],
+    i: usize,
+    from: usize,
+    to: usize,
+    k: usize,
+    carry: i64,
+) -> Option<i64>
     requires { Terms f.now b.now i from to × (length f.now ≤ 65536) × (k ≤ 4)
         × (nat_abs carry ≤ 2199023255552) }
     ensures { result ≡ told (carry ⊕ number (place (entries f.now) (entries b.now) i) (5 - k) k) }
 {
     let c = plus(carry, place_sum(f, b, i, from, to, k));
     if k == 4 {
-        return c;
+        return Some(c);
     }
-    let v = from_place(f, b, i, from, to, k + 1, above_digit(c));
-    with_digit(v, c)
+    let v = from_place(f, b, i, from, to, k + 1, above_digit(c))?;
+    joined(v, 4194304, last_digit(c))
 }
 
-pub fn heavy_sum(f: &[i64], b: &[i64], i: usize, from: usize, to: usize) -> i64
+pub fn heavy_sum(f: &[i64], b: &[i64], i: usize, from: usize, to: usize) -> Option<i64>
     requires { Terms f.now b.now i from to × (length f.now ≤ 65536) }
     ensures { result ≡ told ((entries f.now · entries b.now) i) }
 {

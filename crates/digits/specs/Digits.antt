@@ -1,5 +1,5 @@
 -- Digits in a line of bytes: how many stand at a place, and the number that they say.
-use Rattle.std.specs.Prelude.{ℕ, ◌+◌, ◌*◌, ◌-◌, Bool, cond, ◌&&◌, List, [], ◌∷◌, length, drop, leb}
+use Rattle.std.specs.Prelude.{ℕ, ◌≡◌, ◌<◌, true, false, Option, None, Some, ◌+◌, ◌*◌, ◌-◌, Bool, cond, ◌&&◌, List, [], ◌∷◌, length, drop, leb}
 use Rattle.text.specs.Text.{ZERO}
 
 unfoldable pub between : ℕ → ℕ → ℕ → Bool
@@ -29,3 +29,11 @@ number_at line place = value_of (digits (drop place line))
 
 abbrev pub one_to_nine : ℕ → Bool
 one_to_nine count = between 1 9 count
+
+-- what is read of a number at a place: nothing where its digits are not 1 to 9, and else how many they are and what they
+-- say
+abbrev pub IsNumber : List ℕ → ℕ → Option (ℕ × ℕ) → Type 0
+IsNumber line place None = one_to_nine (digits_at line place) ≡ false
+IsNumber line place (Some n) =
+    (one_to_nine (digits_at line place) ≡ true)
+    × (n.0 ≡ digits_at line place) × (n.1 ≡ number_at line place) × (n.1 < 1000000000)

@@ -11,7 +11,8 @@ use native.Mathlib.Numerals.{add-one}
 use native.Mathlib.Decide.{dec_le}
 use native.Mathlib.Omega.{arith}
 use lib.Dec.{ltb, eqb}
-use lib.ListN.{get_or}
+use lib.ListN.{get_or, take}
+use Rattle.std.proofs.lemmas.List.{get_or-take}
 use lib.Pow.{pow_pos}
 use Rattle.numbers.specs.Tests.{Tests, test_and, test_lt, refutes}
 use Rattle.numbers.specs.Primes.{prime_pos}
@@ -151,3 +152,36 @@ module _ (l : List ℕ) (k : ℕ) (w : Row l k) where
             most = f.most;
             least = all x.size f.least (λ a. ⊎_elim (λ h. h) (λ h. absurd (n (a, h))) (le-or-lt x.size s));
           }
+
+-- a row of k primes is what the first k entries tell
+module _ (l : List ℕ) (k : ℕ) where
+  row_front : (i : ℕ) → i ≤ k → row_to (take k l) i ≡ row_to l i
+  unfolding row_to
+  row_front zero u = refl
+  row_front (suc i) u = ap₂ ◌*◌ (row_front i (omega arith)) (get_or-take k l i 0 u)
+
+  mask_front : (m i : ℕ) → i ≤ k → mask_to (take k l) m i ≡ mask_to l m i
+  unfolding mask_to
+  mask_front m zero u = refl
+  mask_front m (suc i) u =
+      ap₂ (λ x p. x * cond (eqb (bit m i) 1) p 1) (mask_front m i (omega arith)) (get_or-take k l i 0 u)
+
+  pub front-row : Row l k → Row (take k l) k × (row_to (take k l) k ≡ row_to l k)
+  front-row w = (
+    record {
+      few = w.few;
+      new = λ i u. rw (get_or-take k l i 0 u, row_front i (omega arith)) (w.new i u);
+      bound = rw (row_front k (le_refl k)) w.bound;
+    },
+    row_front k (le_refl k),
+  )
+
+  pub front-least : {after : ℕ} {x : NamedDivisor} → LeastTo (take k l) k after (2 ^ k) x → LeastTo l k after (2 ^ k) x
+  front-least {after} {x} f =
+      record {
+        above = f.above;
+        inside = f.inside;
+        names = sym (mask_front x.mask k (le_refl k)) ∙ f.names;
+        most = rw (← row_front k (le_refl k)) f.most;
+        least = λ b v a. rw (mask_front b k (le_refl k)) at (f.least b v (rw (mask_front b k (le_refl k)) a));
+      }

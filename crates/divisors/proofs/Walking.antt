@@ -1,5 +1,7 @@
 -- The walk goes right: the primes of r make a row; the least divisor above the one taken last stands at the next place;
 -- and so a turn is the definition's. Also the start, from n taken apart.
+use Rattle.std.specs.Prelude.{Option, Some, None}
+use Rattle.std.specs.Iterator.{MakesProgress, at_most}
 use Prim.Native.Nat.{ℕ, zero, suc, ◌-◌, ◌/◌, ◌%◌, ◌^◌, ◌≤◌, ◌<◌, ◌∣◌}
 use mathlib.Core.Path.{◌≡◌, sym, ap, ap₂, subst, ◌∙◌}
 use mathlib.Core.List.{List}
@@ -8,7 +10,8 @@ use mathlib.Core.Logic.{⊎_elim}
 use native.Mathlib.Nat.{le_refl, le_of_dvd, eq-or-lt_of_le}
 use native.Mathlib.Omega.{arith}
 use lib.Dec.{eqb}
-use lib.ListN.{length, get_or}
+use lib.ListN.{length, get_or, take, replicate, length-append, length-replicate}
+use lib.Seq.{length-take-le}
 use lib.Bits.{bit_xor}
 use lib.Count.{ones}
 use borrow.Author.Tests.{lt-ltb, le-ltb}
@@ -25,22 +28,23 @@ use Rattle.definitions.specs.Numbers.{row_to}
 use Rattle.divisors.specs.Masks.{mask_to}
 use Rattle.divisors.proofs.MaskLaws.{mask_divides, divisor_mask, mask_mu, mask_xor}
 use Rattle.index.proofs.Rows.{entry_new, row-r}
+use Rattle.divisors.proofs.Searching.{front-row, front-least}
 use Rattle.divisors.specs.Least.{Row, LeastTo}
 use Rattle.divisors.specs.Walks.{divisor_at, last_of, walk_at, next_at, taken, Stands, over_parts}
 use Rattle.divisors.specs.declared.NamedDivisor.{NamedDivisor}
 use Rattle.divisors.specs.declared.Walk.{Walk}
-use Rattle.divisors.specs.declared.NextAndWalk.{NextAndWalk}
-use Rattle.divisors.specs.declared.Next.TheVariants.{Divisor, Nothing}
+use Rattle.divisors.specs.declared.Divisor.{Divisor}
 
 -- the two cases of a turn
 pub next_more :
     (r j : ℕ)
     → j < length (divisors_below r)
-    → next_at r j ≡ record { next = Divisor (divisor_at r j) (mu_is_plus (r / divisor_at r j)); walk = walk_at r (suc j) }
+    → next_at r j
+    ≡ (Some (record { size = divisor_at r j; plus = mu_is_plus (r / divisor_at r j) }), walk_at r (suc j))
 unfolding next_at
 next_more r j h = rw (lt-ltb j (length (divisors_below r)) h)
 
-pub next-none : (r j : ℕ) → length (divisors_below r) ≤ j → next_at r j ≡ record { next = Nothing; walk = walk_at r j }
+pub next-none : (r j : ℕ) → length (divisors_below r) ≤ j → next_at r j ≡ (None, walk_at r j)
 unfolding next_at
 next-none r j h = rw (le-ltb j (length (divisors_below r)) h)
 
@@ -117,12 +121,10 @@ module _ (r : ℕ) (O : OddSquarefree r) (u : r ≤ 65535) where
         → k ≡ k_of r
         → d ≡ length (divisors_below r) - suc j
         → b ≡ mu_is_plus (r / x.size)
-        → ◌≡◌ {A = NextAndWalk}
-        (record {
-          next = Divisor x.size b;
-          walk = record { primes = p; count = k; r = r; last = x.size; due = d };
-        })
-        (next_at r j)
+        → ◌≡◌ {A = Option Divisor × Walk} (
+          Some (record { size = x.size; plus = b }),
+          record { primes = p; count = k; r = r; last = x.size; due = d },
+        ) (next_at r j)
     unfolding walk_at last_of
     next-is p k d b e₁ e₂ e₃ e₄ = rw (next_more r j h) same
       where
@@ -130,18 +132,24 @@ module _ (r : ℕ) (O : OddSquarefree r) (u : r ≤ 65535) where
         mu = e₄ ∙ ap (λ y. mu_is_plus (r / y)) size-next
 
         same :
-            ◌≡◌ {A = NextAndWalk}
-            (record {
-              next = Divisor x.size b;
-              walk = record { primes = p; count = k; r = r; last = x.size; due = d };
-            })
-            (record { next = Divisor (divisor_at r j) (mu_is_plus (r / divisor_at r j)); walk = walk_at r (suc j) })
+            ◌≡◌ {A = Option Divisor × Walk} (
+              Some (record { size = x.size; plus = b }),
+              record { primes = p; count = k; r = r; last = x.size; due = d },
+            ) (Some (record { size = divisor_at r j; plus = mu_is_plus (r / divisor_at r j) }), walk_at r (suc j))
         same =
-            λ i.
-            record {
-              next = Divisor (size-next i) (mu i);
-              walk = record { primes = e₁ i; count = e₂ i; r = r; last = size-next i; due = e₃ i };
-            }
+            λ i. (
+              Some (record { size = size-next i; plus = mu i }),
+              record { primes = e₁ i; count = e₂ i; r = r; last = size-next i; due = e₃ i },
+            )
+
+-- the walk after j divisors stands, and has taken j
+pub taken_at : (r j : ℕ) → j ≤ length (divisors_below r) → taken (walk_at r j) ≡ j
+unfolding taken walk_at
+taken_at r j h = omega arith
+
+pub stands_at : (r j : ℕ) → OddSquarefree r → r ≤ 65535 → j ≤ length (divisors_below r) → Stands (walk_at r j)
+unfolding walk_at
+stands_at r j O u h = record { squarefree = O; small = u; here = ap (walk_at r) (sym (taken_at r j h)) }
 
 -- the same, for a walk that stands
 module _ (w : Walk) (S : Stands w) where
@@ -165,53 +173,75 @@ module _ (w : Walk) (S : Stands w) where
   unfolding taken
   taken-few = omega arith
 
-  pub walk-few : w.count ≤ 5
-  walk-few = rw is_count (k_at_most_5 w.r S.small)
+  -- the primes stand in the first places
+  pub walk-room : w.count ≤ 5
+  walk-room = rw is_count (k_at_most_5 w.r S.small)
+
+  front-length : length (take w.count w.primes) ≡ w.count
+  unfolding padded
+  front-length =
+      length-take-le w.count w.primes (rw is_primes
+      (omega (
+        arith,
+        walk-room,
+        length-append (list_to w.r (odd_prime_of w.r)) (replicate (5 - length (list_to w.r (odd_prime_of w.r))) 0),
+        length-replicate {A = ℕ} (5 - length (list_to w.r (odd_prime_of w.r))) 0,
+      )))
 
   -- what the search asks
-  pub walk-row : Row w.primes w.count × (w.r ≡ row_to w.primes w.count) × (w.last < w.r)
+  pub walk-row :
+      Row (take w.count w.primes) (length (take w.count w.primes))
+      × (w.r ≡ row_to (take w.count w.primes) (length (take w.count w.primes)))
+      × (w.last < w.r)
   walk-row =
-      rw (is_primes, is_count, is_last) (
-        row_of w.r S.squarefree S.small,
-        row_is w.r S.squarefree S.small,
-        last_below w.r S.squarefree S.small (taken w) taken-few,
-      )
+      rw front-length (front.0, whole ∙ sym front.1, last)
+    where
+      row : Row w.primes w.count
+      row = rw (is_primes, is_count) (row_of w.r S.squarefree S.small)
+
+      front : Row (take w.count w.primes) w.count × (row_to (take w.count w.primes) w.count ≡ row_to w.primes w.count)
+      front = front-row w.primes w.count row
+
+      whole : w.r ≡ row_to w.primes w.count
+      whole = row_is w.r S.squarefree S.small ∙ ap₂ row_to (sym is_primes) (sym is_count)
+
+      last : w.last < w.r
+      last = rw is_last (last_below w.r S.squarefree S.small (taken w) taken-few)
 
   -- none is due
-  pub walk_done : w.due ≡ 0 → ◌≡◌ {A = NextAndWalk} (record { next = Nothing; walk = w }) (next_at w.r (taken w))
-  walk_done e =
-      rw (next-none w.r (taken w) (omega (arith, is_due))) (λ i. record { next = Nothing; walk = S.here i })
+  pub walk_done : w.due ≡ 0 → ◌≡◌ {A = Option Divisor × Walk} (None, w) (next_at w.r (taken w))
+  walk_done e = rw (next-none w.r (taken w) (omega (arith, is_due))) (λ i. (None, S.here i))
 
   pub walk-next :
       (x : NamedDivisor) (a : ℕ)
       → ¬ (w.due ≡ 0)
       → a ≡ 2 ^ w.count - 1
-      → LeastTo w.primes w.count w.last (2 ^ w.count) x
-      → ◌≡◌ {A = NextAndWalk}
-      (record {
-        next = Divisor x.size (eqb (ones (bit_xor a x.mask) % 2) 0);
-        walk = record { primes = w.primes; count = w.count; r = w.r; last = x.size; due = w.due - 1 };
-      })
-      (next_at w.r (taken w))
+      → LeastTo (take w.count w.primes) (length (take w.count w.primes)) w.last
+      (2 ^ length (take w.count w.primes)) x
+      → ◌≡◌ {A = Option Divisor × Walk} (
+        Some (record { size = x.size; plus = eqb (ones (bit_xor a x.mask) % 2) 0 }),
+        record { primes = w.primes; count = w.count; r = w.r; last = x.size; due = w.due - 1 },
+      ) (next_at w.r (taken w))
   walk-next x a n e f =
       let g : LeastTo (padded (list_to w.r (odd_prime_of w.r))) (k_of w.r) (last_of w.r (taken w))
-      (2 ^ k_of w.r) x = rw (is_primes, is_count, is_last) at f in
+      (2 ^ k_of w.r) x = rw (is_primes, is_count, is_last) at (front-least w.primes w.count (rw front-length at f)) in
       let more : taken w < length (divisors_below w.r) = omega (arith, is_due) in
       next-is w.r S.squarefree S.small (taken w) more x g w.primes w.count
       (w.due - 1) _ is_primes is_count (omega (arith, is_due))
       (ap (λ y. eqb (ones (bit_xor y x.mask) % 2) 0) (e ∙ ap (λ c. 2 ^ c - 1) is_count)
       ∙ mu_next w.r S.squarefree S.small (taken w) more x g)
 
--- for callers: the walk after j divisors stands, and has taken j; and the walk over n taken apart is the one over r at
--- its start
-pub taken_at : (r j : ℕ) → j ≤ length (divisors_below r) → taken (walk_at r j) ≡ j
-unfolding taken walk_at
-taken_at r j h = omega arith
+  -- the walk after a turn stands, and one divisor less is due
+  pub walk-goes :
+      (d : Divisor) (t : Walk) → ¬ (w.due ≡ 0) → ◌≡◌ {A = Option Divisor × Walk} (Some d, t) (next_at w.r (taken w))
+      → Stands t × (t.due < w.due)
+  unfolding walk_at
+  walk-goes d t n e =
+      let more : taken w < length (divisors_below w.r) = omega (arith, is_due) in
+      let on : t ≡ walk_at w.r (suc (taken w)) = ap (λ (p : Option Divisor × Walk). p.1) (e ∙ next_more w.r (taken w) more) in
+      (rw on (stands_at w.r (suc (taken w)) S.squarefree S.small more), rw on (omega (arith, is_due)))
 
-pub stands_at : (r j : ℕ) → OddSquarefree r → r ≤ 65535 → j ≤ length (divisors_below r) → Stands (walk_at r j)
-unfolding walk_at
-stands_at r j O u h = record { squarefree = O; small = u; here = ap (walk_at r) (sym (taken_at r j h)) }
-
+-- the walk over n taken apart is the one over r at its start
 pub over-start : (n : ℕ) → 0 < n → over_parts (parts_of n) ≡ walk_at (r_of n) 0
 unfolding parts_of walk_at last_of
 over-start n l =
@@ -227,3 +257,13 @@ over-start n l =
 
     due : 2 ^ k_of n - 1 ≡ length (divisors_below (r_of n)) - 0
     due = omega (arith, divisors_below_lem (r_of n) (r_odd_squarefree n), ap (λ k. 2 ^ k) (k_of-r n l))
+
+-- a turn makes progress: while one is due the walk after it stands, and fewer are due
+module _ (w : Walk) (S : Stands w) where
+  pub walk_made : (r : Option Divisor) (t : Walk) → ◌≡◌ {A = Option Divisor × Walk} (r, t) (next_at w.r (taken w))
+      → MakesProgress Stands (λ (v : Walk). at_most v.due) w r t
+  walk_made None t e = record { on = λ _. tt; keeps = tt; rests = λ _. tt }
+  walk_made (Some d) t e =
+      let due : ¬ (w.due ≡ 0) = λ none.
+      let p : ◌≡◌ {A = Option Divisor} (Some d) None = ap (λ (x : Option Divisor × Walk). x.0) (e ∙ sym (walk_done w S none)) in cc in
+      let goes = walk-goes w S d t due e in record { on = λ _. (goes.0, tt, goes.1); keeps = goes.0; rests = λ _. tt }

@@ -3,7 +3,8 @@
 
 #![tactic(auto)]
 
-ghost use Rattle.std.specs.Prelude.{◌*◌, ◌-◌, ◌^◌, ◌<◌, ◌≤◌, ◌≡◌, cond, eqb};
+ghost use Rattle.std.specs.Prelude.{◌*◌, ◌-◌, ◌^◌, ◌<◌, ◌≤◌, ◌≡◌, cond, eqb, length};
+ghost use Rattle.std.specs.Iterator.{at_most};
 ghost use Rattle.definitions.specs.Numbers.{row_to};
 ghost use Rattle.divisors.specs.Masks.{bit, mask_to};
 ghost use Rattle.divisors.specs.Least.{Row, LeastTo, or_named};
@@ -20,7 +21,7 @@ pub struct NamedDivisor {
 
 // The walk: the primes of r in five places, how many, r, the divisor taken last (0 before the first) and how many are
 // still due.
-#[derive(Drop)]
+#[derive(Clone, Copy)]
 pub struct Walk {
     pub primes: [u64; 5],
     pub count: usize,
@@ -29,18 +30,11 @@ pub struct Walk {
     pub due: u64,
 }
 
-// The next divisor d, and whether mu(r/d) is +1; or none is left.
-#[derive(Drop)]
-pub enum Next {
-    Divisor { size: u64, plus: bool },
-    Nothing,
-}
-
-// What the walk hands back: an enum that holds the walk, with its array, can't be had today.
-#[derive(Drop)]
-pub struct NextAndWalk {
-    pub next: Next,
-    pub walk: Walk,
+// A divisor d, and whether mu(r/d) is +1.
+#[derive(Clone, Copy)]
+pub struct Divisor {
+    pub size: u64,
+    pub plus: bool,
 }
 
 // p where bit i of the mask is a one, else 1
@@ -60,15 +54,13 @@ fn full(count: usize) -> u32
 }
 
 // the product of the primes of a mask
-fn product(primes: [u64; 5], count: usize, mask: u32) -> u64
-    requires { Row primes count }
-    ensures { result ≡ mask_to primes mask count }
+fn product(primes: &[u64], mask: u32) -> u64
+    requires { Row primes.now (length primes.now) }
+    ensures { result ≡ mask_to primes.now mask (length primes.now) }
 {
     let mut size: u64 = 1;
-    let mut i: usize = 0;
-    while i < count {
-        size = size * chosen(mask, i, primes[i]);
-        i += 1;
+    for (i, p) in primes.iter().enumerate() {
+        size *= chosen(mask, i, *p);
     }
     size
 }
@@ -78,27 +70,23 @@ impl NamedDivisor {
     fn or(self, mask: u32, size: u64, after: u64) -> NamedDivisor
         ensures { result ≡ or_named self mask size after }
     {
-        if after < size {
-            if size < self.size {
-                return NamedDivisor { mask, size };
-            }
+        if after < size && size < self.size {
+            NamedDivisor { mask, size }
+        } else {
+            self
         }
-        self
     }
 }
 
 // the least divisor above `after`, which is below r
-fn least(primes: [u64; 5], count: usize, r: u64, after: u64) -> NamedDivisor
-    requires { Row primes count × (r ≡ row_to primes count) × (after < r) }
-    ensures { LeastTo primes count after (2 ^ count) result }
+fn least(primes: &[u64], r: u64, after: u64) -> NamedDivisor
+    requires { Row primes.now (length primes.now) × (r ≡ row_to primes.now (length primes.now)) × (after < r) }
+    ensures { LeastTo primes.now (length primes.now) after (2 ^ length primes.now) result }
 {
-    let all = full(count);
+    let all = full(primes.len());
     let mut best = NamedDivisor { mask: all, size: r };
-    let mut mask: u32 = 0;
-    while mask < all {
-        let size = product(primes, count, mask);
-        best = best.or(mask, size, after);
-        mask += 1;
+    for mask in 0..all {
+        best = best.or(mask, product(primes, mask), after);
     }
     best
 }
@@ -120,35 +108,42 @@ impl Walk {
         }
     }
 
-    // the next divisor, and the walk after it
-    pub fn next(self) -> NextAndWalk
+    // The next divisor, and the walk after it: the walk is taken, and handed back by value.
+    pub fn take_next(self) -> (Option<Divisor>, Walk)
         requires { Stands self }
         ensures { result ≡ next_of self }
     {
-        let due = self.due;
-        if due == 0 {
-            return NextAndWalk {
-                next: Next::Nothing,
-                walk: self,
-            };
+        if self.due == 0 {
+            return (None, self);
         }
-        let primes = self.primes;
-        let count = self.count;
-        let r = self.r;
-        let d = least(primes, count, r, self.last);
-        let others = u32::count_ones(full(count) ^ d.mask);
-        NextAndWalk {
-            next: Next::Divisor {
-                size: d.size,
-                plus: others % 2 == 0,
-            },
-            walk: Walk {
-                primes,
-                count,
-                r,
-                last: d.size,
-                due: due - 1,
-            },
-        }
+        let d = least(&self.primes[..self.count], self.r, self.last);
+        let others = (full(self.count) ^ d.mask).count_ones();
+        let divisor = Divisor {
+            size: d.size,
+            plus: others % 2 == 0,
+        };
+        let after = Walk {
+            last: d.size,
+            due: self.due - 1,
+            ..self
+        };
+        (Some(divisor), after)
+    }
+}
+
+// The divisors that are still due.
+impl Iterator for Walk {
+    type Item = Divisor;
+
+    ghost can_next = { Stands };
+
+    ghost next_gives = { λ walk divisor after. (divisor, after) ≡ next_of walk };
+
+    ghost remaining = { λ walk. at_most walk.due };
+
+    fn next(&mut self) -> Option<Divisor> {
+        let (divisor, after) = self.take_next();
+        *self = after;
+        divisor
     }
 }

@@ -9,7 +9,7 @@ use lib.IntN.{ℤ}
 use Rattle.definitions.specs.Integers.{0ℤ}
 use Rattle.definitions.specs.Series.{Series}
 use Rattle.step_laws.specs.Tests.{by_order}
-use Rattle.entry_steps.specs.Passes.{Split, put_four, set_four}
+use Rattle.entry_steps.specs.Passes.{Split, set_four}
 use Rattle.entry_steps.proofs.Split.{get_or-set_by, moved_up}
 
 module _ (l : List ℤ) (k : ℕ) (v : Series) where
@@ -33,11 +33,6 @@ module _ (l : List ℤ) (k : ℕ) (v : Series) where
       (λ n₁.
       next l refl k x (omega arith) y (λ q. new (omega arith) (omega arith))
       (λ n₀. old (λ low high. omega arith)))))
-
-  -- v's values, put one after the other
-  pub four_is : {m : List ℤ} {x₀ x₁ x₂ x₃ : ℤ} → m ≡ put_four l k x₀ x₁ x₂ x₃ → x₀ ≡ v k → x₁ ≡ v (k + 1)
-      → x₂ ≡ v (k + 2) → x₃ ≡ v (k + 3) → m ≡ set_four l k v
-  four_is p e₀ e₁ e₂ e₃ = cc
 
   pub moved_four_up : {n i j : ℕ} {f g : Series} → Split l n i f g → k ≡ i → j ≡ k + 4 → j ≤ n
       → ((x : ℕ) → k ≤ x → x < k + 4 → v x ≡ f x) → Split (set_four l k v) n j f g

@@ -1,5 +1,5 @@
 -- Laws that the functions' proofs share, here and in the crates above.
 pub mod Split
 pub mod FourEntries
-mod Values
+pub mod Values
 pub mod Tested

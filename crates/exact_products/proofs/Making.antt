@@ -1,24 +1,24 @@
 -- A product that is made in place, from the top down: the coefficients from i on stand there, all in range, and below i
 -- the old entries, which are all that the next one down needs.
-use mathlib.Core.Path.{◌≡◌, refl, sym, ◌∙◌, ap}
+use mathlib.Core.Path.{◌≡◌, refl, ◌∙◌}
 use mathlib.Core.Bool.{true, false}
 use mathlib.Core.List.{List}
 use Prim.Native.Nat.{ℕ, ◌+◌, ◌-◌, ◌≤◌, ◌<◌}
 use native.Mathlib.Omega.{arith}
 use lib.ListN.{length, set}
 use lib.IntN.{ℤ}
-use mir.Syntax.{w64}
-use mir.Val.{to_z, of_z}
 use Rattle.definitions.specs.Series.{◌·◌, firsts}
 use Rattle.definitions.specs.Steps.{entries, in_range, largest, some_outside}
 use Rattle.series.specs.Laws.{agree_mul}
 use Rattle.series.specs.Degree.{ZeroFrom}
-use Rattle.step_laws.specs.Tests.{by_order, not_false_is}
+use Rattle.step_laws.specs.Machine.{seen, handed, range_fits}
+use Rattle.step_laws.specs.Tests.{by_order}
+use Rattle.std.specs.Prelude.{Some, None}
+use Rattle.light_sums.specs.Told.{told, told_some, told_same}
 use Rattle.step_laws.specs.Firsts.{is_firsts}
 use Rattle.step_laws.specs.Outside.{outside_is, inside_all}
 use Rattle.entry_steps.specs.Passes.{Split}
 use Rattle.entry_steps.proofs.Split.{moved_down}
-use Rattle.light_sums.specs.Told.{told, told_in, told-not, told_same}
 use Rattle.exact_products.specs.Products.{Ready}
 
 pub record Made (f old l : List ℤ) (i : ℕ) : Type 0 where
@@ -52,35 +52,37 @@ module _ {f old l : List ℤ} {i : ℕ} (m : Made f old l i) (one : 1 ≤ i) whe
         zeros = λ k h n. old_at k n ∙ zeros k h;
       }
 
-  -- the coefficient, told from what stands there now
-  pub made_same : told ((entries f · entries l) (i - 1)) ≡ told ((entries f · entries old) (i - 1))
-  made_same = ap told (agree_mul (i - 1) (entries f) (entries l) (entries old) old_at)
+  -- the coefficient, by what stands there now
+  same_coefficient : (entries f · entries l) (i - 1) ≡ (entries f · entries old) (i - 1)
+  same_coefficient = agree_mul (i - 1) (entries f) (entries l) (entries old) old_at
 
-  pub made-next : (v : ℤ) → v ≡ told ((entries f · entries old) (i - 1))
-      → in_range largest ((entries f · entries old) (i - 1)) ≡ true → Made f old (set l (i - 1) v) (i - 1)
-  made-next v e t =
+  placed : (v : ℤ) → v ≡ (entries f · entries old) (i - 1) → in_range largest ((entries f · entries old) (i - 1)) ≡ true
+      → Made f old (set l (i - 1) v) (i - 1)
+  placed v e t =
       record {
         most = omega (arith, m.most);
-        stands = moved_down m.stands (i - 1) (i - 1) (omega (arith, m.most)) (omega arith) refl v
-            (e ∙ told_in ((entries f · entries old) (i - 1)) t);
+        stands = moved_down m.stands (i - 1) (i - 1) (omega (arith, m.most)) (omega arith) refl v e;
         inside = λ k h n. by_order k i
             (λ b. let here : i - 1 ≡ k = omega arith in rw here at t)
             (λ b. m.inside k b n);
       }
 
-  pub made_out : in_range largest ((entries f · entries old) (i - 1)) ≡ false
+  pub made-next : {v : ℤ} → told ((entries f · entries l) (i - 1)) ≡ Some v → Made f old (set l (i - 1) (seen v)) (i - 1)
+  made-next {v} t =
+      let (inside, is) = told_some _ v (rw same_coefficient at t) in
+      placed (seen v) (handed (range_fits _ inside) is) inside
+
+  pub made_out : told ((entries f · entries l) (i - 1)) ≡ None
       → some_outside largest 0 (length old) (entries f · entries old) ≡ true
   made_out t =
-      outside_is largest 0 (entries f · entries old) (length old)
-      (record { at = i - 1; from = omega arith; below = omega (arith, m.most); outside = t })
-
--- what the test of the number that was told says
-module _ (p v : ℤ) (e : v ≡ told p) where
-  pub told-taken : to_z w64 (of_z w64 v) ≡ told p → of_z w64 v ≡ 9223372036854775808 → in_range largest p ≡ false
-  told-taken s t = told_same p (sym s ∙ ap (to_z w64) t)
-
-  pub told-left : (of_z w64 v ≡ 9223372036854775808 → ⊥) → in_range largest p ≡ true
-  told-left n = not_false_is (in_range largest p) (λ f. n (ap (of_z w64) (e ∙ told-not p f)))
+      outside_is largest 0 (entries f · entries old) (length old) (
+      record {
+        at = i - 1;
+        from = omega arith;
+        below = omega (arith, m.most);
+        outside = told_same _ (rw same_coefficient at t);
+      }
+      )
 
 -- all made
 module _ {f old l : List ℤ} {i : ℕ} (m : Made f old l i) (none : i ≤ 0) where

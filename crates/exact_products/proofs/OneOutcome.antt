@@ -1,7 +1,9 @@
 -- For each input that its `requires` admits the contract of a function leaves one outcome: two that meet it, as the
 -- checker reads it off the clauses, give the same answer, and where a product is told to be in range, the same product.
-use mathlib.Core.Path.{◌≡◌, sym, ◌∙◌}
+use mathlib.Core.Path.{◌≡◌, refl, sym, ◌∙◌}
 use mathlib.Core.Bool.{true}
+use Rattle.std.specs.Prelude.{Result, Ok, Err, is_ok}
+use Rattle.exact_products.specs.declared.Over.{Over}
 use contract.Lifetimes.{Lfts}
 use borrow.Fn.Kinds.{ended_of}
 use borrow.Fn.World.{ArgsD, ResD}
@@ -19,11 +21,18 @@ pub weight-of-one :
     → weight-of-reads.Post κs a z e → weight-of-reads.Post κs a z' e' → z ≡ z'
 weight-of-one κs a z z' e e' p p' = p ∙ sym p'
 
+-- an answer without a value, from whether it is delivered
+same_answer : (r r' : Result Unit Over) → is_ok r ≡ is_ok r' → r ≡ r'
+same_answer (Ok x) (Ok y) e = refl
+same_answer (Ok x) (Err y) e = absurd (cc)
+same_answer (Err x) (Ok y) e = absurd (cc)
+same_answer (Err x) (Err y) e = refl
+
 pub multiply-one :
     (κs : Lfts 2) (a : ArgsD multiply.signature κs) (z z' : ResD multiply.signature κs)
     (e e' : AtExit (ended_of 2 multiply-kinds.ps multiply-kinds.r) κs)
     → multiply-reads.Post κs a z e → multiply-reads.Post κs a z' e'
-    → (z ≡ z') × (z ≡ true → e.0.now ≡ e'.0.now)
+    → (z ≡ z') × (is_ok z ≡ true → e.0.now ≡ e'.0.now)
 multiply-one κs a z z' e e' p p' =
-    let same : z ≡ z' = p.0 ∙ sym p'.0 in
-    (same, λ t. p.1.0 t ∙ sym (p'.1.0 (sym same ∙ t)))
+    let same : is_ok z ≡ is_ok z' = p.0 ∙ sym p'.0 in
+    (same_answer z z' same, λ t. p.1.0 t ∙ sym (p'.1.0 (sym same ∙ t)))

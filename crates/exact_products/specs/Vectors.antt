@@ -1,5 +1,5 @@
 -- Products computed from the definitions, weights, digits, and what is told at the range's ends.
-use Rattle.std.specs.Prelude.{◌+◌, ◌-◌, ◌^◌, ◌≡◌, refl, true, false, List, [], ◌∷◌, map, ℤ, pos, negsuc}
+use Rattle.std.specs.Prelude.{◌+◌, ◌-◌, ◌^◌, ◌≡◌, refl, true, false, List, [], ◌∷◌, map, ℤ, pos, negsuc, Some, None}
 use Rattle.definitions.specs.Integers.{◌⊕◌, ◌⊗◌}
 use Rattle.definitions.specs.Series.{◌·◌, firsts}
 use Rattle.definitions.specs.Steps.{entries, largest, in_range, some_outside}
@@ -31,7 +31,7 @@ unfolding f b some_outside in_range ◌·◌ ◌⊕◌ ◌⊗◌ entries
 outside_at = refl
 
 tells : map told (pos (2 ^ 63 - 1) ∷ negsuc (2 ^ 63 - 2) ∷ negsuc (2 ^ 63 - 1) ∷ pos (2 ^ 63) ∷ [])
-    ≡ pos (2 ^ 63 - 1) ∷ negsuc (2 ^ 63 - 2) ∷ negsuc (2 ^ 63 - 1) ∷ negsuc (2 ^ 63 - 1) ∷ []
+    ≡ Some (pos (2 ^ 63 - 1)) ∷ Some (negsuc (2 ^ 63 - 2)) ∷ None ∷ None ∷ []
 unfolding told in_range
 tells = refl
 

@@ -66,6 +66,10 @@ module _ (p : Parts) (n : ℕ) (is : p ≡ parts_of n) (good : good_index n ≡ 
   in_range_lem : (0 < n) × (n ≤ 65535)
   in_range_lem = index_good n good
 
+  pub count_few : p.count ≤ 5
+  unfolding parts_of
+  count_few = subst (λ q. q.count ≤ 5) (sym is) (k_at_most_5 n in_range_lem.1)
+
   module _ (even : n % 2 ≡ 0) where
     pub even_larger : Due p.primes p.count (2 * p.t)
     unfolding parts_of

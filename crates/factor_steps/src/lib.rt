@@ -3,7 +3,7 @@
 
 #![tactic(auto)]
 
-ghost use Rattle.std.specs.Prelude.{◌≡◌, ◌≢◌, true};
+ghost use Rattle.std.specs.Prelude.{◌≡◌, ◌≢◌, true, length};
 ghost use Rattle.definitions.specs.Polynomials.{F};
 ghost use Rattle.definitions.specs.Requests.{good_index};
 ghost use Rattle.cyclotomic.specs.Terms.{other};
@@ -25,19 +25,17 @@ fn turned(sort: Sort) -> Sort
     }
 }
 
-// The terms of the first k primes, of size s: those of one prime less at p s, and at s those of the other sort.
-fn take_terms(b: &mut [i64], primes: [u64; 5], k: usize, s: u64, sort: Sort)
-    requires { Due primes k s }
-    ensures { Multiplied (terms_of primes k s (sort_means sort)) b.old b.new }
+// The terms of these primes, of size s: those of one prime less at p s, and at s those of the other sort.
+fn take_terms(b: &mut [i64], primes: &[u64], s: u64, sort: Sort)
+    requires { Due primes.now (length primes.now) s }
+    ensures { Multiplied (terms_of primes.now (length primes.now) s (sort_means sort)) b.old b.new }
 {
-    if k == 0 {
+    let Some((p, fewer)) = primes.split_last() else {
         wrapped_step(sort, b, s as usize);
         return;
-    }
-    let last = k - 1;
-    let larger = s * primes[last];
-    take_terms(b, primes, last, larger, sort);
-    take_terms(b, primes, last, s, turned(sort));
+    };
+    take_terms(b, fewer, s * *p, sort);
+    take_terms(b, fewer, s, turned(sort));
 }
 
 // Where n is even, 2 is one prime more.
@@ -45,13 +43,11 @@ pub fn times_factor(b: &mut [i64], n: u64, parts: Parts)
     requires { (parts ≡ parts_of n) × (good_index n ≡ true) × (n ≢ 1) }
     ensures { Multiplied (F n) b.old b.new }
 {
-    let primes = parts.primes;
-    let count = parts.count;
-    let t = parts.t;
+    let primes = &parts.primes[..parts.count];
     if n % 2 == 0 {
-        take_terms(b, primes, count, 2 * t, Sort::Comb);
-        take_terms(b, primes, count, t, Sort::Accumulate);
+        take_terms(b, primes, 2 * parts.t, Sort::Comb);
+        take_terms(b, primes, parts.t, Sort::Accumulate);
         return;
     }
-    take_terms(b, primes, count, t, Sort::Comb);
+    take_terms(b, primes, parts.t, Sort::Comb);
 }

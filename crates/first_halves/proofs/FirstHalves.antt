@@ -3,7 +3,7 @@
 -- (`half_is`). Its height and its additions are those of F(n) (`height_is`, `added`).
 use Prim.Native.Nat.{ℕ, suc, ◌+◌, ◌*◌, ◌%◌, ◌≤◌, ◌<◌}
 use mathlib.Core.Path.{◌≡◌, refl, sym, ap, ap₂, ◌∙◌}
-use mathlib.Core.Bool.{Bool, true, false, cond}
+use mathlib.Core.Bool.{Bool, true, false, true≢false, cond}
 use mathlib.Core.List.{List, ◌++◌}
 use mathlib.Core.Logic.{◌≢◌}
 use native.Mathlib.Omega.{arith}
@@ -12,7 +12,7 @@ use native.Mathlib.Numerals.{add-one}
 use lib.ListN.{length, take, get_or-append}
 use lib.Seq.{get_or-take, length-take-le}
 use lib.Dec.{eqb}
-use lib.IntN.{ℤ, nat_abs}
+use lib.IntN.{ℤ}
 use Rattle.definitions.specs.Integers.{0ℤ}
 use Rattle.definitions.specs.Series.{Series, firsts, alternate, spread}
 use Rattle.definitions.specs.Steps.{entries, largest}
@@ -27,7 +27,6 @@ use Rattle.numbers.specs.Below.{additions-all}
 use Rattle.numbers.specs.Phi.{phi_even}
 use Rattle.numbers.specs.PhiApart.{phi-m}
 use Rattle.step_laws.specs.Firsts.{length-firsts, get_or-firsts, firsts-entries, firsts_same, is_firsts}
-use Rattle.step_laws.specs.Bound.{Bounded}
 use Rattle.cyclotomic.specs.Apart.{taken_apart_lem}
 use Rattle.cyclotomic.specs.Degrees.{degree-apart}
 use Rattle.cyclotomic.specs.Kept.{kept-all}
@@ -36,8 +35,9 @@ use Rattle.never_over.proofs.Heights.{never, coefficient_fits}
 use Rattle.index.specs.declared.Parts.{Parts}
 use Rattle.index.specs.Parts.{parts_of}
 use Rattle.index.proofs.Laws.{index_good, parts_t, r_small}
-use Rattle.kept_half.specs.Halves.{KeptHalfIs}
-use Rattle.kept_half.specs.declared.RunOutcome.{RunOutcome}
+use Rattle.std.specs.Prelude.{Result, Ok, Err, IsOk}
+use Rattle.kept_half.specs.Halves.{KeptHalfIs, RunTaken, Over}
+use Rattle.kept_half.specs.declared.Ran.{Ran}
 use Rattle.shapes.specs.Shapes.{InRange}
 use Rattle.squarefree_from_half.proofs.Growing.{front_entry, front_length, alternated}
 use Rattle.squarefree_from_half.proofs.Even.{even_F}
@@ -76,23 +76,19 @@ module _ (n : ℕ) (a : Parts) (parts : a ≡ parts_of n) (good : good_index n �
           ∙ ap₂ ◌*◌ (of_m ∙ degree-r) (sym (parts_t n a parts)) ∙ NatL.mul_assoc 2 D a.t
 
   -- the steps, none of which is OVER
-  module _ (m : List ℤ) (h : RunOutcome) (made : KeptHalfIs largest 1 (r_of n) (divisors_due (r_of n)) m h) where
-    inside : h.over ≡ false
-    inside = made.ran.over ∙ never n pos (index_good n good).1 1
+  pub steps-taken : (m : List ℤ) (h : Result Ran Over) → KeptHalfIs largest 1 (r_of n) (divisors_due (r_of n)) m h → IsOk h
+  steps-taken m (Ok ran) made = refl
+  steps-taken m (Err e) made =
+      absurd (true≢false (sym made.ran.over ∙ never n pos (index_good n good).1 1))
 
+  module _ {m : List ℤ} {h : Ran} (made : RunTaken largest 1 (r_of n) (divisors_due (r_of n)) m h) where
     pub steps_left : m ≡ firsts (D + 1) (polynomial 1 (r_of n))
     unfolding divisors_due
-    steps_left = made.ran.half inside ∙ kept-all 1 (r_of n) O above
-
-    pub steps_bounded : Bounded h.bound (entries m)
-    steps_bounded = made.ran.bounded inside
-
-    pub steps-within : (i : ℕ) → nat_abs (entries m i) ≤ largest
-    steps-within i = made.ran.inside inside i
+    steps_left = made.half ∙ kept-all 1 (r_of n) O above
 
     pub added : h.additions ≡ additions_for 1 n
     unfolding additions_for divisors_due
-    added = made.ran.additions inside ∙ additions-all 1 (r_of n)
+    added = made.additions ∙ additions-all 1 (r_of n)
 
     pub height_is : height_of m ≡ height 1 n
     height_is = ap height_of steps_left ∙ sym (told-half 1 n pos above).0

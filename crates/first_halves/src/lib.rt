@@ -20,7 +20,7 @@ use index::Parts;
 use whole_from_half::spread_by;
 
 // The largest working limit, under which no step is OVER.
-const MOST: u64 = 9223372036854775807;
+const MOST: u64 = i64::MAX as u64;
 
 // What the lower half for r tells of F(n).
 #[derive(Drop)]
@@ -37,7 +37,7 @@ pub fn lower_half(n: u64, parts: Parts, a: &mut [i64]) -> Measured
     ensures value { result ≡ record { height = height 1 n; additions = additions_for 1 n } }
     ensures a_after { a.new ≡ firsts (half_degree 1 (r_of n) + 1) (polynomial 1 (r_of n)) }
 {
-    let run = kept_half::all_steps(1, n, parts, MOST, a);
+    let run = kept_half::all_steps(1, n, parts, MOST, a).unwrap();
     let top = peaks::peak_within(a, run.bound);
     Measured {
         height: top.height,
@@ -54,7 +54,6 @@ fn signed(a: &mut [i64], even: bool)
 {
     if even {
         shapes::alternate(a);
-        return;
     }
 }
 

@@ -19,8 +19,7 @@ use Rattle.record.specs.Header.{fields, kind_in, width_in, index_in, count_in, d
 use Rattle.index.proofs.Laws.{degree-le}
 use Rattle.widths.proofs.Digits.{Bytes, zero-signed}
 use Rattle.record.specs.Held.{number_at}
-use Rattle.record.proofs.Passes.{length_at}
-use Rattle.half_passes.proofs.Places.{entry_at}
+use Rattle.record.proofs.Passes.{length_at, entry_at}
 use Rattle.record.proofs.Headers.{right, header_codes}
 use Rattle.record.proofs.HeaderTrips.{index_small}
 use Rattle.forms.specs.declared.Form.{Form}

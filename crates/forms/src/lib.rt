@@ -4,7 +4,10 @@
 #![tactic(auto)]
 
 ghost use Rattle.std.specs.Prelude.{◌≡◌, ◌≤◌};
+ghost use Rattle.answers.specs.Refusals.{number_of};
 ghost use Rattle.forms.specs.Format.{mark, stored};
+
+use answers::Refusal;
 
 // Every coefficient, or the first half of them.
 #[derive(Clone, Copy)]
@@ -46,11 +49,11 @@ pub struct Written {
 
 impl Written {
     // A refusal: the degree is told with OVER and SHORT only, the byte with RCOUNT only.
-    pub fn refused(code: u64, degree: u64, byte: u64) -> Written
-        ensures { result ≡ record { code = code; degree = degree; used = 0; byte = byte } }
+    pub fn refused(refusal: Refusal, degree: u64, byte: u64) -> Written
+        ensures { result ≡ record { code = number_of refusal; degree = degree; used = 0; byte = byte } }
     {
         Written {
-            code,
+            code: refusal.into(),
             degree,
             used: 0,
             byte,
@@ -73,11 +76,11 @@ pub struct Record {
 
 impl Record {
     // A refusal: the degree is told with SHORT only, the byte where a field of the header is wrong.
-    pub fn refused(code: u64, degree: u64, byte: u64) -> Record
-        ensures { result ≡ record { code = code; degree = degree; used = 0; kind = 0; n = 0; byte = byte } }
+    pub fn refused(refusal: Refusal, degree: u64, byte: u64) -> Record
+        ensures { result ≡ record { code = number_of refusal; degree = degree; used = 0; kind = 0; n = 0; byte = byte } }
     {
         Record {
-            code,
+            code: refusal.into(),
             degree,
             used: 0,
             kind: 0,

@@ -1,7 +1,7 @@
 -- Images on the numbers as they stand in w bytes: what is negated adds up to 2^(8w) with its negative, or both are 0
--- (`negated_is`); and what stands for two numbers differs where they do (`unlike_is`). What a loop found of the first i
--- it finds of one more by the definition's own step (`uneven-turn`).
-use Rattle.std.proofs.Common.{◌≡◌, ℕ, zero, suc, ◌+◌, ◌-◌, ◌*◌, ◌^◌, ◌<◌, ◌≤◌, Bool, true, false, cond, not, ◌||◌, eqb, leb, List, length, ℤ, pos, negsuc, nat_abs, sym, refl, ap, ◌∙◌, add-one, arith, eqb-true, leb-false}
+-- (`negated_is`); and what stands for two numbers differs where they do (`unlike_is`). And what a
+-- look at the first half finds (`uneven_all`).
+use Rattle.std.proofs.Common.{◌≡◌, ℕ, zero, suc, ◌+◌, ◌-◌, ◌*◌, ◌/◌, ◌^◌, ◌<◌, ◌≤◌, Bool, true, false, cond, not, eqb, leb, List, length, ℤ, pos, negsuc, nat_abs, sym, refl, ap, ◌∙◌, arith, eqb-true, leb-false}
 use borrow.Author.Tests.{eqb-false}
 use Rattle.definitions.specs.Integers.{⊖}
 use Rattle.definitions.specs.Steps.{entries}
@@ -9,6 +9,7 @@ use Rattle.definitions.specs.Answer.{height_of}
 use Rattle.definitions.specs.Halves.{half_of, image, differ, uneven_to, uneven}
 use Rattle.step_laws.specs.Tests.{by_test, not_false_is}
 use Rattle.even_halves.specs.Halves.{same_differ, differ_same, abs_image, entry_within}
+use Rattle.half_passes.specs.Any.{any_to, other_at}
 use Rattle.widths.specs.Numbers.{top, twos, signed_of}
 use Rattle.widths.proofs.Digits.{signed-twos, twos-signed}
 
@@ -44,14 +45,15 @@ unlike_is negate cs w i v m b {y} h l t ev em (ey, small) =
     let within : nat_abs x ≤ top w = rw (abs_image negate (entries cs i)) (omega (arith, entry_within cs i l)) in
     numbers_differ w m b x y h within (em ∙ ap (λ z. twos w (image negate z)) ev) small ey
 
--- the loops that look
-module _ (negate : Bool) (cs : List ℤ) (n i : ℕ) (long : length cs ≡ n) {found : Bool}
-    (so_far : found ≡ uneven_to i negate cs) where
-  pub uneven-turn : {here : Bool} → here ≡ differ (entries cs (n - 1 - i)) (image negate (entries cs i))
-      → (found || here) ≡ uneven_to (i + 1) negate cs
-  unfolding uneven_to
-  uneven-turn e = rw (add-one, long, so_far, e)
+-- what is found among the first k, and among the first half
+any_uneven : (negate : Bool) (cs : List ℤ) (n k : ℕ) → length cs ≡ n → any_to (other_at negate cs n) k ≡ uneven_to k negate cs
+unfolding any_to uneven_to
+any_uneven negate cs n zero e = refl
+any_uneven negate cs n (suc k) e = rw (any_uneven negate cs n k e, e)
 
-  pub uneven-all : i ≡ half_of n → found ≡ uneven negate cs
-  unfolding uneven
-  uneven-all e = rw (long, ← e) so_far
+pub uneven_all : (negate : Bool) (cs : List ℤ) (n : ℕ) → length cs ≡ n
+    → any_to (other_at negate cs n) (n - n / 2) ≡ uneven negate cs
+unfolding uneven
+uneven_all negate cs n e =
+    let half : n - n / 2 ≡ half_of n = omega arith in
+    rw (e, half) (any_uneven negate cs n (half_of n) e)

@@ -1,28 +1,12 @@
--- The places of the entries in a record's bytes: entry i of k, in w bytes each, stands from i * w on (`entry_at`), and
--- within k * w (`room`). And the store of the other half: one turn puts the next entry of the whole (`other-turn`).
-use Rattle.std.proofs.Common.{◌≡◌, ℕ, zero, suc, ◌+◌, ◌-◌, ◌*◌, ◌<◌, ◌≤◌, Bool, List, ◌∷◌, take, drop, ℤ, sym, refl, ap, ◌∙◌, mul-le-mul_right, suc-mul, zero-mul, add-one, arith, drop-drop}
+-- Some coefficients of a record, and the store of the other half: one turn puts the next entry of the whole
+-- (`other-turn`).
+use Rattle.std.proofs.Common.{◌≡◌, ℕ, zero, suc, ◌+◌, ◌-◌, ◌*◌, ◌<◌, ◌≤◌, Bool, List, ◌∷◌, take, drop, ℤ, sym, refl, ap, ◌∙◌, suc-mul, add-one, arith}
 use lib.Seq.{sets}
 use Rattle.definitions.specs.Steps.{entries}
 use Rattle.definitions.specs.Halves.{half_of, image, rebuilt}
 use Rattle.even_halves.specs.Halves.{length-rebuilt, other_entry}
 use Rattle.widths.specs.Numbers.{bytes_of, number, twos, signed_of, body, coefficients_at}
 use Rattle.record.proofs.Passes.{body-turn, body-none}
-
-pub room : (w k i : ℕ) → i < k → i * w + w ≤ k * w
-room w k i l = omega (arith, suc-mul i w, mul-le-mul_right w l)
-
-entry_in : (w k i : ℕ) (bs : List ℕ) → i < k
-    → signed_of w (number (take w (drop (i * w) bs))) ≡ entries (coefficients_at w k bs) i
-unfolding coefficients_at entries
-entry_in w zero i bs l = absurd (omega arith)
-entry_in w (suc k) zero bs l = rw zero-mul
-entry_in w (suc k) (suc i) bs l =
-    let sum : suc i * w ≡ w + i * w = omega (arith, suc-mul i w) in
-    rw (sum, ← drop-drop (i * w) w bs) (entry_in w k i (drop w bs) (omega arith))
-
-pub entry_at : (w k i : ℕ) (bs : List ℕ) → i < k
-    → signed_of w (number (take w (drop (10 + i * w) bs))) ≡ entries (coefficients_at w k (drop 10 bs)) i
-entry_at w k i bs l = rw (← drop-drop (i * w) 10 bs) (entry_in w k i (drop 10 bs) l)
 
 -- fewer of them are the first of them
 pub coefficients-take : (w h k : ℕ) (bs : List ℕ) → h ≤ k → take h (coefficients_at w k bs) ≡ coefficients_at w h bs

@@ -15,23 +15,22 @@ pub struct Top {
     pub place: u64,
 }
 
-// Below 0, -(m + 1) with all bits turned round is m.
 pub fn magnitude(x: i64) -> u64
     ensures { result ≡ nat_abs x }
 {
-    if x < 0 { (!x as u64) + 1 } else { x as u64 }
+    x.unsigned_abs()
 }
 
 pub fn larger(a: u64, b: u64) -> u64
     ensures { result ≡ max a b }
 {
-    if a < b { b } else { a }
+    a.max(b)
 }
 
 pub fn smaller(a: u64, b: u64) -> u64
     ensures { result ≡ min a b }
 {
-    if a < b { a } else { b }
+    a.min(b)
 }
 
 // The first place from `from` on with a magnitude above h, or the end. A loop that can stop is not made one of vectors,
@@ -40,15 +39,13 @@ pub fn above(coeffs: &[i64], from: usize, h: u64) -> usize
     requires { from ≤ length coeffs.now }
     ensures { NextAbove h coeffs.now from result }
 {
-    let mut i = from;
-    while i < coeffs.len() {
+    for i in from..coeffs.len() {
         let x = coeffs[i];
         if h < magnitude(x) {
             return i;
         }
-        i += 1;
     }
-    i
+    coeffs.len()
 }
 
 // From one larger magnitude to the next; the last one found is the lowest that large.
@@ -58,6 +55,7 @@ pub fn peak(coeffs: &[i64]) -> Top
     let mut h: u64 = 0;
     let mut p: usize = 0;
     let mut i = above(coeffs, 0, h);
+    // Stays a while: it goes from place to place that `above` finds, and no range or iterator says which come.
     while i < coeffs.len() {
         h = magnitude(coeffs[i]);
         p = i;

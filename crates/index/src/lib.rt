@@ -12,6 +12,7 @@ use sieve::odd_primes;
 
 // n taken apart: the distinct odd primes, ascending, with zeros after them; how many; r, m and t; `free` is phi(r), and
 // `phi` is phi(n).
+// Stays an array with a count: it is copied from step to step, and the kit's ArrayVec is not Copy.
 #[derive(Clone, Copy)]
 pub struct Parts {
     pub primes: [u64; 5],

@@ -3,13 +3,15 @@
 -- differ (`another_wide`). The request for that polynomial delivers it (`made-height`, `made_is`).
 use Prim.Native.Nat.{ℕ, zero, suc, ◌+◌, ◌*◌, ◌≤◌, ◌<◌}
 use mathlib.Core.Path.{◌≡◌, refl, sym, ap, ◌∙◌}
-use mathlib.Core.Bool.{Bool, true, false, not, ◌||◌}
+use mathlib.Core.Bool.{Bool, true, false, not, ◌&&◌, ◌||◌}
 use mathlib.Core.List.{List}
 use native.Mathlib.Omega.{arith}
 use native.Mathlib.Nat.{pos_of_ne-zero}
 use native.Mathlib.Decide.{ℕ_discrete}
 use native.Mathlib.Numerals.{add-one}
 use lib.ListN.{length, take, drop}
+use lib.Dec.{eqb}
+use borrow.Author.Tests.{eqb-false}
 use lib.Seq.{ext_get_or, take_at}
 use lib.IntN.{ℤ, pos}
 use Rattle.definitions.specs.Codes.{DONE}
@@ -37,6 +39,7 @@ use Rattle.forms.proofs.Done.{Read_right, looked}
 use Rattle.forms.proofs.ReadWrite.{length_whole, width-whole}
 use Rattle.shelf.specs.Format.{look_code}
 use Rattle.keeping.specs.Keepable.{differ_to, another}
+use Rattle.keeping.specs.Trying.{Comparable, stands_in}
 
 -- none differs
 module _ (cs ds : List ℤ) where
@@ -59,14 +62,10 @@ module _ (cs ds : List ℤ) where
   alike_same long e = ext_get_or _ cs ds long (λ i l. each_alike (length cs) e i l)
 
 -- a loop that looks: one more, and on from one that was found
-pub differ-next : (cs ds : List ℤ) (from i : ℕ) (before found here : Bool) → (before || found) ≡ differ_to
-    (from + i) cs ds
-    → here ≡ differ (entries cs (from + i)) (entries ds (from + i)) → (before || (found || here)) ≡ differ_to
-    (from + (i + 1)) cs ds
+pub differ-next : (cs ds : List ℤ) (i : ℕ) (before found here : Bool) → (before || found) ≡ differ_to i cs ds
+    → here ≡ differ (entries cs i) (entries ds i) → (before || (found || here)) ≡ differ_to (i + 1) cs ds
 unfolding differ_to
-differ-next cs ds from i before found here e h =
-    let next : from + (i + 1) ≡ suc (from + i) = omega arith in
-    rw next (or_assoc before found here ∙ rw (e, h) refl)
+differ-next cs ds i before found here e h = rw add-one (or_assoc before found here ∙ rw (e, h) refl)
   where
     or_assoc : (a b c : Bool) → (a || (b || c)) ≡ ((a || b) || c)
     or_assoc true b c = refl
@@ -149,13 +148,22 @@ module _ (bs : List ℕ) (bytes : Bytes bs) (good : look_code bs ≡ DONE) where
           ∙ leaves_delivered (kind_in bs) (index_in bs) (header bs good).kind good_in l fits_room)
           ∙ take_at (own bs) (drop (length (own bs)) l) k (length-own ∙ sym ec)
 
-  -- as the function compares, where both have one width
-  module _ (w : ℕ) (ew : w ≡ width_in bs) (ds : List ℤ) (e : ds ≡ own bs) where
-    pub comparable : least_of widths (height (kind_in bs) (index_in bs)) ≡ w
-        → (one_of widths w ≡ true) × (10 + length ds * w ≤ length bs) × (height_of ds ≤ top w)
+  -- as the function compares, where both have one width; else they differ
+  module _ (h : ℕ) (eh : h ≡ height (kind_in bs) (index_in bs)) (ds : List ℤ) (e : ds ≡ own bs) where
+    pub comparable : Comparable bs h ds
     unfolding size_in
-    comparable one = rw (e, ew, length-own) ((header bs good).wide, (fits bs good).long, own_fits (one ∙ ew))
+    comparable one =
+        rw (e, length-own) ((fits bs good).long, own_fits (sym (ap (least_of widths) eh) ∙ one))
 
-    pub compared : differ_to (length ds) (coefficients_at w (length ds) (drop 10 bs)) ds ≡ another bs
+    compared : differ_to (length ds) (coefficients_at (width_in bs) (length ds) (drop 10 bs)) ds ≡ another bs
     unfolding another coefficients_in stored_in
-    compared = rw (e, ew, length-own)
+    compared = rw (e, length-own) refl
+
+    pub whole_stands : stands_in bs h ds ≡ not (another bs)
+    whole_stands = go (eqb (least_of widths h) (width_in bs)) refl
+      where
+        go : (t : Bool) → eqb (least_of widths h) (width_in bs) ≡ t
+            → (t && not (differ_to (length ds) (coefficients_at (width_in bs) (length ds) (drop 10 bs)) ds))
+            ≡ not (another bs)
+        go true _ = ap not compared
+        go false f = another_wide (λ u. eqb-false _ _ f (ap (least_of widths) eh ∙ u))

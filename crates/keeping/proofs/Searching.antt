@@ -1,17 +1,18 @@
 -- The search, underway: what is left of it from a place on is what is left of it from the start.
 use Prim.Native.Nat.{ℕ, zero, suc, ◌+◌, ◌-◌, ◌≤◌, ◌<◌}
 use mathlib.Core.Path.{◌≡◌, refl, sym, ap, ◌∙◌}
-use mathlib.Core.Bool.{Bool, true, false}
+use mathlib.Core.Bool.{Bool, true, false, cond}
 use mathlib.Core.List.{List, [], ◌∷◌}
 use mathlib.Core.Logic.{◌⊎◌, inl, inr}
 use native.Mathlib.Omega.{arith}
 use native.Mathlib.Numerals.{add-one}
-use lib.ListN.{length, get_or, drop, drop_of_length-le}
-use lib.Seq.{drop-cons, get_or-drop}
+use lib.ListN.{length, get_or, take, drop, drop_of_length-le}
+use lib.Seq.{drop-cons, get_or-drop, get_or-take, length-take-le}
 use Rattle.step_laws.specs.Tests.{by_order}
-use Rattle.keeping.specs.declared.Tried.TheVariants.{Kept, Cramped, Passed}
+use Rattle.std.specs.Prelude.{Result, Ok, Err, MatchResult}
+use Rattle.keeping.specs.declared.Cramped.{Cramped}
 use Rattle.keeping.specs.Keepable.{keepable, cramped, to_next, cramped_to}
-use Rattle.keeping.specs.Trying.{tried_of, Unmarked}
+use Rattle.keeping.specs.Trying.{too_little, tried_of, sought_of, Unmarked}
 use Rattle.keeping.proofs.Trying.{tried_unmarked, said}
 
 -- a byte on, or here
@@ -66,45 +67,60 @@ pub record Underway (room : ℕ) (shelf : List ℕ) (from at : ℕ) : Type 0 whe
 pub begun : (room : ℕ) (shelf : List ℕ) (from : ℕ) → from ≤ length shelf → Underway room shelf from from
 begun room shelf from l = record { inside = l; next = refl; cramps = refl }
 
--- where it ends
-abbrev pub Ended : ℕ → List ℕ → ℕ → Bool → ℕ → Type 0
-Ended room shelf from c at =
-    (c ≡ cramped_to room (drop from shelf)) × (c ≡ false → at ≡ from + to_next (drop from shelf))
+-- what it comes to, by its two definitions
+sought_cramped : (room from : ℕ) (left : List ℕ) → cramped_to room left ≡ true → Err too_little ≡ sought_of room from left
+unfolding sought_of
+sought_cramped room from left e = rw e refl
+
+sought_found : (room from place : ℕ) (left : List ℕ) → cramped_to room left ≡ false → place ≡ from + to_next left
+    → Ok place ≡ sought_of room from left
+unfolding sought_of
+sought_found room from place left e is = rw (e, is) refl
+
+-- backwards
+pub sought : (room from : ℕ) (left : List ℕ) (r : Result ℕ Cramped) → r ≡ sought_of room from left
+    → MatchResult r (λ place. (cramped_to room left ≡ false) × (place ≡ from + to_next left))
+    (λ _. cramped_to room left ≡ true)
+unfolding sought_of
+sought room from left r e = rw e (go (cramped_to room left) refl)
+  where
+    go : (t : Bool) → cramped_to room left ≡ t
+        → MatchResult (cond t (Err too_little) (Ok (from + to_next left)))
+        (λ place. (cramped_to room left ≡ false) × (place ≡ from + to_next left)) (λ _. cramped_to room left ≡ true)
+    go true c = c
+    go false c = (c, refl)
 
 module _ (room : ℕ) (shelf : List ℕ) (from at : ℕ) (so : Underway room shelf from at) where
   -- at the shelf's end
-  pub at_end : length shelf ≤ at → Ended room shelf from false at
+  pub at_end : length shelf ≤ at → Ok at ≡ sought_of room from (drop from shelf)
   unfolding to_next cramped_to
   at_end past =
-      let none = drop_of_length-le shelf past in (
-        sym (ap (cramped_to room) none) ∙ so.cramps,
-        λ _. omega (arith, so.next, ap to_next none),
-      )
+      let none = drop_of_length-le shelf past in
+      sought_found room from at (drop from shelf) (sym so.cramps ∙ ap (cramped_to room) none)
+      (omega (arith, so.next, ap to_next none))
 
   module _ (l : at < length shelf) where
     here : drop at shelf ≡ get_or shelf at 0 ∷ drop (at + 1) shelf
     here = rw add-one (drop-cons shelf at 0 l)
 
-    pub at_kept : Kept ≡ tried_of room (drop at shelf) → Ended room shelf from false at
+    pub at_kept : Ok true ≡ tried_of room (drop at shelf) → Ok at ≡ sought_of room from (drop from shelf)
     at_kept e =
-        let p = said room (drop at shelf) Kept e in
-        let keeps = sym (ap keepable here) ∙ p.1 in (
-          sym (cramped-kept _ _ room (sym (ap (cramped room) here) ∙ p.0) keeps) ∙ sym (ap (cramped_to room) here)
-              ∙ so.cramps,
-          λ _. omega (arith, so.next, ap to_next here ∙ next_here _ _ keeps),
-        )
+        let p = said room (drop at shelf) (Ok true) e in
+        let keeps = sym (ap keepable here) ∙ p.1 in
+        sought_found room from at (drop from shelf)
+        (sym so.cramps ∙ ap (cramped_to room) here ∙ cramped-kept _ _ room (sym (ap (cramped room) here) ∙ p.0) keeps)
+        (omega (arith, so.next, ap to_next here ∙ next_here _ _ keeps))
 
-    pub at_cramped : Cramped ≡ tried_of room (drop at shelf) → Ended room shelf from true at
-    at_cramped e =
-        let p = said room (drop at shelf) Cramped e in (
-          sym (cramped_here _ _ room (sym (ap (cramped room) here) ∙ p)) ∙ sym (ap (cramped_to room) here) ∙ so.cramps,
-          λ z. cc,
-        )
+    pub at_cramped : (e : Cramped) → Err e ≡ tried_of room (drop at shelf) → Err e ≡ sought_of room from (drop from shelf)
+    at_cramped c e =
+        sought_cramped room from (drop from shelf)
+        (sym so.cramps ∙ ap (cramped_to room) here
+        ∙ cramped_here _ _ room (sym (ap (cramped room) here) ∙ said room (drop at shelf) (Err c) e))
 
     -- and where it goes on
-    pub goes_on : Passed ≡ tried_of room (drop at shelf) → Underway room shelf from (at + 1)
+    pub goes_on : Ok false ≡ tried_of room (drop at shelf) → Underway room shelf from (at + 1)
     goes_on e =
-        let p = said room (drop at shelf) Passed e in
+        let p = said room (drop at shelf) (Ok false) e in
         let passes = sym (ap keepable here) ∙ p.1 in
         record {
           inside = omega arith;
@@ -143,3 +159,15 @@ pub unmarked_one : (shelf : List ℕ) (at to : ℕ) → to ≡ at + 1 → (get_o
 unmarked_one shelf at to e none i h u m =
     let same : i ≡ at = omega (arith, e, h, u) in
     none (ap (λ (k : ℕ). get_or shelf k 0) (sym same) ∙ m)
+
+-- in a part of a shelf, from a place on
+pub unmarked_behind : (shelf : List ℕ) (at k : ℕ) → Unmarked (drop at shelf) 0 k → Unmarked shelf at (at + k)
+unmarked_behind shelf at k none i h u m =
+    let e : at + (i - at) ≡ i = omega arith in
+    none (i - at) (omega arith) (omega arith)
+    (get_or-drop at shelf (i - at) 0 ∙ ap (λ (j : ℕ). get_or shelf j 0) e ∙ m)
+
+pub unmarked_front : (bytes : List ℕ) (n : ℕ) → n ≤ length bytes → Unmarked (take n bytes) 0 (length (take n bytes))
+    → Unmarked bytes 0 n
+unmarked_front bytes n l none i h u m =
+    none i h (omega (arith, length-take-le n bytes l)) (get_or-take n bytes i 0 u ∙ m)

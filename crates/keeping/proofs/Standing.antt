@@ -34,3 +34,8 @@ in_eight (negsuc n) h = omega arith
 
 pub lowest : (w : ℕ) → one_of widths w ≡ true → Lowest w
 lowest = width_cases Lowest in_one in_two in_four in_eight
+
+-- by the width, whose lowest bytes they are
+pub stands : (w v : ℕ) (x : ℤ) → one_of widths w ≡ true → nat_abs x ≤ top w → w ≡ v → (b : ℕ) → b ≡ of_z w64 x
+    → b % 2 ^ (8 * v) ≡ twos w x
+stands w v x one fits e b is = rw (← e, is) (lowest w one x fits)

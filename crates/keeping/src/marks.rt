@@ -1,33 +1,36 @@
 // The next byte of a shelf with which a mark may start: bytes that are none are passed by sixteens.
-ghost use Rattle.std.specs.Prelude.{◌≡◌, false, ◌+◌, ◌≤◌, ◌<◌, length};
+ghost use Rattle.std.specs.Prelude.{◌≡◌, false, ◌≤◌, length};
 ghost use Rattle.keeping.specs.Trying.{Unmarked};
 
-// Is there one among sixteen? A loop that can't stop, and whose length is known, is made one of vectors.
-fn marked_ahead(shelf: &[u8], at: usize) -> bool
-    requires { at + 16 ≤ length shelf.now }
-    ensures { result ≡ false → Unmarked shelf.now at (at + 16) }
+// Is there one among these? A loop that can't stop, and whose length is known, is made one of vectors.
+fn is_marked(bytes: &[u8]) -> bool
+    ensures { result ≡ false → Unmarked bytes.now 0 (length bytes.now) }
 {
     let mut found = false;
-    let mut i = 0;
-    while i < 16 {
-        found = found | (shelf[at + i] == 0xC9);
-        i += 1;
+    for b in bytes {
+        found |= *b == 0xC9;
     }
     found
 }
 
+// The place that sixteens with none lead to, from a place on.
 fn past_sixteens(shelf: &[u8], from: usize) -> usize
     requires { from ≤ length shelf.now }
     ensures { (from ≤ result) × (result ≤ length shelf.now) × Unmarked shelf.now from result }
 {
     let mut at = from;
-    while 16 <= shelf.len() - at {
-        if marked_ahead(shelf, at) {
-            return at;
-        }
+    // Stays a while: a for over the sixteens is a sixth slower where mark follows mark; with step_by over any bytes.
+    while 16 <= shelf.len() - at && !is_marked(&shelf[at..at + 16]) {
         at += 16;
     }
     at
+}
+
+// How many bytes are passed one by one.
+fn past_bytes(bytes: &[u8]) -> usize
+    ensures { (result ≤ length bytes.now) × Unmarked bytes.now 0 result }
+{
+    bytes.iter().position(|b| *b == 0xC9).unwrap_or(bytes.len())
 }
 
 // From a place on; the shelf's end where there is none.
@@ -35,12 +38,6 @@ pub(crate) fn next_mark(shelf: &[u8], from: usize) -> usize
     requires { from ≤ length shelf.now }
     ensures { (from ≤ result) × (result ≤ length shelf.now) × Unmarked shelf.now from result }
 {
-    let mut at = past_sixteens(shelf, from);
-    while at < shelf.len() {
-        if shelf[at] == 0xC9 {
-            return at;
-        }
-        at += 1;
-    }
-    at
+    let at = past_sixteens(shelf, from);
+    at + past_bytes(&shelf[at..])
 }

@@ -2,7 +2,7 @@
 -- shows a value that passes the limit, and what it has come to at the end.
 use Prim.Native.Nat.{ℕ, zero, suc, ◌+◌, ◌*◌, ◌-◌, ◌^◌, ◌<◌, ◌≤◌}
 use mathlib.Core.Path.{◌≡◌, refl, sym, ◌∙◌, ap, ap₂}
-use mathlib.Core.Bool.{true, false, true≢false, ◌||◌}
+use mathlib.Core.Bool.{true, false, cond, not, ◌||◌}
 use mathlib.Core.Logic.{◌≢◌}
 use mathlib.Core.List.{List, [], ◌∷◌, map, map-append}
 use native.Mathlib.Omega.{arith}
@@ -11,10 +11,11 @@ use native.Mathlib.Numerals.{add-one}
 use lib.ListN.{length, get_or, take, length-take, length-replicate}
 use lib.Seq.{take-suc}
 use lib.IntN.{ℤ}
+use lib.Dec.{eqb}
 use Rattle.definitions.specs.Integers.{0ℤ}
 use Rattle.definitions.specs.Series.{firsts}
 use Rattle.definitions.specs.Numbers.{divisors_below, k_of}
-use Rattle.definitions.specs.Steps.{entries}
+use Rattle.definitions.specs.Steps.{Sort, comb, accumulate, entries}
 use Rattle.definitions.specs.KeptHalf.{half_degree, start, kept_half, sum_of, additions_after}
 use Rattle.definitions.specs.Requests.{divisors_due, next_divisor, over_at, over_among, zeros}
 use Rattle.numbers.specs.Apart.{OddSquarefree}
@@ -26,17 +27,20 @@ use Rattle.cyclotomic.specs.Kept.{kept-start}
 use Rattle.cyclotomic.specs.Inside.{start_bounded}
 use Rattle.step_laws.specs.Bound.{Bounded}
 use Rattle.step_laws.specs.WorkingLimit.{Workable}
-use Rattle.divisors.specs.Walks.{taken, walk_at}
+use Rattle.divisors.specs.Walks.{taken, walk_at, next_of}
 use Rattle.divisors.proofs.Walking.{taken_at, stands_at}
 use Rattle.flat_for_two_primes.specs.Flat.{two_flat}
 use Rattle.outlined_steps.specs.Outlines.{Told, outlined}
+use Rattle.outlined_steps.specs.Outcome.{StepDue, OutlinedTaken, OutlinedNotTaken}
 use Rattle.outlined_steps.specs.declared.Outline.{Outline}
 use Rattle.outlined_steps.proofs.Outlining.{outlined-length, first-told}
-use Rattle.kept_half.specs.Halves.{KeptHalfAt, DivisorOutcomeIs, RunOutcomeIs, WalkAtStart, KeptHalfIs}
+use Rattle.kept_half.specs.Halves.{KeptHalfAt, RunTaken, RunNotTaken, WalkAtStart, Zeroed}
 use Rattle.divisors.specs.declared.Walk.{Walk}
-use Rattle.kept_half.specs.declared.run.DivisorOutcome.{DivisorOutcome}
-use Rattle.kept_half.specs.declared.RunOutcome.{RunOutcome}
-use Rattle.kept_half.proofs.Turning.{kept-length}
+use Rattle.divisors.specs.declared.Divisor.{Divisor}
+use Rattle.outlined_steps.specs.declared.Outlined.{Outlined}
+use Rattle.kept_half.specs.declared.Ran.{Ran}
+use Rattle.kept_half.proofs.Turning.{kept-length, size_is, after, step_due, turned, not-turned, not-nothing}
+use Rattle.std.specs.Prelude.{Option, Some, None}
 use Rattle.kept_half.proofs.Starting.{start_later}
 
 -- ---- sums
@@ -81,64 +85,6 @@ pub record Running (limit kind r i additions bound : ℕ) (at : Walk) (o : Outli
   pub clear : over_among limit kind r i ≡ false
   pub sum : additions ≡ additions_after kind r i
 
-module _ (limit kind r : ℕ) (O : OddSquarefree r) (small : r ≤ 65535) (above : r ≢ 1) {i additions bound : ℕ}
-    {at : Walk} {o : Outline} {a : List ℤ} (s : Running limit kind r i additions bound at o a)
-    (h : i < divisors_due r) where
-  of_r : at.r ≡ r
-  unfolding walk_at
-  of_r = ap (λ (w : Walk). w.r) s.walk
-
-  at_i : taken at ≡ i
-  unfolding divisors_due
-  at_i = ap taken s.walk ∙ taken_at r i (omega arith)
-
-  pub stands : KeptHalfAt limit kind at bound o a
-  unfolding divisors_due
-  stands =
-      record {
-        walk = rw s.walk (stands_at r i O small (omega arith));
-        above = rw of_r above;
-        told = s.told;
-        half = s.half ∙ sym (ap₂ (kept_half kind) of_r at_i);
-        bounded = s.bounded;
-        inside = s.inside;
-        good = s.good;
-      }
-
-  pub more_due : 0 < at.due
-  unfolding divisors_due walk_at
-  more_due = let e : at.due ≡ length (divisors_below r) - i = ap (λ (w : Walk). w.due) s.walk in omega arith
-
-  module _ {m : List ℤ} {t : DivisorOutcome} (u : DivisorOutcomeIs limit kind at m t) where
-    over_here : t.over ≡ over_at limit kind r i
-    over_here = u.over ∙ ap₂ (over_at limit kind) of_r at_i
-
-    pub count_here : t.count ≡ half_degree kind r + 1 - next_divisor r i
-    count_here = u.count ∙ ap₂ (λ x k. half_degree kind x + 1 - next_divisor x k) of_r at_i
-
-    pub runs_on : t.over ≡ false
-        → Running limit kind r (i + 1) (additions + t.count) t.bound t.walk t.outline m
-    unfolding over_among
-    runs_on q =
-        rw (add-one i)
-        (record {
-          walk = u.after ∙ ap₂ (λ x k. walk_at x (suc k)) of_r at_i;
-          told = u.told q;
-          half = u.half q ∙ ap₂ (λ x k. kept_half kind x (suc k)) of_r at_i;
-          bounded = u.bounded q;
-          inside = u.inside;
-          good = s.good;
-          clear = ap₂ ◌||◌ s.clear (sym over_here ∙ q);
-          sum = ap₂ ◌+◌ s.sum count_here ∙ sym (sum-next kind r i h);
-        })
-
-    pub turned-length : length m ≡ half_degree kind r + 1
-    turned-length = u.len ∙ ap (λ x. half_degree kind x + 1) of_r
-
-    pub stops : t.over ≡ true → over_among limit kind r (suc i) ≡ true
-    unfolding over_among
-    stops q = ap₂ ◌||◌ s.clear (sym over_here ∙ q)
-
 -- one of the first steps is one of more
 over_more : (w kind r i : ℕ) → over_among w kind r i ≡ true → over_among w kind r (suc i) ≡ true
 unfolding over_among
@@ -151,6 +97,79 @@ over_later w kind r i (suc k) e =
 
 pub over_among_lem : (w kind r i j : ℕ) → i ≤ j → over_among w kind r i ≡ true → over_among w kind r j ≡ true
 over_among_lem w kind r i j h e = ap (over_among w kind r) (sym (NatL.add-sub_of_le h)) ∙ over_later w kind r i (j - i) e
+
+module _ (limit kind r : ℕ) (O : OddSquarefree r) (small : r ≤ 65535) (above : r ≢ 1) {i additions bound : ℕ}
+    {at : Walk} {o : Outline} {a : List ℤ} (s : Running limit kind r i additions bound at o a)
+    (h : i < divisors_due r) where
+  of_r : at.r ≡ r
+  unfolding walk_at
+  of_r = ap (λ (w : Walk). w.r) s.walk
+
+  at_i : taken at ≡ i
+  unfolding divisors_due
+  at_i = ap taken s.walk ∙ taken_at r i (omega arith)
+
+  stands : KeptHalfAt limit kind at bound o a
+  unfolding divisors_due
+  stands =
+      record {
+        walk = rw s.walk (stands_at r i O small (omega arith));
+        above = rw of_r above;
+        told = s.told;
+        half = s.half ∙ sym (ap₂ (kept_half kind) of_r at_i);
+        bounded = s.bounded;
+        inside = s.inside;
+        good = s.good;
+      }
+
+  more_due : 0 < at.due
+  unfolding divisors_due walk_at
+  more_due = let e : at.due ≡ length (divisors_below r) - i = ap (λ (w : Walk). w.due) s.walk in omega arith
+
+  -- it hands one out
+  pub not-none : (t : Walk) → ◌≡◌ {A = Option Divisor × Walk} (None, t) (next_of at) → ⊥
+  not-none = not-nothing limit kind at bound o a stands more_due
+
+  -- the walk handed out d, and stands after it
+  module _ (d : Divisor) (t : Walk) (e : ◌≡◌ {A = Option Divisor × Walk} (Some d, t) (next_of at)) where
+    pub due_here : StepDue limit bound d.size o a
+    due_here = step_due limit kind at bound o a stands more_due d t e
+
+    count_here : half_degree kind r + 1 - d.size ≡ half_degree kind r + 1 - next_divisor r i
+    count_here =
+        ap (λ k. half_degree kind r + 1 - k) (size_is limit kind at bound o a stands more_due d t e
+        ∙ ap₂ next_divisor of_r at_i)
+
+    -- d's step was taken
+    module _ {sort : Sort} (is : sort ≡ cond (cond (eqb kind 1) d.plus (not d.plus)) comb accumulate) {m : List ℤ} where
+      pub runs_on : {x : Outlined} {count : ℕ} → OutlinedTaken limit sort d.size (outlined o a) m x
+          → count ≡ half_degree kind r + 1 - d.size
+          → Running limit kind r (i + 1) (additions + count) x.bound t x.outline m
+      unfolding over_among
+      runs_on {x} taken counted =
+          let u = turned limit kind at bound o a stands more_due d t e sort is m x taken in
+          rw (add-one i)
+          (record {
+            walk = after limit kind at bound o a stands more_due d t e ∙ ap₂ (λ x k. walk_at x (suc k)) of_r at_i;
+            told = u.told;
+            half = u.half ∙ ap₂ (λ x k. kept_half kind x (suc k)) of_r at_i;
+            bounded = u.bounded;
+            inside = u.inside;
+            good = s.good;
+            clear = ap₂ ◌||◌ s.clear (sym (ap₂ (over_at limit kind) of_r at_i) ∙ u.over);
+            sum = ap₂ ◌+◌ s.sum (counted ∙ count_here) ∙ sym (sum-next kind r i h);
+          })
+
+      -- or not
+      pub stops : {j : ℕ} → i < j → OutlinedNotTaken limit sort d.size (outlined o a) m → RunNotTaken limit kind r j m
+      unfolding over_among
+      stops {j} below taken =
+          let u = not-turned limit kind at bound o a stands more_due d t e sort is m taken in
+          record {
+            over = over_among_lem limit kind r (suc i) j below
+                (ap₂ ◌||◌ s.clear (sym (ap₂ (over_at limit kind) of_r at_i) ∙ u.over));
+            len = u.len ∙ ap (λ x. half_degree kind x + 1) of_r;
+          }
 
 -- ---- the start and the end
 pub standing_length : {limit kind bound : ℕ} {w : Walk} {o : Outline} {l : List ℤ}
@@ -173,33 +192,31 @@ run_start limit kind r at o a s e =
       sum = refl;
     }
 
-pub ran_over : (limit kind r i j : ℕ) (m : List ℤ) → i < j → over_among limit kind r (suc i) ≡ true
-    → length m ≡ half_degree kind r + 1
-    → RunOutcomeIs limit kind r j m (record { over = true; additions = 0; due = 0; bound = 0 })
-ran_over limit kind r i j m h e n =
-    record {
-      over = sym (over_among_lem limit kind r (suc i) j h e);
-      half = λ o. absurd (true≢false o);
-      inside = λ o. absurd (true≢false o);
-      bounded = λ o. absurd (true≢false o);
-      additions = λ o. absurd (true≢false o);
-      due = λ o. absurd (true≢false o);
-      len = n;
-    }
+-- at the start all are due
+pub start_due : (r : ℕ) {w : Walk} → w ≡ walk_at r 0 → w.due ≡ divisors_due r
+unfolding walk_at divisors_due
+start_due r e = ap (λ (w : Walk). w.due) e ∙ NatL.sub-zero (length (divisors_below r))
+
+-- where none is handed out, all j were
+pub took_all :
+    {limit kind r : ℕ} → OddSquarefree r → r ≤ 65535 → r ≢ 1 → {i additions bound : ℕ} {at : Walk} {o : Outline} {a : List ℤ}
+    → Running limit kind r i additions bound at o a → {j : ℕ} → j ≤ divisors_due r → (count : ℕ) (t : Walk) → count + i ≡ j
+    → (0 < count → ◌≡◌ {A = Option Divisor × Walk} (None, t) (next_of at)) → i ≡ j
+took_all O small above s few zero t l none = omega arith
+took_all O small above s few (suc k) t l none = absurd (not-none _ _ _ O small above s (omega arith) t (none (omega arith)))
 
 pub ran :
     (limit kind r j additions bound : ℕ) (at : Walk) (o : Outline) (a m : List ℤ)
     → Running limit kind r j additions bound at o a → m ≡ outlined o a
-    → RunOutcomeIs limit kind r j m (record { over = false; additions = additions; due = at.due; bound = bound })
-unfolding divisors_due walk_at
+    → RunTaken limit kind r j m (record { additions = additions; due = divisors_due r - j; bound = bound })
 ran limit kind r j additions bound at o a m s e =
     record {
-      over = sym s.clear;
-      half = λ q. e ∙ s.half;
-      inside = λ q k. NatL.le_trans (small k) s.inside;
-      bounded = λ q. small;
-      additions = λ q. s.sum;
-      due = λ q. ap (λ (w : Walk). w.due) s.walk;
+      over = s.clear;
+      half = e ∙ s.half;
+      inside = λ k. NatL.le_trans (small k) s.inside;
+      bounded = small;
+      additions = s.sum;
+      due = refl;
       len = ap length (e ∙ s.half) ∙ kept-length kind r j;
     }
   where
@@ -228,45 +245,27 @@ fresh-stands limit kind w l good f len e =
     started : outlined (record { told = 1; repeats = false }) l ≡ firsts (length l) (start kind)
     started = first-told l (start kind) e (start_later kind)
 
-pub made-zeros : (limit kind r j : ℕ) (m l : List ℤ) (h : RunOutcome) → RunOutcomeIs limit kind r j m h → h.over ≡ true
-    → l ≡ zeros (length m)
-    → KeptHalfIs limit kind r j l h
+pub made-zeros : {limit kind r j : ℕ} {m l : List ℤ} → RunNotTaken limit kind r j m → l ≡ zeros (length m)
+    → Zeroed limit kind r j l
 unfolding zeros
-made-zeros limit kind r j m l h t o e =
+made-zeros {m = m} t e =
     record {
-      ran =
-          record {
-            over = t.over;
-            half = λ q. absurd (both q);
-            inside = λ q. absurd (both q);
-            bounded = λ q. absurd (both q);
-            additions = λ q. absurd (both q);
-            due = λ q. absurd (both q);
-            len = ap length e ∙ length-replicate (length m) 0ℤ ∙ t.len;
-          };
-      zeroed = λ q. e ∙ ap zeros t.len;
+      ran = record { over = t.over; len = ap length e ∙ length-replicate (length m) 0ℤ ∙ t.len };
+      zeroed = e ∙ ap zeros t.len;
     }
-  where
-    both : h.over ≡ false → ⊥
-    both q = true≢false (sym o ∙ q)
 
 -- F of two primes has no magnitude above 1
 pub two_primes :
-    (limit kind r : ℕ) (m : List ℤ) (h : RunOutcome) → KeptHalfIs limit kind r (divisors_due r) m h → OddSquarefree r
+    {limit kind r : ℕ} {m : List ℤ} {h : Ran} → RunTaken limit kind r (divisors_due r) m h → OddSquarefree r
     → kind ≡ 1 → divisors_due r ≡ 3
-    → KeptHalfIs limit kind r (divisors_due r) m
-    (record { over = h.over; additions = h.additions; due = h.due; bound = 1 })
-two_primes limit kind r m h t O k three =
+    → RunTaken limit kind r (divisors_due r) m (record { additions = h.additions; due = h.due; bound = 1 })
+two_primes {r = r} t O k three =
     record {
-      ran =
-          record {
-            over = t.ran.over;
-            half = t.ran.half;
-            inside = t.ran.inside;
-            bounded = λ q. rw (t.ran.half q, k) (two_flat r O three);
-            additions = t.ran.additions;
-            due = t.ran.due;
-            len = t.ran.len;
-          };
-      zeroed = t.zeroed;
+      over = t.over;
+      half = t.half;
+      inside = t.inside;
+      bounded = rw (t.half, k) (two_flat r O three);
+      additions = t.additions;
+      due = t.due;
+      len = t.len;
     }

@@ -1,35 +1,48 @@
 -- One divisor's turn: where the walk stands at place j and more are due, it hands out the divisor there with mu of r/d,
 -- and the step on the kept half after j divisors gives that after j + 1.
 use Prim.Native.Nat.{ℕ, suc, ◌+◌, ◌-◌, ◌/◌, ◌<◌, ◌≤◌}
-use mathlib.Core.Path.{◌≡◌, refl, sym, ◌∙◌, ap, ap₂}
-use mathlib.Core.Bool.{Bool, cond, not}
+use mathlib.Core.Path.{◌≡◌, sym, ◌∙◌, ap, ap₂}
+use mathlib.Core.Bool.{true, false, cond, not}
 use mathlib.Core.List.{List}
 use native.Mathlib.Omega.{arith}
 use lib.ListN.{length}
 use lib.Dec.{eqb}
 use lib.IntN.{ℤ}
 use Rattle.definitions.specs.Numbers.{divisors_below, mu_is_plus}
-use Rattle.definitions.specs.Steps.{Sort, comb, accumulate, step_over, step_list}
+use Rattle.definitions.specs.Steps.{Sort, comb, accumulate, entries, step_over, step_list}
 use Rattle.definitions.specs.KeptHalf.{half_degree, sort_of, kept_series, kept_half}
 use Rattle.definitions.specs.Requests.{divisors_due, next_divisor, over_at}
+use Rattle.std.specs.Prelude.{Option, Some, None}
+use Rattle.step_laws.specs.Bound.{Bounded}
 use Rattle.step_laws.specs.Firsts.{length-firsts}
 use Rattle.cyclotomic.specs.Kept.{step_kept}
 use Rattle.cyclotomic.specs.Inside.{divisor_in}
 use Rattle.divisors.specs.Walks.{taken, walk_at, next_of, divisor_at}
 use Rattle.divisors.proofs.Walking.{next_more}
-use Rattle.outlined_steps.specs.Outlines.{outlined}
-use Rattle.outlined_steps.specs.Outcome.{StepDue, OutlinedOutcomeIs}
-use Rattle.outlined_steps.proofs.Outlining.{outlined-length}
-use Rattle.kept_half.specs.Halves.{KeptHalfAt, DivisorOutcomeIs}
+use Rattle.outlined_steps.specs.Outlines.{Told, outlined}
+use Rattle.outlined_steps.specs.Outcome.{StepDue, OutlinedTaken, OutlinedNotTaken}
+use Rattle.kept_half.specs.Halves.{KeptHalfAt}
 use Rattle.divisors.specs.declared.Walk.{Walk}
-use Rattle.divisors.specs.declared.NextAndWalk.{NextAndWalk}
-use Rattle.divisors.specs.declared.Next.TheVariants.{Divisor, Nothing}
+use Rattle.divisors.specs.declared.Divisor.{Divisor}
 use Rattle.outlined_steps.specs.declared.Outline.{Outline}
-use Rattle.outlined_steps.specs.declared.OutlinedOutcome.{OutlinedOutcome}
+use Rattle.outlined_steps.specs.declared.Outlined.{Outlined}
 
 pub kept-length : (kind r j : ℕ) → length (kept_half kind r j) ≡ half_degree kind r + 1
 unfolding kept_half
 kept-length kind r j = length-firsts (half_degree kind r + 1) (kept_series kind r j)
+
+-- the step of the walk's next divisor was taken, and left m; or it was not
+pub record Turned (limit kind : ℕ) (w : Walk) (m : List ℤ) (x : Outlined) : Type 0 where
+  pub over : over_at limit kind w.r (taken w) ≡ false
+  pub told : Told x.outline m
+  pub half : outlined x.outline m ≡ kept_half kind w.r (suc (taken w))
+  pub bounded : Bounded x.bound (entries (outlined x.outline m))
+  pub inside : x.bound ≤ limit
+  pub len : length m ≡ half_degree kind w.r + 1
+
+pub record NotTurned (limit kind : ℕ) (w : Walk) (m : List ℤ) : Type 0 where
+  pub over : over_at limit kind w.r (taken w) ≡ true
+  pub len : length m ≡ half_degree kind w.r + 1
 
 module _ (limit kind : ℕ) (w : Walk) (bound : ℕ) (o : Outline) (l : List ℤ) (st : KeptHalfAt limit kind w bound o l)
     (more : 0 < w.due) where
@@ -46,80 +59,79 @@ module _ (limit kind : ℕ) (w : Walk) (bound : ℕ) (o : Outline) (l : List ℤ
       let due : w.due ≡ length (divisors_below w.r) - taken w = ap (λ (x : Walk). x.due) st.walk.here in
       omega arith
 
-  pub handed : next_of w
-      ≡ record {
-        next = Divisor (divisor_at w.r (taken w)) (mu_is_plus (w.r / divisor_at w.r (taken w)));
-        walk =
-            walk_at w.r (suc (taken w));
-      }
+  handed : next_of w
+      ≡ (
+        Some (record {
+          size = divisor_at w.r (taken w);
+          plus = mu_is_plus (w.r / divisor_at w.r (taken w));
+        }),
+        walk_at w.r (suc (taken w)),
+      )
   unfolding divisors_due
   handed = next_more w.r (taken w) still
 
-  -- what the match found
-  module _ (t : NextAndWalk) (e : t ≡ next_of w) where
-    pub not-nothing : t.next ≡ Nothing → ⊥
-    not-nothing q =
-        let p : t.next ≡ Divisor (divisor_at w.r (taken w)) (mu_is_plus (w.r / divisor_at w.r (taken w))) =
-        ap (λ (x : NextAndWalk). x.next) (e ∙ handed) in
-        let z : ◌≡◌ {A = ℕ} 0 1 = cc in
-        omega arith
+  pub not-nothing : (t : Walk) → ◌≡◌ {A = Option Divisor × Walk} (None, t) (next_of w) → ⊥
+  not-nothing t e = let p : ◌≡◌ {A = Option Divisor} None (Some _) = ap (λ (x : Option Divisor × Walk). x.0) (e ∙ handed) in cc
 
-    module _ (size : ℕ) (plus : Bool) (q : t.next ≡ Divisor size plus) where
-      same : Divisor size plus ≡ Divisor (divisor_at w.r (taken w)) (mu_is_plus (w.r / divisor_at w.r (taken w)))
-      same = sym q ∙ ap (λ (x : NextAndWalk). x.next) (e ∙ handed)
+  -- what the walk handed out
+  module _ (d : Divisor) (t : Walk) (e : ◌≡◌ {A = Option Divisor × Walk} (Some d, t) (next_of w)) where
+    same : Some d ≡ Some (record {
+      size = divisor_at w.r (taken w);
+      plus = mu_is_plus (w.r / divisor_at w.r (taken w));
+    })
+    same = ap (λ (x : Option Divisor × Walk). x.0) (e ∙ handed)
 
-      pub size_is : size ≡ next_divisor w.r (taken w)
-      unfolding next_divisor
-      size_is = cc (same)
+    pub after : t ≡ walk_at w.r (suc (taken w))
+    after = ap (λ (x : Option Divisor × Walk). x.1) (e ∙ handed)
 
-      plus_is : plus ≡ mu_is_plus (w.r / next_divisor w.r (taken w))
-      unfolding next_divisor
-      plus_is = cc (same)
+    pub size_is : d.size ≡ next_divisor w.r (taken w)
+    unfolding next_divisor
+    size_is = cc (same)
 
-      pub size_good : 1 ≤ size
-      size_good = omega (arith, size_is, (divisor_in w.r (taken w) still).0)
+    plus_is : d.plus ≡ mu_is_plus (w.r / next_divisor w.r (taken w))
+    unfolding next_divisor
+    plus_is = cc (same)
 
-      pub step_due : StepDue limit bound size o l
-      step_due =
+    pub step_due : StepDue limit bound d.size o l
+    step_due =
+        record {
+          told = st.told;
+          size = omega (arith, size_is, (divisor_in w.r (taken w) still).0);
+          bounded = st.bounded;
+          inside = st.inside;
+          good = st.good;
+        }
+
+    module _ (s : Sort) (es : s ≡ cond (cond (eqb kind 1) d.plus (not d.plus)) comb accumulate) (m : List ℤ) where
+      l-length : length (outlined o l) ≡ half_degree kind w.r + 1
+      l-length = ap length st.half ∙ kept-length kind w.r (taken w)
+
+      abbrev size : ℕ
+      size = next_divisor w.r (taken w)
+
+      sort_is : s ≡ sort_of kind w.r size
+      unfolding sort_of
+      sort_is = es ∙ ap (λ b. cond (cond (eqb kind 1) b (not b)) comb accumulate) plus_is
+
+      over_is : step_over limit s d.size (outlined o l) ≡ over_at limit kind w.r (taken w)
+      unfolding over_at
+      over_is =
+          ap₂ (λ x k. step_over limit x k (outlined o l)) sort_is size_is
+          ∙ ap (step_over limit (sort_of kind w.r size) size) st.half
+
+      pub turned : (x : Outlined) → OutlinedTaken limit s d.size (outlined o l) m x → Turned limit kind w m x
+      unfolding divisors_due
+      turned x a =
           record {
-            told = st.told;
-            size = size_good;
-            bounded = st.bounded;
-            inside = st.inside;
-            good = st.good;
-          }
-
-      pub turned :
-          (s : Sort) → s ≡ cond (cond (eqb kind 1) plus (not plus)) comb accumulate
-          → (m : List ℤ) (v : OutlinedOutcome) (count : ℕ)
-          → OutlinedOutcomeIs limit s size (outlined o l) m v → count ≡ length l - size
-          → DivisorOutcomeIs limit kind w m
-          (record { over = v.over; count = count; bound = v.bound; outline = v.outline; walk = t.walk })
-      unfolding over_at sort_of divisors_due
-      turned s es m v count a ec =
-          record {
-            over = a.over ∙ ap₂ (λ x d. step_over limit x d (outlined o l)) sort_is size_is
-                ∙ ap (λ x. step_over limit (sort_of kind w.r d) d x) st.half;
-            after = ap (λ (x : NextAndWalk). x.walk) (e ∙ handed);
+            over = sym over_is ∙ a.over;
             told = a.told;
-            half = λ q. a.leaves q ∙ ap₂ (λ x d. step_list x d (outlined o l)) sort_is size_is
-                ∙ ap (step_list (sort_of kind w.r d) d) st.half
+            half = a.leaves ∙ ap₂ (λ x k. step_list x k (outlined o l)) sort_is size_is
+                ∙ ap (step_list (sort_of kind w.r size) size) st.half
                 ∙ step_kept kind w.r (taken w) still (divisor_in w.r (taken w) still).0;
             bounded = a.bounded;
             inside = a.inside;
-            count = ec ∙ ap₂ (λ n d. n - d) (sym (outlined-length o l) ∙ l-length) size_is;
             len = a.len ∙ l-length;
           }
-        where
-          d : ℕ
-          d = next_divisor w.r (taken w)
 
-          l-length : length (outlined o l) ≡ half_degree kind w.r + 1
-          l-length = ap length st.half ∙ kept-length kind w.r (taken w)
-
-          sort_is : s ≡ sort_of kind w.r d
-          sort_is = es ∙ ap (λ b. cond (cond (eqb kind 1) b (not b)) comb accumulate) plus_is ∙ sort_of_lem
-            where
-              sort_of_lem : cond (cond (eqb kind 1) (mu_is_plus (w.r / d)) (not (mu_is_plus (w.r / d)))) comb accumulate
-                  ≡ sort_of kind w.r d
-              sort_of_lem = refl
+      pub not-turned : OutlinedNotTaken limit s d.size (outlined o l) m → NotTurned limit kind w m
+      not-turned a = record { over = sym over_is ∙ a.over; len = a.len ∙ l-length }

@@ -3,11 +3,9 @@ use Prim.Native.Nat.{ℕ, ◌+◌, ◌-◌, ◌/◌, ◌≤◌}
 use mathlib.Core.Path.{◌≡◌, sym, ◌∙◌, ap, subst}
 use mathlib.Core.Bool.{cond}
 use mathlib.Core.List.{List}
-use native.Mathlib.Nat as NatL
-use lib.ListN.{length}
 use lib.Dec.{eqb}
 use lib.IntN.{ℤ}
-use Rattle.definitions.specs.Numbers.{r_of, divisors_below}
+use Rattle.definitions.specs.Numbers.{r_of}
 use Rattle.definitions.specs.KeptHalf.{half_degree}
 use Rattle.definitions.specs.Requests.{divisors_due}
 use Rattle.numbers.specs.Apart.{r_odd_squarefree}
@@ -16,8 +14,11 @@ use Rattle.divisors.proofs.Walking.{over-start}
 use Rattle.divisors.specs.declared.Walk.{Walk}
 use Rattle.index.specs.declared.Parts.{Parts}
 use Rattle.index.proofs.Laws.{index_good, r_small, parts_half}
+use Rattle.kept_half.proofs.Running.{start_due}
 use Rattle.kept_half.specs.Halves.{StepsDue, WalkAtStart, KeptHalfIs}
-use Rattle.kept_half.specs.declared.RunOutcome.{RunOutcome}
+use Rattle.std.specs.Prelude.{Result}
+use Rattle.kept_half.specs.Halves.{Over}
+use Rattle.kept_half.specs.declared.Ran.{Ran}
 
 -- the walk over n's r, at its start
 module _ (kind n : ℕ) (x : Parts) (S : StepsDue kind n x) (w : Walk) (o : w ≡ over_parts x) where
@@ -29,8 +30,7 @@ module _ (kind n : ℕ) (x : Parts) (S : StepsDue kind n x) (w : Walk) (o : w �
   walk-r = ap (λ (y : Walk). y.r) walk_start
 
   pub walk_due : w.due ≡ divisors_due (r_of n)
-  unfolding walk_at divisors_due
-  walk_due = ap (λ (y : Walk). y.due) walk_start ∙ NatL.sub-zero (length (divisors_below (r_of n)))
+  walk_due = start_due (r_of n) walk_start
 
   pub walk_fresh : WalkAtStart w
   walk_fresh =
@@ -47,14 +47,13 @@ module _ (kind n : ℕ) (x : Parts) (S : StepsDue kind n x) (w : Walk) (o : w �
   fresh_half len j e h = (walk_fresh, e ∙ ap (λ r. half_degree kind r + 1) (sym walk-r), rw walk-r h)
 
   -- what the walk's r came to is what n's came to
-  pub of_r : (j : ℕ) {limit : ℕ} {m : List ℤ} {h : RunOutcome} → KeptHalfIs limit kind w.r j m h
+  pub of_r : (j limit : ℕ) (m : List ℤ) (h : Result Ran Over) → KeptHalfIs limit kind w.r j m h
       → KeptHalfIs limit kind (r_of n) j m h
-  of_r j {limit} {m} {h} t = subst (λ r. KeptHalfIs limit kind r j m h) walk-r t
+  of_r j limit m h t = subst (λ r. KeptHalfIs limit kind r j m h) walk-r t
 
-  pub of_all : {limit : ℕ} {m : List ℤ} {h : RunOutcome} → KeptHalfIs limit kind w.r w.due m h
+  pub of_all : (limit : ℕ) (m : List ℤ) (h : Result Ran Over) → KeptHalfIs limit kind w.r w.due m h
       → KeptHalfIs limit kind (r_of n) (divisors_due (r_of n)) m h
-  of_all {limit} {m} {h} t =
-      of_r (divisors_due (r_of n)) (subst (λ j. KeptHalfIs limit kind w.r j m h) walk_due t)
+  of_all limit m h t = of_r (divisors_due (r_of n)) limit m h (subst (λ j. KeptHalfIs limit kind w.r j m h) walk_due t)
 
 -- D, as it is computed
 pub half_is : (kind n : ℕ) (x : Parts) → StepsDue kind n x

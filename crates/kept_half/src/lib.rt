@@ -14,13 +14,12 @@ ghost use Rattle.kept_half.specs.Halves.{StepsDue, KeptHalfIs};
 
 use divisors::Walk;
 use index::Parts;
+pub use outlined_steps::Over;
 pub use run::make_kept_half;
 
-// The outcome of a run of steps: a value that passes the working limit, or the additions, the divisors still due and a
-// bound of the magnitudes.
-#[derive(Drop)]
-pub struct RunOutcome {
-    pub over: bool,
+// What a run of steps comes to: the additions, the divisors still due and a bound of the magnitudes.
+#[derive(Clone, Copy)]
+pub struct Ran {
     pub additions: u64,
     pub due: u64,
     pub bound: u64,
@@ -28,22 +27,15 @@ pub struct RunOutcome {
 
 // The kept half for n's r after all its divisors' steps, in a slice of D + 1 entries; zeros where a value would pass w.
 // That of F of two primes has no magnitude above 1 (crate `flat_for_two_primes`), which spares the look for its height.
-pub fn all_steps(kind: u64, n: u64, parts: Parts, w: u64, a: &mut [i64]) -> RunOutcome
+pub fn all_steps(kind: u64, n: u64, parts: Parts, w: u64, a: &mut [i64]) -> Result<Ran, Over>
     requires { StepsDue kind n parts × (length a.old ≡ half_degree kind (r_of n) + 1) × Workable w }
     ensures { KeptHalfIs w kind (r_of n) (divisors_due (r_of n)) a.new result }
 {
     let walk = Walk::over(parts);
     let all = walk.due;
-    let run = make_kept_half(a, walk, kind, all, w);
-    if kind == 1 {
-        if all == 3 {
-            return RunOutcome {
-                over: run.over,
-                additions: run.additions,
-                due: run.due,
-                bound: 1,
-            };
-        }
+    let ran = make_kept_half(a, walk, kind, all, w)?;
+    if kind == 1 && all == 3 {
+        return Ok(Ran { bound: 1, ..ran });
     }
-    run
+    Ok(ran)
 }

@@ -1,23 +1,18 @@
--- The lower half for r tells the height of the polynomial, and its peak t times as far up (`top_is`); and what each
--- outcome tells and leaves.
+-- The lower half for r tells the height of the polynomial, and its peak t times as far up (`top_is`).
 use Prim.Native.Nat.{ℕ, ◌+◌, ◌*◌, ◌<◌, ◌≤◌}
 use mathlib.Core.Path.{◌≡◌, sym, ◌∙◌, ap, ap₂}
-use mathlib.Core.Bool.{true, false, true≢false}
 use mathlib.Core.List.{List}
 use native.Mathlib.Omega.{arith}
-use native.Mathlib.Numerals.{add-one}
 use lib.ListN.{length, take}
 use lib.Seq.{length-take-le, get_or-take}
-use lib.Dec.{ltb}
 use lib.IntN.{ℤ}
 use Rattle.definitions.specs.Integers.{0ℤ}
 use Rattle.definitions.specs.Series.{firsts}
 use Rattle.definitions.specs.Numbers.{r_of}
-use Rattle.definitions.specs.Polynomials.{polynomial, degree}
+use Rattle.definitions.specs.Polynomials.{polynomial}
 use Rattle.definitions.specs.KeptHalf.{half_degree}
 use Rattle.definitions.specs.Steps.{entries}
-use Rattle.definitions.specs.Requests.{zeros}
-use Rattle.definitions.specs.Answer.{coefficients, height_of, height, peak_of, peak}
+use Rattle.definitions.specs.Answer.{height_of, height, peak_of, peak}
 use Rattle.step_laws.specs.Firsts.{is_firsts}
 use Rattle.cyclotomic.specs.Heights.{told-half, peak_inside}
 use Rattle.squarefree_from_half.specs.Growth.{Lower}
@@ -26,7 +21,6 @@ use Rattle.whole_from_half.specs.Ready.{Ready}
 use Rattle.whole_from_half.proofs.Laying.{above_zero, t_is, r_fits}
 use Rattle.index.specs.declared.Parts.{Parts}
 use Rattle.heights.specs.declared.Top.{Top}
-use Rattle.laying_out.specs.Laid.{LaidIs}
 
 -- what `peak_within` tells
 abbrev pub top_of : List ℤ → Top
@@ -59,19 +53,3 @@ module _ (kind n : ℕ) (a : Parts) (l : List ℤ) (R : Ready kind n a l) where
             ap (λ y. y.height) is ∙ sym half.0,
             ap₂ (λ y t. y.place * t) is (t_is kind n a l R) ∙ sym half.1,
           )
-
-  pub laid_tall : (h : ℕ) (x : List ℤ) → ltb h (height kind n) ≡ true → x ≡ zeros (length l)
-      → LaidIs kind n h x (record { tall = true; height = 0; peak = 0 })
-  laid_tall h x t e =
-      record {
-        tall = sym t;
-        leaves = e ∙ ap zeros (R.room ∙ add-one (degree kind n));
-        height = λ q. absurd (true≢false q);
-        peak = λ q. absurd (true≢false q);
-      }
-
-  pub laid_done : (h : ℕ) (x : List ℤ) (y z : ℕ) → ltb h (height kind n) ≡ false → x ≡ coefficients kind n
-      → y ≡ height kind n → z ≡ peak kind n
-      → LaidIs kind n h x (record { tall = false; height = y; peak = z })
-  laid_done h x y z t e q p =
-      record { tall = sym t; leaves = e; height = λ _. q; peak = λ _. p }

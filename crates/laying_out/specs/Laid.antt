@@ -1,13 +1,13 @@
--- What laying out comes to: whether the polynomial is too tall, what is left, and the height and the peak where it is
--- not.
-use Rattle.std.specs.Prelude.{ℕ, suc, ◌≡◌, false, cond, List, ltb, ℤ}
+-- What laying out comes to: the polynomial is left, and told are its height and its peak; or it is taller than h, and
+-- zeros are left.
+use Rattle.std.specs.Prelude.{ℕ, suc, ◌≡◌, ◌<◌, ◌≤◌, List, ℤ, Result, Ok, Err}
 use Rattle.definitions.specs.Polynomials.{degree}
 use Rattle.definitions.specs.Requests.{zeros}
 use Rattle.definitions.specs.Answer.{coefficients, height, peak}
 use Rattle.laying_out.specs.declared.Laid.{Laid}
+use Rattle.laying_out.specs.declared.Tall.{Tall}
 
-pub record LaidIs (kind n h : ℕ) (m : List ℤ) (r : Laid) : Type 0 where
-  pub tall : r.tall ≡ ltb h (height kind n)
-  pub leaves : m ≡ cond r.tall (zeros (suc (degree kind n))) (coefficients kind n)
-  pub height : r.tall ≡ false → r.height ≡ Rattle.definitions.specs.Answer.height kind n
-  pub peak : r.tall ≡ false → r.peak ≡ Rattle.definitions.specs.Answer.peak kind n
+abbrev pub LaidIs : (kind n h : ℕ) → List ℤ → Result Laid Tall → Type 0
+LaidIs kind n h m (Ok laid) =
+    (height kind n ≤ h) × (m ≡ coefficients kind n) × (laid ≡ record { height = height kind n; peak = peak kind n })
+LaidIs kind n h m (Err _) = (h < height kind n) × (m ≡ zeros (suc (degree kind n)))

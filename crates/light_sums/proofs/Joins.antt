@@ -5,30 +5,27 @@ use mathlib.Core.List.{[], ◌∷◌}
 use Prim.Native.Nat.{ℕ, zero, suc, ◌*◌, ◌^◌, ◌<◌, ◌≤◌}
 use native.Mathlib.Nat.{suc-mul}
 use native.Mathlib.Omega.{arith}
-use lib.IntN.{ℤ, pos, nat_abs}
+use lib.IntN.{ℤ, pos, negsuc, nat_abs, ◌+ℤ◌, ◌*ℤ◌}
 use lib.Signed.{mag, shr_z, mag_shr}
+use Rattle.std.specs.Prelude.{Some, None}
 use mir.Syntax.{w64}
-use mir.Val.{SFits}
+use mir.Val.{SFits, of_z}
 use mir.Facts.{to_z-of_z}
 use Rattle.definitions.specs.Integers.{◌⊕◌, ◌⊝◌, ◌⊗◌}
+use Rattle.definitions.specs.Steps.{largest}
 use Rattle.integers.specs.Solver.{x, y, z, w, ◌:+◌, ◌:*◌, :-}
-use Rattle.integers.specs.Whole.{⊕_comm, ringℤ}
+use Rattle.integers.specs.Whole.{ringℤ}
 use Rattle.step_laws.specs.Signed.{mag_abs}
-use Rattle.step_laws.specs.Machine.{seen, handed}
-use Rattle.light_sums.specs.Parts.{rest, rest_below, split, mag_above, Rest}
-use Rattle.light_sums.specs.Told.{told, told_fits, told_mag, in_joined, in_times}
+use Rattle.step_laws.specs.Machine.{seen, seen_both, handed}
+use Rattle.step_laws.specs.Tests.{by_order}
+use Rattle.light_sums.specs.Parts.{rest, rest_below, split, mag_above}
+use Rattle.light_sums.specs.Told.{Joins, told, told_fits, told_out, in_times, out_above}
 
 pub small_fits : (v : ℤ) → nat_abs v < 2 ^ 63 → SFits w64 v
 small_fits v h = record { sfits = omega (arith, mag_abs v) }
 
-pub told-handed : {r : ℤ} (v : ℤ) → r ≡ told v → seen r ≡ told v
-told-handed v e = handed (record { sfits = told_mag v }) e
-
 pub shr_fits : (m : ℕ) (v : ℤ) → SFits w64 v → SFits w64 (shr_z v m)
 shr_fits m v f = record { sfits = omega (arith, mag_shr v m, f.sfits) }
-
-pub shr_seen : (m : ℕ) (v : ℤ) → SFits w64 v → seen (shr_z (seen v) m) ≡ shr_z v m
-shr_seen m v f = handed (shr_fits m v f) (ap (λ n. shr_z n m) (to_z-of_z f))
 
 module _ (m k : ℕ) (e : k * m ≡ 2 ^ 63) (two : 2 ≤ m) where
   -- the rest
@@ -70,20 +67,41 @@ module _ (m k : ℕ) (e : k * m ≡ 2 ^ 63) (two : 2 ≤ m) where
     pub rest-seen : (r : ℤ) → r ≡ seen v ⊝ seen h ⊗ pos m → seen r ≡ pos (rest m v)
     rest-seen r g =
         handed (rest_fits v) (g ∙ ap₂ (λ a b. a ⊝ b ⊗ pos m) (to_z-of_z f) above-seen ∙ rest_is v)
+    -- put together
 
-  -- put together
-  module _ (v d : ℤ) (f : SFits w64 v) (g : SFits w64 d) (r : Rest m d) (h : mag v < k) where
-    whole : SFits w64 (v ⊗ pos m ⊕ d)
-    whole = record { sfits = rw r.is (in_joined m k e r.size r.below v h) }
+-- ---- what is told of a machine number, and of one that no machine number is
+pub told-least : (v : ℤ) → of_z w64 v ≡ 9223372036854775808 → told v ≡ None
+told-least (pos n) e = told_out (pos n) (omega arith)
+told-least (negsuc n) e = told_out (negsuc n) (omega arith)
 
-    turned : seen d ⊕ seen v ⊗ pos m ≡ v ⊗ pos m ⊕ d
-    turned = rw (to_z-of_z f, to_z-of_z g) (⊕_comm d (v ⊗ pos m))
+other_small : (v : ℤ) → SFits w64 v → (of_z w64 v ≡ 9223372036854775808 → ⊥) → nat_abs v ≤ largest
+other_small (pos n) f o = omega (arith, f.sfits)
+other_small (negsuc n) f o = omega (arith, f.sfits, o)
 
-    pub joined_asks : SFits w64 (seen v ⊗ pos m) × SFits w64 (seen d ⊕ seen v ⊗ pos m)
-    joined_asks = (
-      rw (to_z-of_z f) (record { sfits = in_times m k e 0 (omega arith) v h }),
-      rw turned whole,
-    )
+pub told_other : (v : ℤ) → SFits w64 v → (of_z w64 v ≡ 9223372036854775808 → ⊥) → Some (seen v) ≡ told v
+told_other v f o = ap Some (to_z-of_z f) ∙ sym (told_fits v (other_small v f o))
 
-    pub joined_seen : (s : ℤ) → s ≡ seen d ⊕ seen v ⊗ pos m → seen s ≡ told (v ⊗ pos m ⊕ d)
-    joined_seen s is = handed whole (is ∙ turned) ∙ sym (told_fits (v ⊗ pos m ⊕ d) whole.sfits)
+unfit : (v : ℤ) → (SFits w64 v → ⊥) → 2 ^ 63 ≤ mag v
+unfit v n = by_order (mag v) (2 ^ 63) (λ l. absurd (n (record { sfits = l }))) (λ l. l)
+
+-- ---- a number above a rest: where no machine number is the product, or the sum, it is outside the range
+module _ {v base d : ℤ} (J : Joins base d) (f : SFits w64 v) (g : SFits w64 base) where
+  pub above_out : (SFits w64 (seen v *ℤ seen base) → ⊥) → told (v ⊗ base ⊕ d) ≡ None
+  unfolding ◌⊗◌
+  above_out n =
+      let many : 2 ^ 63 ≤ mag (v ⊗ pos J.m) = unfit (v ⊗ pos J.m) (rw (seen_both f g ◌*ℤ◌, J.is) at n) in
+      rw (J.is, J.rest.is) (out_above J.m J.k J.whole J.rest.size J.rest.below v many)
+
+  module _ (h : SFits w64 d) {p : ℤ} (fits : SFits w64 (seen v *ℤ seen base)) (is : p ≡ seen v *ℤ seen base) where
+    sum_is : seen p +ℤ seen d ≡ v ⊗ base ⊕ d
+    unfolding ◌⊗◌ ◌⊕◌
+    sum_is =
+        ap₂ ◌+ℤ◌ (handed (rw (seen_both f g ◌*ℤ◌) at fits) (is ∙ seen_both f g ◌*ℤ◌)) (to_z-of_z h)
+
+    pub sum_out : (SFits w64 (seen p +ℤ seen d) → ⊥) → told (v ⊗ base ⊕ d) ≡ None
+    sum_out n =
+        let many = unfit (v ⊗ base ⊕ d) (rw sum_is at n) in
+        told_out (v ⊗ base ⊕ d) (omega (arith, mag_abs (v ⊗ base ⊕ d)))
+
+    pub sum_told : {s : ℤ} → SFits w64 (seen p +ℤ seen d) → s ≡ seen p +ℤ seen d → told (seen s) ≡ told (v ⊗ base ⊕ d)
+    sum_told k e = ap told (handed (rw sum_is at k) (e ∙ sum_is))

@@ -6,6 +6,7 @@ use mathlib.Core.List.{List}
 use Prim.Native.Nat.{ℕ, ◌+◌, ◌-◌, ◌<◌, ◌≤◌}
 use native.Mathlib.Omega.{arith}
 use lib.IntN.{ℤ, pos, nat_abs}
+use lib.ListN.{get_or}
 use mir.Syntax.{w64}
 use mir.Val.{SFits}
 use mir.Facts.{to_z-of_z}
@@ -13,7 +14,7 @@ use Rattle.definitions.specs.Integers.{◌⊕◌, ◌⊗◌, 0ℤ}
 use Rattle.definitions.specs.Series.{◌·◌}
 use Rattle.definitions.specs.Steps.{entries}
 use Rattle.step_laws.specs.Signed.{abs_⊕, abs_mag}
-use Rattle.step_laws.specs.Machine.{seen}
+use Rattle.step_laws.specs.Machine.{seen, handed}
 use Rattle.light_sums.specs.Parts.{half, rest_below, mag_above}
 use Rattle.light_sums.specs.Dots.{dot_more}
 use Rattle.light_sums.specs.Weight.{weight, weight_to, weight_to_more, weight_to-most, abs_term, abs_more}
@@ -88,6 +89,31 @@ module _ {high : Bool} {f b : List ℤ} {i j : ℕ} {s : ℤ} (light : weight f 
           small_fits (x ⊗ y) (omega (arith, weight_to_more (entries f) j, abs_term x y 4294967296 y-most)),
           small_fits (s ⊕ x ⊗ y) (omega (arith, more.small)),
         )
+
+-- one term more, as the machine reads the entries and their halves
+module _ {high : Bool} {f b : List ℤ} {i j : ℕ} {s h : ℤ} (light : weight f < 1073741824)
+    (so_far : LightTo high f b i j s) (fx : SFits w64 (get_or f j 0ℤ)) (fy : SFits w64 (get_or b (i - j) 0ℤ))
+    (is : h ≡ half_of high (seen (get_or b (i - j) 0ℤ))) where
+  x-seen : seen (get_or f j 0ℤ) ≡ entries f j
+  unfolding entries
+  x-seen = to_z-of_z fx
+
+  y-fits : SFits w64 (entries b (i - j))
+  unfolding entries
+  y-fits = fy
+
+  half-seen : seen h ≡ half_of high (entries b (i - j))
+  unfolding entries
+  half-seen = handed (half_fits high (get_or b (i - j) 0ℤ) fy) (is ∙ ap (half_of high) (to_z-of_z fy))
+
+  pub term_asks : SFits w64 (seen (get_or f j 0ℤ) ⊗ seen h) × SFits w64 (seen s ⊕ seen (get_or f j 0ℤ) ⊗ seen h)
+  term_asks = rw (x-seen, half-seen, to_z-of_z (sum_fits light so_far)) (more_asks light so_far y-fits)
+
+  pub term_more : {r : ℤ} → r ≡ seen s ⊕ seen (get_or f j 0ℤ) ⊗ seen h → LightTo high f b i (j + 1) (seen r)
+  term_more e =
+      let next = more_asks light so_far y-fits in
+      let more = more light so_far y-fits in
+      rw (handed next.1 (e ∙ ap₂ ◌⊕◌ (to_z-of_z (sum_fits light so_far)) (ap₂ ◌⊗◌ x-seen half-seen))) more
 
 -- the two sums can be put together
 pub whole_fits : (h l : ℤ) → nat_abs h < 4611686018427387904 → SFits w64 l → SFits w64 (h ⊕ high_half l)

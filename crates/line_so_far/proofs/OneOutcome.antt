@@ -11,12 +11,12 @@ use Rattle.line_so_far.proofs.heading.Kinds as heading-kinds
 use Rattle.line_so_far.specs.contracts.start
 use Rattle.line_so_far.proofs.start.Reads as start-reads
 use Rattle.line_so_far.proofs.start.Kinds as start-kinds
-use Rattle.line_so_far.specs.contracts.push
-use Rattle.line_so_far.proofs.push.Reads as push-reads
-use Rattle.line_so_far.proofs.push.Kinds as push-kinds
-use Rattle.line_so_far.specs.contracts.next
-use Rattle.line_so_far.proofs.next.Reads as next-reads
-use Rattle.line_so_far.proofs.next.Kinds as next-kinds
+use Rattle.line_so_far.specs.contracts.Line.push as push
+use Rattle.line_so_far.proofs.Line.push.Reads as push-reads
+use Rattle.line_so_far.proofs.Line.push.Kinds as push-kinds
+use Rattle.line_so_far.specs.contracts.Line.next as next
+use Rattle.line_so_far.proofs.Line.next.Reads as next-reads
+use Rattle.line_so_far.proofs.Line.next.Kinds as next-kinds
 
 module _ (κs : Lfts 1) (a : ArgsD heading.signature κs) (z z' : ResD heading.signature κs)
     (e e' : AtExit (ended_of 1 heading-kinds.ps heading-kinds.r) κs) where
@@ -28,12 +28,12 @@ module _ (κs : Lfts 0) (a : ArgsD start.signature κs) (z z' : ResD start.signa
   pub one-start : start-reads.Post κs a z e → start-reads.Post κs a z' e' → z ≡ z'
   one-start p p' = p ∙ sym p'
 
-module _ (κs : Lfts 0) (a : ArgsD push.signature κs) (z z' : ResD push.signature κs)
-    (e e' : AtExit (ended_of 0 push-kinds.ps push-kinds.r) κs) where
-  pub one_push : push-reads.Post κs a z e → push-reads.Post κs a z' e' → z ≡ z'
+module _ (κs : Lfts 1) (a : ArgsD push.signature κs) (z z' : ResD push.signature κs)
+    (e e' : AtExit (ended_of 1 push-kinds.ps push-kinds.r) κs) where
+  pub one_push : push-reads.Post κs a z e → push-reads.Post κs a z' e' → e.0.now ≡ e'.0.now
   one_push p p' = p ∙ sym p'
 
-module _ (κs : Lfts 0) (a : ArgsD next.signature κs) (z z' : ResD next.signature κs)
-    (e e' : AtExit (ended_of 0 next-kinds.ps next-kinds.r) κs) where
-  pub one-next : next-reads.Post κs a z e → next-reads.Post κs a z' e' → z ≡ z'
+module _ (κs : Lfts 1) (a : ArgsD next.signature κs) (z z' : ResD next.signature κs)
+    (e e' : AtExit (ended_of 1 next-kinds.ps next-kinds.r) κs) where
+  pub one-next : next-reads.Post κs a z e → next-reads.Post κs a z' e' → e.0.now ≡ e'.0.now
   one-next p p' = p ∙ sym p'

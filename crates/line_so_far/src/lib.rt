@@ -10,16 +10,44 @@ ghost use Rattle.line_so_far.specs.OpenLine.{start_line, pushed, next_line};
 
 use text::put_text;
 
+// So many bytes of a line are kept: a longer one is not good.
+const KEPT: usize = 40;
+
+const HEADING: [u8; 12] = *b"polynomials\n";
+
 // The line that is being read: its first 40 bytes, its length (41 for all longer ones) and its number among the input
 // lines.
+// Stays an array with a length beside it: the length says 41 of a line that is longer than what is kept, which the
+// length of an `ArrayVec` can't, and a flag beside that would be no plainer.
 #[derive(Clone, Copy)]
 pub struct Line {
-    pub bytes: [u8; 40],
+    pub bytes: [u8; KEPT],
     pub length: usize,
     pub number: u64,
 }
 
-const HEADING: [u8; 12] = *b"polynomials\n";
+impl Line {
+    // One byte more, that is no newline.
+    pub fn push(&mut self, b: u8)
+        ensures { self.new ≡ pushed self.old b }
+    {
+        let n = self.length;
+        if n < KEPT {
+            self.bytes[n] = b;
+            self.length = n + 1;
+        } else {
+            self.length = KEPT + 1;
+        }
+    }
+
+    // After a newline.
+    pub fn next(&mut self)
+        ensures { self.new ≡ next_line self.old }
+    {
+        self.length = 0;
+        self.number = self.number.wrapping_add(1);
+    }
+}
 
 // `polynomials` and a newline, where there is room for it.
 pub fn heading(out: &mut [u8]) -> usize
@@ -36,43 +64,9 @@ pub fn heading(out: &mut [u8]) -> usize
 pub fn start() -> Line
     ensures { result ≡ start_line }
 {
-    let bytes = [0u8; 40];
     Line {
-        bytes: bytes,
+        bytes: [0; KEPT],
         length: 0,
         number: 1,
-    }
-}
-
-// One byte more, that is no newline.
-pub fn push(line: Line, b: u8) -> Line
-    ensures { result ≡ pushed line b }
-{
-    let mut bytes = line.bytes;
-    let n = line.length;
-    if n < 40 {
-        bytes[n] = b;
-        return Line {
-            bytes: bytes,
-            length: n + 1,
-            number: line.number,
-        };
-    }
-    Line {
-        bytes: bytes,
-        length: 41,
-        number: line.number,
-    }
-}
-
-// After a newline.
-pub fn next(line: Line) -> Line
-    ensures { result ≡ next_line line }
-{
-    let bytes = line.bytes;
-    Line {
-        bytes: bytes,
-        length: 0,
-        number: std::num::wrapping_add_u64(line.number, 1),
     }
 }

@@ -1,6 +1,5 @@
 -- What is kept of a line says what is printed for it: its first 40 bytes are all of it, or it is too long to be good.
 use mathlib.Core.Path.{◌≡◌, refl, sym, ◌∙◌, ap}
-use mathlib.Core.Bool.{false}
 use mathlib.Core.List.{List, [], ◌∷◌, ◌++◌}
 use Prim.Native.Nat.{ℕ, suc, ◌+◌, ◌%◌, ◌^◌, ◌<◌, ◌≤◌}
 use native.Mathlib.Nat.{mod-eq_of_lt}
@@ -44,7 +43,7 @@ keeps_start =
 long-wrong : (k : ℕ) (current : List ℕ) → KEPT < length current → wrong_line k ≡ reply k current
 long-wrong k current h =
     by_test (is_good current) (λ e. absurd (clash (good_short current e)))
-    (λ e. replied_wrong k current (record { good = false; kind = 0; n = 0; h = 0 }) (reads_wrong current e) refl)
+    (λ e. replied_wrong k current (sym (reads_wrong current e)))
   where
     clash : length current ≤ 21 → ⊥
     clash m = omega arith

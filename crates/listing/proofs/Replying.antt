@@ -1,6 +1,6 @@
 -- The entries that the polynomial request leaves, up to the degree it answers, are the coefficients that are printed.
 use mathlib.Core.Path.{◌≡◌, refl, sym, ◌∙◌, ap, subst}
-use mathlib.Core.Bool.{true, false, not, ◌||◌}
+use mathlib.Core.Bool.{not, ◌||◌}
 use mathlib.Core.List.{List, [], ◌∷◌, ◌++◌}
 use Prim.Native.Nat.{ℕ, suc, ◌+◌, ◌<◌}
 use native.Mathlib.Numerals.{add-one}
@@ -9,6 +9,7 @@ use lib.ListN.{length, take, drop}
 use lib.Seq.{take_at}
 use lib.Dec.{eqb, leb}
 use lib.IntN.{ℤ, pos}
+use Rattle.std.specs.Prelude.{None, Some}
 use Rattle.definitions.specs.Codes.{DONE, KIND, INDEX, LIMIT, SHORT}
 use Rattle.definitions.specs.Polynomials.{degree, polynomial}
 use Rattle.definitions.specs.Steps.{largest, below_one}
@@ -53,19 +54,19 @@ module _ (kind n : ℕ) (h w : ℤ) (l : List ℤ) where
       (degree kind n + 1) length-coefficients)))
       (λ e. rw e)
 
-module _ (number : ℕ) (line : List ℕ) (q : Request) (e : q ≡ read_line line) where
-  pub replied : (a : Answer) (l m : List ℤ) → q.good ≡ true → length l ≡ LENT
+module _ (number : ℕ) (line : List ℕ) where
+  pub replied : (q : Request) → Some q ≡ read_line line → (a : Answer) (l m : List ℤ) → length l ≡ LENT
       → a ≡ answer q.kind q.n (pos q.h) (pos largest) (length l) → m ≡ leaves q.kind q.n (pos q.h)
       (pos largest) l
       → head_of q.kind q.n a ++ tail_of a (take (a.degree + 1) m) ≡ reply number line
   unfolding reply reply_to good_line
-  replied a l m g len ea em =
-      rw (← e, g, ea, em)
+  replied q e a l m len ea em =
+      rw (← e, ea, em)
       (ap (λ t. head_of q.kind q.n (answer q.kind q.n (pos q.h) (pos largest) (length l)) ++ t)
       (same_tail q.kind q.n (pos q.h) (pos largest) l)
       ∙ ap (λ r. head_of q.kind q.n (answer q.kind q.n (pos q.h) (pos largest) r)
       ++ tail_of (answer q.kind q.n (pos q.h) (pos largest) r) (coefficients q.kind q.n)) len)
 
-  pub replied_wrong : q.good ≡ false → wrong_line number ≡ reply number line
+  pub replied_wrong : None ≡ read_line line → wrong_line number ≡ reply number line
   unfolding reply reply_to
-  replied_wrong g = rw (← e, g)
+  replied_wrong e = rw (← e)

@@ -18,7 +18,7 @@ use Rattle.answers.specs.Polynomial.{code, answered, answer}
 use Rattle.text.specs.Text.{decimal_in, decimal, sign, signed, spaced}
 use Rattle.request_lines.specs.Request.{kind_of, is_good_with}
 use Rattle.digits.specs.Digits.{between, digits, value_from, value_of, digits_at, number_at}
-use Rattle.request_lines.specs.Request.{place_of_limit, is_good, wrong, read_line}
+use Rattle.request_lines.specs.Request.{place_of_limit, is_good, read_line}
 use Rattle.answer_lines.specs.Printed.{letter_of, head_of, tail_of, good_line, wrong_line}
 use Rattle.listing.specs.Reply.{reply_to, reply}
 use Rattle.line_so_far.specs.Heading.{heading}
@@ -41,7 +41,7 @@ output =
 
 example : listing input ≡ output
 unfolding input output listing heading replies lines_from last_line reply reply_to read_line is_good is_good_with place_of_limit
-    number_at digits_at value_of value_from digits between kind_of wrong good_line head_of tail_of letter_of wrong_line
+    number_at digits_at value_of value_from digits between kind_of good_line head_of tail_of letter_of wrong_line
     spaced signed sign decimal decimal_in answer answered code known_kind good_index divisors_due over_among over_at
     next_divisor coefficients height height_of peak peak_of place_of gain gain_of additions_for additions sum_of kept_half
     kept_series product_of start term term_of sort_of half_degree step_over some_outside stepped accumulated

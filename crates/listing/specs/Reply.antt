@@ -1,5 +1,5 @@
 -- What is printed for one line (docs/RULES.md, 'The listing'): that of its answer, or of a line that is not good.
-use Rattle.std.specs.Prelude.{ℕ, cond, List, pos}
+use Rattle.std.specs.Prelude.{ℕ, Option, None, Some, List, pos}
 use Rattle.definitions.specs.Steps.{largest}
 use Rattle.definitions.specs.Answer.{coefficients}
 use Rattle.answers.specs.Polynomial.{answer}
@@ -12,11 +12,10 @@ abbrev pub LENT : ℕ
 LENT = 4096
 
 -- what is printed for the request that a line makes, under the largest working limit, and for a line, given its number
-unfoldable pub reply_to : ℕ → Request → List ℕ
-reply_to number q =
-    let good = good_line q.kind q.n (answer q.kind q.n (pos q.h) (pos largest) LENT)
-    (coefficients q.kind q.n) in
-    cond q.good good (wrong_line number)
+unfoldable pub reply_to : ℕ → Option Request → List ℕ
+reply_to number None = wrong_line number
+reply_to number (Some q) =
+    good_line q.kind q.n (answer q.kind q.n (pos q.h) (pos largest) LENT) (coefficients q.kind q.n)
 
 unfoldable pub reply : ℕ → List ℕ → List ℕ
 reply number line = reply_to number (read_line line)

@@ -8,8 +8,8 @@ use crate::MOST;
 use answer_lines::{put_head, put_tail, put_wrong};
 use request_lines::read_line;
 
-// The listing has no working limit: 2^63 - 1.
-const LARGEST: i64 = 9223372036854775807;
+// The listing has no working limit.
+const LARGEST: i64 = i64::MAX;
 
 pub(crate) fn put_reply(
     out: &mut [u8],
@@ -22,10 +22,9 @@ pub(crate) fn put_reply(
     ensures puts { Puts (reply number line.now) at out.old out.new result }
     ensures upper_bound { result ≤ at + Most }
 {
-    let q = read_line(line);
-    if !q.good {
+    let Some(q) = read_line(line) else {
         return put_wrong(out, at, number);
-    }
+    };
     let a = polynomial::polynomial(q.kind, q.n, q.h as i64, LARGEST, entries);
     let p = put_head(out, at, q.kind, q.n, a);
     put_tail(out, p, a, entries)

@@ -11,52 +11,45 @@ ghost use Rattle.listing.specs.Ran.{Ran};
 use crate::reply::put_reply;
 use crate::{MOST, Progress};
 use answer_lines::put_wrong;
-use line_so_far::{Line, next, push};
+use line_so_far::Line;
 
 // What a newline prints.
-fn put_closing(out: &mut [u8], at: usize, line: Line, entries: &mut [i64]) -> usize
+fn put_closing(out: &mut [u8], at: usize, line: &Line, entries: &mut [i64]) -> usize
     requires { (length entries.old ≡ LENT) × (at + Most ≤ length out.old) }
-    ensures puts { Puts (closing line) at out.old out.new result }
+    ensures puts { Puts (closing line.now) at out.old out.new result }
     ensures upper_bound { result ≤ at + Most }
 {
-    let n = line.length;
-    if 40 < n {
+    let Some(text) = line.bytes.get(..line.length) else {
         return put_wrong(out, at, line.number);
-    }
-    let bytes = line.bytes;
-    put_reply(out, at, &bytes[..n], line.number, entries)
+    };
+    put_reply(out, at, text, line.number, entries)
 }
 
 // `run`, with the entries for the polynomials lent.
-fn run_with(line: Line, piece: &[u8], out: &mut [u8], entries: &mut [i64]) -> Progress
+fn run_with(mut line: Line, piece: &[u8], out: &mut [u8], entries: &mut [i64]) -> Progress
     requires { length entries.old ≡ LENT }
     ensures { Ran line piece.now out.old out.new result }
 {
-    let mut s = line;
-    let mut i = 0;
     let mut made = 0;
-    while i < piece.len() {
-        let b = piece[i];
+    for (i, &b) in piece.iter().enumerate() {
         if b == b'\n' {
             if out.len() - made < MOST {
                 return Progress {
-                    line: s,
+                    line,
                     taken: i,
-                    made: made,
+                    made,
                 };
             }
-            made = put_closing(out, made, s, entries);
-            s = next(s);
-            i += 1;
+            made = put_closing(out, made, &line, entries);
+            line.next();
         } else {
-            s = push(s, b);
-            i += 1;
+            line.push(b);
         }
     }
     Progress {
-        line: s,
-        taken: i,
-        made: made,
+        line,
+        taken: piece.len(),
+        made,
     }
 }
 

@@ -140,7 +140,6 @@ module _ (n : ℕ) (good : good_index n ≡ true) where
         → m ≡ leaves 1 n (pos largest) (pos largest) l → g ≡ nat_abs (seen a.gain)
         → First n l m
         (record {
-          over = false;
           turned = eqb n 1;
           have = a.degree + 1;
           height = a.height;
@@ -151,7 +150,6 @@ module _ (n : ℕ) (good : good_index n ≡ true) where
     first-is {a} {m} {g} none is left read =
         let e = is ∙ its_answer in
         record {
-          over = refl;
           turned = refl;
           leaves = left ∙ its_leaves ∙ laid none;
           have = ap (λ x. x.degree + 1) e ∙ add-one (phi n);

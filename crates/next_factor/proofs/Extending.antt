@@ -3,7 +3,7 @@
 -- product.
 use Prim.Native.Nat.{ℕ, suc, ◌+◌, ◌*◌, ◌-◌, ◌<◌, ◌≤◌}
 use mathlib.Core.Path.{◌≡◌, refl, sym, ◌∙◌, ap, ap₂, fun_ext}
-use mathlib.Core.Bool.{Bool, true, false, true≢false, cond, not, ◌||◌, or-true, not-not}
+use mathlib.Core.Bool.{Bool, true, false, cond, not, ◌||◌, or-true, not-not}
 use mathlib.Core.List.{List, ◌++◌}
 use native.Mathlib.Omega.{arith}
 use lib.Dec.{eqb, leb}
@@ -25,14 +25,14 @@ use Rattle.index.proofs.Laws.{index_good}
 use Rattle.index.specs.Parts.{parts_of}
 use Rattle.index.specs.declared.Parts.{Parts}
 use Rattle.heights.specs.declared.Top.{Top}
+use Rattle.std.specs.Prelude.{Result, Ok, IsErr}
+use Rattle.std.proofs.lemmas.Result.{IfOk-from_err}
+use Rattle.exact_products.specs.declared.Over.{Over}
 use Rattle.next_factor.specs.declared.SoFar.{SoFar}
 use Rattle.next_factor.specs.declared.Size.{Size}
-use Rattle.next_factor.specs.Taking.{SizeIs, Known, Room, Taken}
+use Rattle.next_factor.specs.Taking.{SizeIs, Known, Room, Extended, Taken}
 use Rattle.next_factor.specs.Times.{Asked, Turns, Multiplied, signed}
 use Rattle.next_factor.proofs.Mirroring.{turned-product}
-
-abbrev pub nothing : SoFar
-nothing = record { over = true; turned = false; have = 0; height = 0; peak = 0; gain = 0 }
 
 module _ {n : ℕ} {l scratch : List ℤ} {s : SoFar} {size : Size} (K : Known l s) (R : Room n l scratch s)
     (M : SizeIs n size) where
@@ -108,20 +108,20 @@ module _ {n : ℕ} {l scratch : List ℤ} {s : SoFar} {size : Size} (K : Known l
   unfolding in_range
   gain_test b e = e ∙ ap (λ v. leb (nat_abs v) largest) gain-product
 
-  pub gain-over : {b : Bool} → b ≡ leb (s.gain * size.gain) largest → b ≡ false → Taken n l s l nothing
-  gain-over {b} e lost =
-      record {
-        over = sym (ap (λ x. some_outside largest 0 (s.have + phi n) (F n · entries l) || not x)
-            (sym (gain_test b e) ∙ lost)
-            ∙ or-true (some_outside largest 0 (s.have + phi n) (F n · entries l)));
-        leaves = λ e. absurd (true≢false e);
-        len = refl;
-        have = λ e. absurd (true≢false e);
-        height = λ e. absurd (true≢false e);
-        peak = λ e. absurd (true≢false e);
-        mirrored = λ e. absurd (true≢false e);
-        gain = λ e. absurd (true≢false e);
-      }
+  -- what is told where either does
+  gone : {m : List ℤ} {r : Result SoFar Over} → IsErr r → length m ≡ length l
+      → (some_outside largest 0 (s.have + phi n) (F n · entries l) || not (in_range largest (pos s.gain ⊗ gain 1 n)))
+      ≡ true
+      → Taken n l s m r
+  gone {m} {r} e len o =
+      record { over = e ∙ sym o; len = len; extended = IfOk-from_err r (Extended n l s m) e }
+
+  pub gain-over : {b : Bool} → b ≡ leb (s.gain * size.gain) largest → b ≡ false → {r : Result SoFar Over} → IsErr r
+      → Taken n l s l r
+  gain-over {b} e lost err =
+      gone err refl
+      (ap (λ x. some_outside largest 0 (s.have + phi n) (F n · entries l) || not x) (sym (gain_test b e) ∙ lost)
+      ∙ or-true (some_outside largest 0 (s.have + phi n) (F n · entries l)))
 
   -- ---- the product
   module _ {m : List ℤ} {fits : Bool} (T : Multiplied n (take (s.have + size.degree) l) m fits) where
@@ -144,18 +144,10 @@ module _ {n : ℕ} {l scratch : List ℤ} {s : SoFar} {size : Size} (K : Known l
     stays : fits ≡ true → some_outside largest 0 (s.have + phi n) (F n · entries l) ≡ false
     stays e = sym (not-not _) ∙ ap not (sym tested ∙ e)
 
-    pub coefficient_over : fits ≡ false → Taken n l s (m ++ drop (s.have + size.degree) l) nothing
-    coefficient_over lost =
-        record {
-          over = sym (ap (λ x. x || not (in_range largest (pos s.gain ⊗ gain 1 n))) (passes lost));
-          leaves = λ e. absurd (true≢false e);
-          len = whole_length;
-          have = λ e. absurd (true≢false e);
-          height = λ e. absurd (true≢false e);
-          peak = λ e. absurd (true≢false e);
-          mirrored = λ e. absurd (true≢false e);
-          gain = λ e. absurd (true≢false e);
-        }
+    pub coefficient_over : fits ≡ false → {r : Result SoFar Over} → IsErr r
+        → Taken n l s (m ++ drop (s.have + size.degree) l) r
+    coefficient_over lost err =
+        gone err whole_length (ap (λ x. x || not (in_range largest (pos s.gain ⊗ gain 1 n))) (passes lost))
 
     module _ (fit : fits ≡ true) where
       m_is : m ≡ firsts (s.have + phi n) (F n · entries l)
@@ -185,23 +177,24 @@ module _ {n : ℕ} {l scratch : List ℤ} {s : SoFar} {size : Size} (K : Known l
             place = peak_of (take (s.have + size.degree) (m ++ drop (s.have + size.degree) l));
           }
           → Taken n l s (m ++ drop (s.have + size.degree) l)
-          (record {
-            over = false;
+          (Ok (record {
             turned = negate;
             have = s.have + size.degree;
             height = top.height;
             peak = top.place;
             gain = s.gain * size.gain;
-          })
+          }))
       unfolding entries
       extended {b} e small {negate} signs {top} is =
           record {
             over = sym (ap₂ (λ x y. x || not y) (stays fit) (sym (gain_test b e) ∙ small));
-            leaves = λ _. is_firsts (length l) (F n · entries l) whole whole_length entry;
             len = whole_length;
-            have = λ _. have_is;
-            height = λ _. ap (λ x. x.height) is ∙ ap height_of taken-front;
-            peak = λ _. ap (λ x. x.place) is ∙ ap peak_of taken-front;
-            mirrored = λ _. product_turned ∙ ap (λ b. signed b (F n · entries l)) (sym signs);
-            gain = λ _. gain-product;
+            extended = record {
+              leaves = is_firsts (length l) (F n · entries l) whole whole_length entry;
+              have = have_is;
+              height = ap (λ x. x.height) is ∙ ap height_of taken-front;
+              peak = ap (λ x. x.place) is ∙ ap peak_of taken-front;
+              mirrored = product_turned ∙ ap (λ b. signed b (F n · entries l)) (sym signs);
+              gain = gain-product;
+            };
           }

@@ -15,6 +15,7 @@ use Rattle.definitions.specs.Answer.{height}
 use Rattle.step_laws.specs.Bound.{firsts_bounded}
 use Rattle.step_laws.specs.Firsts.{length-firsts}
 use Rattle.cyclotomic.specs.Heights.{at_most-height}
+use Rattle.numbers.specs.Apart.{r-pos}
 use Rattle.index.specs.Parts.{parts_of}
 use Rattle.index.specs.declared.Parts.{Parts}
 use Rattle.index.proofs.Laws.{index_good, parts_k, parts_r, parts_phi, phi_within, r_small}
@@ -51,14 +52,18 @@ module _ (n : ℕ) (good : good_index n ≡ true) (parts : Parts) (apart : parts
   unfolding promised_at promised_of
   two e = by_promise 510 (rw e) (omega arith)
 
-  pub three : parts.count ≡ 3 → 0 < 8 * parts.r → height 1 n ≤ 8 * parts.r
-  unfolding promised_at promised_of
-  three e = by_promise (8 * parts.r) (rw e)
+  r-least : 0 < parts.r
+  r-least = rw (parts_r n parts apart) (r-pos n)
 
-  pub four : parts.count ≡ 4 → 0 < 1920 * (parts.r * parts.r * parts.r)
-      → height 1 n ≤ 1920 * (parts.r * parts.r * parts.r)
+  pub three : parts.count ≡ 3 → height 1 n ≤ 8 * parts.r
   unfolding promised_at promised_of
-  four e = by_promise (1920 * (parts.r * parts.r * parts.r)) (rw e (cubed parts.r))
+  three e = by_promise (8 * parts.r) (rw e) (omega (arith, r-least))
+
+  pub four : parts.count ≡ 4 → height 1 n ≤ 1920 * (parts.r * parts.r * parts.r)
+  unfolding promised_at promised_of
+  four e =
+      by_promise (1920 * (parts.r * parts.r * parts.r)) (rw e (cubed parts.r))
+      (omega (arith, NatL.mul-pos (NatL.mul-pos r-least r-least) r-least))
 
   -- ---- the weight
   pub terms-most : parts.phi ≤ 65535

@@ -43,9 +43,6 @@ uncut h w small =
 pub weighs_little : (n h w : ℕ) → Weighs n w → h * w ≤ largest → h * weight (factor n) ≤ largest
 weighs_little n h w weighs small = uncut h (weight (factor n)) (NatL.le_trans (NatL.mul-le-mul_left h weighs) small)
 
-pub weighed_made : (n : ℕ) {f : List ℤ} → f ≡ factor n → {w : ℕ} → w ≡ min (weight f) 9223372036854775808 → Weighs n w
-weighed_made n made is = NatL.le_of_eq (ap (λ x. min (weight x) 9223372036854775808) (sym made) ∙ sym is)
-
 module _ {n : ℕ} {parts : Parts} {l : List ℤ} {have height : ℕ} (K : Asked n parts l have height) where
   pos-n : 0 < n
   pos-n = (index_good n K.good).0

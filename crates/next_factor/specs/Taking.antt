@@ -1,5 +1,5 @@
 -- What is known of a product, and what one factor more makes of it.
-use Rattle.std.specs.Prelude.{ℕ, suc, ◌+◌, ◌-◌, ◌<◌, ◌≤◌, ◌≡◌, true, false, not, ◌||◌, List, length, eqb, ℤ, pos}
+use Rattle.std.specs.Prelude.{ℕ, suc, ◌+◌, ◌-◌, ◌<◌, ◌≤◌, ◌≡◌, true, not, ◌||◌, List, length, eqb, ℤ, pos, Result, is_err, IfOk}
 use Rattle.definitions.specs.Integers.{◌⊗◌}
 use Rattle.definitions.specs.Series.{◌·◌, firsts}
 use Rattle.definitions.specs.Numbers.{phi}
@@ -11,6 +11,7 @@ use Rattle.series.specs.Degree.{ZeroFrom}
 use Rattle.series.specs.Mirror.{mirror}
 use Rattle.step_laws.specs.Bound.{Bounded}
 use Rattle.next_factor.specs.Times.{signed}
+use Rattle.exact_products.specs.declared.Over.{Over}
 use Rattle.next_factor.specs.declared.SoFar.{SoFar}
 use Rattle.next_factor.specs.declared.Size.{Size}
 
@@ -21,7 +22,6 @@ pub record SizeIs (n : ℕ) (r : Size) : Type 0 where
 
 -- F(n) is the product so far, in the slice that was l and is m
 pub record First (n : ℕ) (l m : List ℤ) (r : SoFar) : Type 0 where
-  pub over : r.over ≡ false
   pub turned : r.turned ≡ eqb n 1
   pub leaves : m ≡ firsts (length l) (F n)
   pub have : r.have ≡ suc (phi n)
@@ -45,15 +45,18 @@ pub record Room (n : ℕ) (l scratch : List ℤ) (s : SoFar) : Type 0 where
   pub room : s.have + phi n ≤ length l
   pub factor : phi n < length scratch
 
+-- the product with F(n) stands in m
+pub record Extended (n : ℕ) (l : List ℤ) (s : SoFar) (m : List ℤ) (r : SoFar) : Type 0 where
+  pub leaves : m ≡ firsts (length l) (F n · entries l)
+  pub have : r.have ≡ s.have + phi n
+  pub height : r.height ≡ height_of (firsts (s.have + phi n) (F n · entries l))
+  pub peak : r.peak ≡ peak_of (firsts (s.have + phi n) (F n · entries l))
+  pub mirrored : mirror (s.have + phi n - 1) (F n · entries l) ≡ signed r.turned (F n · entries l)
+  pub gain : pos r.gain ≡ pos s.gain ⊗ Rattle.definitions.specs.Answer.gain 1 n
+
 -- the product with F(n) is out of range, or stands in m
-pub record Taken (n : ℕ) (l : List ℤ) (s : SoFar) (m : List ℤ) (r : SoFar) : Type 0 where
-  pub over : r.over
+pub record Taken (n : ℕ) (l : List ℤ) (s : SoFar) (m : List ℤ) (r : Result SoFar Over) : Type 0 where
+  pub over : is_err r
       ≡ (some_outside largest 0 (s.have + phi n) (F n · entries l) || not (in_range largest (pos s.gain ⊗ gain 1 n)))
-  pub leaves : r.over ≡ false → m ≡ firsts (length l) (F n · entries l)
   pub len : length m ≡ length l
-  pub have : r.over ≡ false → r.have ≡ s.have + phi n
-  pub height : r.over ≡ false → r.height ≡ height_of (firsts (s.have + phi n) (F n · entries l))
-  pub peak : r.over ≡ false → r.peak ≡ peak_of (firsts (s.have + phi n) (F n · entries l))
-  pub mirrored : r.over ≡ false
-      → mirror (s.have + phi n - 1) (F n · entries l) ≡ signed r.turned (F n · entries l)
-  pub gain : r.over ≡ false → pos r.gain ≡ pos s.gain ⊗ Rattle.definitions.specs.Answer.gain 1 n
+  pub extended : IfOk r (Extended n l s m)

@@ -13,16 +13,15 @@ ghost use Rattle.definitions.specs.Requests.{good_index, zeros};
 ghost use Rattle.index.specs.Parts.{parts_of};
 ghost use Rattle.next_factor.specs.Taking.{SizeIs, First, Known, Room, Taken};
 
+pub use exact_products::Over;
 use gain::gain_of;
-use heights::magnitude;
 use index::Parts;
 use times::times;
 
-// A product so far: whether it is out of range; whether its upper half is the negative of the lower, turned round; how
-// many entries it has, its height, peak and gain.
-#[derive(Drop)]
+// A product so far: whether its upper half is the negative of the lower, turned round; how many entries it has, its
+// height, peak and gain.
+#[derive(Clone, Copy)]
 pub struct SoFar {
-    pub over: bool,
     pub turned: bool,
     pub have: usize,
     pub height: u64,
@@ -40,29 +39,11 @@ pub(crate) struct Size {
 // The largest coefficient, and the largest gain.
 pub(crate) const MOST: u64 = 9223372036854775807;
 
-impl SoFar {
-    fn out_of_range() -> SoFar
-        ensures { result ≡ record { over = true; turned = false; have = 0; height = 0; peak = 0; gain = 0 } }
-    {
-        SoFar {
-            over: true,
-            turned: false,
-            have: 0,
-            height: 0,
-            peak: 0,
-            gain: 0,
-        }
-    }
-}
-
 // Is the product of two numbers at most MOST?
 pub(crate) fn product_fits(a: u64, b: u64) -> bool
     ensures { result ≡ leb (a * b) largest }
 {
-    if a == 0 {
-        return true;
-    }
-    b <= MOST / a
+    a == 0 || b <= MOST / a
 }
 
 // F(1) changes the sign of the upper half.
@@ -78,7 +59,7 @@ fn size_of(n: u64, parts: Parts) -> Size
 {
     Size {
         degree: parts.phi as usize,
-        gain: magnitude(gain_of(1, n, parts)),
+        gain: gain_of(1, n, parts).unsigned_abs(),
     }
 }
 
@@ -89,17 +70,16 @@ pub fn first_factor(b: &mut [i64], n: u64) -> SoFar
 {
     let made = polynomial::polynomial(1, n, MOST as i64, MOST as i64, b);
     SoFar {
-        over: false,
         turned: n == 1,
         have: made.degree as usize + 1,
         height: made.height,
         peak: made.peak,
-        gain: magnitude(made.gain),
+        gain: made.gain.unsigned_abs(),
     }
 }
 
-// One factor more.
-pub fn take_factor(b: &mut [i64], scratch: &mut [i64], n: u64, so: SoFar) -> SoFar
+// One factor more; or that the gain or a coefficient is out of range.
+pub fn take_factor(b: &mut [i64], scratch: &mut [i64], n: u64, so: SoFar) -> Result<SoFar, Over>
     requires { Known b.old so × Room n b.old scratch.old so }
     ensures taken { Taken n b.old so b.new result }
     ensures scratch_len_unchanged { length scratch.new ≡ length scratch.old }
@@ -109,20 +89,17 @@ pub fn take_factor(b: &mut [i64], scratch: &mut [i64], n: u64, so: SoFar) -> SoF
     let before = so.have;
     let gain = size.gain;
     if !product_fits(so.gain, gain) {
-        return SoFar::out_of_range();
+        return Err(Over);
     }
     let have = before + size.degree;
     let turned = turned_by(n, so.turned);
-    if !times(&mut b[..have], scratch, n, parts, before, so.height, turned) {
-        return SoFar::out_of_range();
-    }
+    times(&mut b[..have], scratch, n, parts, before, so.height, turned)?;
     let top = heights::peak(&b[..have]);
-    SoFar {
-        over: false,
+    Ok(SoFar {
         turned,
         have,
         height: top.height,
         peak: top.place,
         gain: so.gain * gain,
-    }
+    })
 }

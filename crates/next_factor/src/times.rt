@@ -1,6 +1,6 @@
 // The product with F(n): by steps on numbers modulo 2^64, where it is known that no coefficient leaves the range, or
 // multiplied out.
-ghost use Rattle.std.specs.Prelude.{◌≡◌, true, false, suc, ◌<◌, length, take};
+ghost use Rattle.std.specs.Prelude.{◌≡◌, true, false, suc, ◌<◌, is_ok, length, take};
 ghost use Rattle.definitions.specs.Numbers.{phi};
 ghost use Rattle.definitions.specs.Requests.{good_index};
 ghost use Rattle.index.specs.Parts.{parts_of};
@@ -8,6 +8,7 @@ ghost use Rattle.next_factor.specs.Times.{Asked, Turns, Multiplied, factor, Weig
 
 use crate::weighing::known_weight;
 use crate::{MOST, product_fits};
+use exact_products::Over;
 use index::Parts;
 
 // Whether steps serve, by a bound of the sum of F(n)'s magnitudes.
@@ -42,7 +43,7 @@ fn steps_serve(scratch: &mut [i64], n: u64, parts: Parts, height: u64) -> bool
     by_steps(n, height, exact_products::weight_of(&scratch[..size]))
 }
 
-// The product as far as b goes; or whether a coefficient of that is out of range.
+// The product as far as b goes; or that a coefficient of that is out of range.
 fn times_lower(
     b: &mut [i64],
     scratch: &mut [i64],
@@ -50,19 +51,19 @@ fn times_lower(
     parts: Parts,
     have: usize,
     height: u64,
-) -> bool
+) -> Result<(), Over>
     requires { Asked n parts b.old have height × (phi n < length scratch.old) }
-    ensures { Multiplied n b.old b.new result }
+    ensures { Multiplied n b.old b.new (is_ok result) }
 {
     if steps_serve(scratch, n, parts, height) {
         factor_steps::times_factor(b, n, parts);
-        return true;
+        return Ok(());
     }
     let size = parts.phi as usize + 1;
     exact_products::multiply(b, &scratch[..size], have)
 }
 
-// The product, or whether a coefficient is out of range: its upper half mirrors the lower.
+// The product, or that a coefficient is out of range: its upper half mirrors the lower.
 pub(crate) fn times(
     b: &mut [i64],
     scratch: &mut [i64],
@@ -71,14 +72,12 @@ pub(crate) fn times(
     have: usize,
     height: u64,
     negate: bool,
-) -> bool
+) -> Result<(), Over>
     requires { Asked n parts b.old have height × Turns n b.old have negate × (phi n < length scratch.old) }
-    ensures { Multiplied n b.old b.new result }
+    ensures { Multiplied n b.old b.new (is_ok result) }
 {
     let half = (b.len() + 1) / 2;
-    if !times_lower(&mut b[..half], scratch, n, parts, have, height) {
-        return false;
-    }
+    times_lower(&mut b[..half], scratch, n, parts, have, height)?;
     shapes::mirror(b, negate);
-    true
+    Ok(())
 }

@@ -2,7 +2,7 @@
 -- whole, and that the short ways of a step come to what the step on all entries comes to.
 use Prim.Native.Nat.{ℕ, zero, suc, ◌+◌, ◌-◌, ◌%◌, ◌<◌, ◌≤◌, min}
 use mathlib.Core.Path.{◌≡◌, refl, sym, ◌∙◌, ap, ap₂}
-use mathlib.Core.Bool.{Bool, true, false, cond, not, ◌&&◌, ◌||◌}
+use mathlib.Core.Bool.{Bool, true, false, not, ◌&&◌, ◌||◌}
 use mathlib.Core.List.{List, ◌++◌}
 use native.Mathlib.Omega.{arith}
 use native.Mathlib.Nat as NatL
@@ -24,14 +24,13 @@ use Rattle.step_laws.specs.Firsts.{firsts_here, firsts_past}
 use Rattle.step_laws.specs.Bound.{Bounded, firsts_bounded}
 use Rattle.step_laws.specs.Step.{combed_from, stepped_below, not-over_all, long-not-over, long_stays}
 use Rattle.shapes.proofs.Stretches.{put_before, put_in, put_length}
-use Rattle.bounded_steps.specs.Outcome.{StepOutcomeIs}
-use Rattle.bounded_steps.proofs.Outcomes.{outcome_length}
-use Rattle.bounded_steps.specs.declared.StepOutcome.{StepOutcome}
+use Rattle.bounded_steps.specs.Outcome.{Taken, NotTaken}
+use Rattle.bounded_steps.proofs.Outcomes.{taken_length}
 use Rattle.repeats.specs.Repeats.{Again, repeated}
 use Rattle.repeats.proofs.Repeats.{Ends, part_here, part_ends, repeated-part}
 use Rattle.repeats.proofs.Repeats.{comes_again, again_bounded, again_multiple}
 use Rattle.outlined_steps.specs.Outlines.{Told, ToldTo, spelled, outlined}
-use Rattle.outlined_steps.specs.Outcome.{StepDue, OutlinedOutcomeIs}
+use Rattle.outlined_steps.specs.Outcome.{StepDue, OutlinedTaken, OutlinedNotTaken}
 use Rattle.outlined_steps.specs.declared.Outline.{Outline}
 
 -- zeros written from e on up to `to` were told already
@@ -99,26 +98,25 @@ first-told l f e none = firsts_same (length l) (entries (take 1 l)) f (λ k h. g
     go (suc k) = part_ends 1 l (suc k) (omega arith) ∙ sym (none k)
 
 -- ---- a step on all entries
-pub whole-step : {w b d n : ℕ} {s : Sort} {o : Outline} {l m : List ℤ} {v : StepOutcome} → StepDue w b d o l
-    → StepOutcomeIs w s d b (outlined o l) m v → n ≡ length m
-    → OutlinedOutcomeIs w s d (outlined o l) m
-    (record { over = v.over; bound = v.bound; outline = record { told = n; repeats = false } })
-whole-step {w} {b} {d} {n} {s} {o} {l} {m} {v} due t e =
+pub whole-step : {w b d n bound : ℕ} {s : Sort} {o : Outline} {l m : List ℤ} → StepDue w b d o l
+    → Taken w s d b (outlined o l) m bound → n ≡ length m
+    → OutlinedTaken w s d (outlined o l) m (record { bound = bound; outline = record { told = n; repeats = false } })
+whole-step {n = n} {o = o} {l} {m} due t e =
     record {
       over = t.over;
-      told = λ q.
+      told =
           record {
             some = omega (arith, len, due.told.some, due.told.room, outlined-length o l);
             room = omega arith;
           };
-      leaves = λ q. all_told n m e ∙ t.leaves ∙ ap (λ x. cond x (outlined o l) (step_list s d (outlined o l))) q;
-      bounded = λ q. rw (all_told n m e) (t.bounded q);
+      leaves = all_told n m e ∙ t.leaves;
+      bounded = rw (all_told n m e) t.bounded;
       inside = t.inside due.inside;
       len = len;
     }
   where
     len : length m ≡ length (outlined o l)
-    len = outcome_length t
+    len = taken_length t
 
 -- ---- what is repeated
 pub repeats_all : (o : Outline) (l : List ℤ) → o.repeats ≡ true → repeated o.told l ≡ outlined o l
@@ -127,13 +125,13 @@ repeats_all o l e = rw e refl
 
 -- ---- a step that is too long
 pub too_long : {w b d : ℕ} {s : Sort} {o : Outline} {l : List ℤ} → StepDue w b d o l → length l ≤ d
-    → OutlinedOutcomeIs w s d (outlined o l) l (record { over = false; bound = b; outline = o })
-too_long {w} {b} {d} {s} {o} {l} due far =
+    → OutlinedTaken w s d (outlined o l) l (record { bound = b; outline = o })
+too_long {w} {d = d} {s} {o} {l} due far =
     record {
-      over = sym (long-not-over s d (outlined o l) w (rw (outlined-length o l) far));
-      told = λ x. due.told;
-      leaves = λ x. sym (long_stays s d (outlined o l) (rw (outlined-length o l) far));
-      bounded = λ x. due.bounded;
+      over = long-not-over s d (outlined o l) w (rw (outlined-length o l) far);
+      told = due.told;
+      leaves = sym (long_stays s d (outlined o l) (rw (outlined-length o l) far));
+      bounded = due.bounded;
       inside = due.inside;
       len = sym (outlined-length o l);
     }
@@ -153,16 +151,16 @@ module _ {w b d : ℕ} {o : Outline} {l m : List ℤ} (due : StepDue w b d o l) 
   small : Bounded b (accumulated d (entries (outlined o l)))
   small = again_bounded d due.size (entries (outlined o l)) first_d due.bounded
 
-  pub begins_again : OutlinedOutcomeIs w accumulate d (outlined o l) m
-      (record { over = false; bound = b; outline = record { told = d; repeats = true } })
+  pub begins_again : OutlinedTaken w accumulate d (outlined o l) m
+      (record { bound = b; outline = record { told = d; repeats = true } })
   unfolding outlined spelled step_list stepped
   begins_again =
       record {
-        over = sym (not-over_all accumulate d (outlined o l) w
-            (λ i from h. in_range_lem w _ (NatL.le_trans (small i) due.inside)));
-        told = λ x. record { some = due.size; room = omega (arith, m-length, outlined-length o l) };
-        leaves = λ x. ap₂ (λ n f. firsts n (accumulated d f)) m-length m-entries;
-        bounded = λ x. firsts_bounded b (length m) (accumulated d (entries (take d m))) (λ i h. rw m-entries (small i));
+        over = not-over_all accumulate d (outlined o l) w
+            (λ i from h. in_range_lem w _ (NatL.le_trans (small i) due.inside));
+        told = record { some = due.size; room = omega (arith, m-length, outlined-length o l) };
+        leaves = ap₂ (λ n f. firsts n (accumulated d f)) m-length m-entries;
+        bounded = firsts_bounded b (length m) (accumulated d (entries (take d m))) (λ i h. rw m-entries (small i));
         inside = due.inside;
         len = m-length;
       }
@@ -230,17 +228,17 @@ module _ {w b d : ℕ} {o : Outline} {l a : List ℤ} (due : StepDue w b d o l) 
       (λ low. rw (ap (λ x. entries x k) a_is ∙ firsts_here d f k low ∙ sym (all_here k (omega arith))) (due.bounded k))
       (λ from. rw (entries_past a k (omega (arith, a_length))) (omega arith))
 
-  pub cut : OutlinedOutcomeIs w comb d (outlined o l) (a ++ drop d l)
-      (record { over = false; bound = b; outline = record { told = d; repeats = false } })
+  pub cut : OutlinedTaken w comb d (outlined o l) (a ++ drop d l)
+      (record { bound = b; outline = record { told = d; repeats = false } })
   unfolding outlined spelled step_list
   cut =
       record {
-        over = sym (not-over_all comb d (outlined o l) w
-            (λ i from h. rw (gone i from (omega (arith, outlined-length o l))) (in_range_lem w 0ℤ (omega arith))));
-        told = λ x. record { some = due.size; room = omega (arith, m_is) };
-        leaves = λ x. ap₂ (λ n p. firsts n (entries p)) m_is told_d ∙ firsts_same (length l) (entries a) _ stays
+        over = not-over_all comb d (outlined o l) w
+            (λ i from h. rw (gone i from (omega (arith, outlined-length o l))) (in_range_lem w 0ℤ (omega arith)));
+        told = record { some = due.size; room = omega (arith, m_is) };
+        leaves = ap₂ (λ n p. firsts n (entries p)) m_is told_d ∙ firsts_same (length l) (entries a) _ stays
             ∙ ap (λ n. firsts n (stepped comb d (entries (outlined o l)))) (sym (outlined-length o l));
-        bounded = λ x. firsts_bounded b (length (a ++ drop d l)) (entries (take d (a ++ drop d l)))
+        bounded = firsts_bounded b (length (a ++ drop d l)) (entries (take d (a ++ drop d l)))
             (λ i h. rw told_d (a_bounded i));
         inside = due.inside;
         len = m_is ∙ sym (outlined-length o l);
@@ -300,39 +298,47 @@ module _ {w b d to : ℕ} {o : Outline} {l c : List ℤ} (due : StepDue w b d o 
       ∙ ap (λ n. some_outside w d n (combed d (entries (outlined o l))))
       (NatL.add-sub_of_le within ∙ sym (outlined-length o l))
 
-  module _ {p : List ℤ} {v : StepOutcome} (t : StepOutcomeIs w comb d b part p v) where
-    p-length : length p ≡ to
-    p-length = outcome_length t ∙ part_length
-
+  -- with what the step on the part left before the rest
+  module _ (p : List ℤ) (p-length : length p ≡ to) where
     m-part : take to (p ++ drop to c) ≡ p
     m-part = ap (λ n. take n (p ++ drop to c)) (sym p-length) ∙ take-append_seam p (drop to c)
 
     m-all : length (p ++ drop to c) ≡ length l
     m-all = length-append p (drop to c) ∙ omega (arith, p-length, length-drop to c, z.len)
 
-    p_is : v.over ≡ false → p ≡ firsts to (combed d (entries (outlined o l)))
-    unfolding step_list stepped
-    p_is x = t.leaves ∙ ap (λ y. cond y part (step_list comb d part)) x
-        ∙ ap₂ (λ n f. firsts n (combed d f)) part_length part-entries
+  module _ {p : List ℤ} {g : ℕ} (t : Taken w comb d b part p g) where
+    p-length : length p ≡ to
+    p-length = taken_length t ∙ part_length
 
-    new_part : v.over ≡ false → (k : ℕ) → k < length l → entries p k ≡ combed d (entries (outlined o l)) k
-    new_part x k h =
-        ap (λ y. entries y k) (p_is x)
+    p_is : p ≡ firsts to (combed d (entries (outlined o l)))
+    unfolding step_list stepped
+    p_is = t.leaves ∙ ap₂ (λ n f. firsts n (combed d f)) part_length part-entries
+
+    new_part : (k : ℕ) → k < length l → entries p k ≡ combed d (entries (outlined o l)) k
+    new_part k h =
+        ap (λ y. entries y k) p_is
         ∙ by_order k to (firsts_here to (combed d (entries (outlined o l))) k)
         (λ from. firsts_past to (combed d (entries (outlined o l))) k from ∙ sym (nothing k from h))
 
-    pub reached : OutlinedOutcomeIs w comb d (outlined o l) (p ++ drop to c)
-        (record { over = v.over; bound = v.bound; outline = record { told = to; repeats = false } })
+    pub reached : OutlinedTaken w comb d (outlined o l) (p ++ drop to c)
+        (record { bound = g; outline = record { told = to; repeats = false } })
     unfolding outlined spelled step_list stepped
     reached =
         record {
-          over = t.over ∙ same_over;
-          told = λ x. record { some = omega (arith, due.told.some, due.told.room); room = omega (arith, m-all) };
-          leaves = λ x. ap₂ (λ n y. firsts n (entries y)) m-all m-part
-              ∙ firsts_same (length l) (entries p) (combed d (entries (outlined o l))) (new_part x)
+          over = sym same_over ∙ t.over;
+          told = record { some = omega (arith, due.told.some, due.told.room); room = omega (arith, m-all p p-length) };
+          leaves = ap₂ (λ n y. firsts n (entries y)) (m-all p p-length) (m-part p p-length)
+              ∙ firsts_same (length l) (entries p) (combed d (entries (outlined o l))) new_part
               ∙ ap (λ n. firsts n (combed d (entries (outlined o l)))) (sym (outlined-length o l));
-          bounded = λ x. firsts_bounded v.bound (length (p ++ drop to c)) (entries (take to (p ++ drop to c)))
-              (λ i h. rw m-part (t.bounded x i));
+          bounded = firsts_bounded g (length (p ++ drop to c)) (entries (take to (p ++ drop to c)))
+              (λ i h. rw (m-part p p-length) (t.bounded i));
           inside = t.inside due.inside;
-          len = m-all ∙ sym (outlined-length o l);
+          len = m-all p p-length ∙ sym (outlined-length o l);
         }
+
+  pub stopped : {p : List ℤ} → NotTaken w comb d part p → OutlinedNotTaken w comb d (outlined o l) (p ++ drop to c)
+  stopped {p} t =
+      record {
+        over = sym same_over ∙ t.over;
+        len = m-all p (ap length t.leaves ∙ part_length) ∙ sym (outlined-length o l);
+      }

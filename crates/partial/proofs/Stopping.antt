@@ -1,7 +1,7 @@
 -- The partial request's outcomes: which code each test leads to, and what is then told and left.
 use Prim.Native.Nat.{ℕ, ◌+◌, ◌-◌, ◌<◌, ◌≤◌}
 use mathlib.Core.Path.{◌≡◌, refl, sym, ◌∙◌, ap, ap₂}
-use mathlib.Core.Bool.{true, false, cond}
+use mathlib.Core.Bool.{Bool, true, false, cond}
 use mathlib.Core.Logic.{◌≢◌}
 use mathlib.Core.List.{List, ◌++◌}
 use native.Mathlib.Omega.{arith}
@@ -18,8 +18,8 @@ use Rattle.definitions.specs.Requests.{known_kind, good_index, divisors_due, ove
 use Rattle.answers.specs.declared.Stop.{Stop}
 use Rattle.answers.specs.Partial.{code, answered, answer, left, leaves}
 use Rattle.index.specs.declared.Parts.{Parts}
-use Rattle.kept_half.specs.Halves.{StepsDue, KeptHalfIs}
-use Rattle.kept_half.specs.declared.RunOutcome.{RunOutcome}
+use Rattle.kept_half.specs.Halves.{StepsDue, RunTaken, Zeroed}
+use Rattle.kept_half.specs.declared.Ran.{Ran}
 use Rattle.kept_half.proofs.Turning.{kept-length}
 
 -- ---- codes
@@ -145,36 +145,35 @@ module _ (kind n j : ℕ) (w : ℤ) (x : Parts) (S : StepsDue kind n x) (l : Lis
         (ap (λ k. record { code = SHORT; degree = k; additions = 0; due = 0 }) ed ∙ s.0, s.1)
 
     -- m stands in the first D + 1 entries after the steps
-    module _ (room : d < length l) (m : List ℤ) (h : RunOutcome) {limit : ℕ} (is : limit ≡ nat_abs w)
-        (made : KeptHalfIs limit kind (r_of n) j m h) where
-      last_code : code kind n j w (length l) ≡ cond h.over OVER DONE
-      last_code =
+    module _ (room : d < length l) (m : List ℤ) {limit : ℕ} (is : limit ≡ nat_abs w) where
+      last_code : {over : Bool} → over_among limit kind (r_of n) j ≡ over → code kind n j w (length l) ≡ cond over OVER DONE
+      last_code e =
           stop_last kind n j w (length l) S.known S.good S.above few good (omega arith)
           ∙ ap (λ k. cond (over_among k kind (r_of n) j) OVER DONE) (sym is)
-          ∙ ap (λ b. cond b OVER DONE) (sym made.ran.over)
+          ∙ ap (λ b. cond b OVER DONE) e
 
       in_front : (new : List ℤ) → length new ≡ half_degree kind (r_of n) + 1 → m ≡ new
           → m ++ drop (d + 1) l ≡ written new l
       unfolding written
       in_front new len q = ap₂ (λ x k. x ++ drop k l) q (ap (λ x. x + 1) ed ∙ sym len)
 
-      pub made_over_lem : h.over ≡ true → Stopped kind n j w (record { code = OVER; degree = d; additions = 0; due = 0 })
-          (m ++ drop (d + 1) l) l
+      pub made_over_lem : Zeroed limit kind (r_of n) j m
+          → Stopped kind n j w (record { code = OVER; degree = d; additions = 0; due = 0 }) (m ++ drop (d + 1) l) l
       unfolding zeros
-      made_over_lem o =
-          let s = at_over kind n j w l (last_code ∙ ap (λ b. cond b OVER DONE) o) in (
+      made_over_lem made =
+          let s = at_over kind n j w l (last_code made.ran.over) in (
             ap (λ k. record { code = OVER; degree = k; additions = 0; due = 0 }) ed ∙ s.0,
             in_front (zeros (half_degree kind (r_of n) + 1)) (length-replicate (half_degree kind (r_of n) + 1) 0ℤ)
-                (made.zeroed o) ∙ s.1,
+                made.zeroed ∙ s.1,
           )
 
-      pub made_done : h.over ≡ false
+      pub made_done : {h : Ran} → RunTaken limit kind (r_of n) j m h
           → Stopped kind n j w (record { code = DONE; degree = d; additions = h.additions; due = h.due })
           (m ++ drop (d + 1) l) l
-      made_done o =
-          let s = at_done kind n j w l (last_code ∙ ap (λ b. cond b OVER DONE) o) in (
-            stop_same ed (made.ran.additions o) (made.ran.due o) ∙ s.0,
-            in_front (kept_half kind (r_of n) j) (kept-length kind (r_of n) j) (made.ran.half o) ∙ s.1,
+      made_done made =
+          let s = at_done kind n j w l (last_code made.over) in (
+            stop_same ed made.additions made.due ∙ s.0,
+            in_front (kept_half kind (r_of n) j) (kept-length kind (r_of n) j) made.half ∙ s.1,
           )
         where
           stop_same : {x y z x' y' z' : ℕ} → x ≡ x' → y ≡ y' → z ≡ z'

@@ -3,10 +3,10 @@ ghost use Rattle.std.specs.Prelude.{◌≡◌, length};
 ghost use Rattle.answers.specs.Partial as Partial;
 ghost use Rattle.kept_half.specs.Halves.{StepsDue};
 
-use answers::Stop;
+use answers::{Refusal, Stop};
 use divisors::Walk;
 use index::Parts;
-use kept_half::make_kept_half;
+use kept_half::{Over, make_kept_half};
 
 pub(crate) fn stop_at(kind: u64, n: u64, parts: Parts, j: u64, w: i64, buf: &mut [i64]) -> Stop
     requires { StepsDue kind n parts }
@@ -16,23 +16,22 @@ pub(crate) fn stop_at(kind: u64, n: u64, parts: Parts, j: u64, w: i64, buf: &mut
     let d = index::half_degree(kind, parts.r, parts.free);
     let walk = Walk::over(parts);
     if walk.due < j {
-        return Stop::refused(answers::STEP, 0);
+        return Stop::refused(Refusal::Step, 0);
     }
     if w < 1 {
-        return Stop::refused(answers::LIMIT, 0);
+        return Stop::refused(Refusal::Limit, 0);
     }
     if buf.len() <= d {
-        return Stop::refused(answers::SHORT, d as u64);
+        return Stop::refused(Refusal::Short, d as u64);
     }
     let h = d + 1;
-    let outcome = make_kept_half(&mut buf[..h], walk, kind, j, heights::magnitude(w));
-    if outcome.over {
-        return Stop::refused(answers::OVER, d as u64);
-    }
-    Stop {
-        code: answers::DONE,
-        degree: d as u64,
-        additions: outcome.additions,
-        due: outcome.due,
+    match make_kept_half(&mut buf[..h], walk, kind, j, w.unsigned_abs()) {
+        Ok(ran) => Stop {
+            code: answers::DONE,
+            degree: d as u64,
+            additions: ran.additions,
+            due: ran.due,
+        },
+        Err(Over) => Stop::refused(Refusal::Over, d as u64),
     }
 }

@@ -12,24 +12,21 @@ ghost use Rattle.heights.specs.Above.{NoneAbove, NextAbove};
 ghost use Rattle.entry_steps.specs.Passes.{addable};
 
 use entry_steps::ADDABLE;
-use heights::{Top, above, magnitude, peak};
+use heights::{Top, above, peak};
 
 // How many entries are gathered before the sign of what has come together is looked at.
 const BLOCK: usize = 16;
 
-// Whether no magnitude of the block at i is above h: then neither h - x nor h + x is below 0 for any entry x, and bits
-// put together keep a sign. A loop that never stops can be made one of vectors.
-fn none_in_block(coeffs: &[i64], i: usize, h: u64) -> bool
-    requires { (i + 16 ≤ length coeffs.now) × (h ≤ addable) × Bounded addable (entries coeffs.now) }
-    ensures { result ≡ true → NoneAbove h coeffs.now i (i + 16) }
+// Whether no magnitude of a block is above h: then neither h - x nor h + x is below 0 for any entry x, and bits put
+// together keep a sign. A loop that never stops can be made one of vectors.
+fn none_in_block(block: &[i64; BLOCK], h: u64) -> bool
+    requires { (h ≤ addable) × Bounded addable (entries block.now) }
+    ensures { result ≡ true → NoneAbove h block.now 0 16 }
 {
     let most = h as i64;
     let mut gathered: i64 = 0;
-    let mut q = 0;
-    while q < BLOCK {
-        let x = coeffs[i + q];
-        gathered = gathered | (most - x) | (most + x);
-        q += 1;
+    for x in block {
+        gathered |= (most - *x) | (most + *x);
     }
     0 <= gathered
 }
@@ -44,11 +41,13 @@ fn next_above(coeffs: &[i64], from: usize, h: u64, bound: u64) -> usize
     if h == bound {
         return coeffs.len();
     }
-    let mut i = from;
-    while i + BLOCK <= coeffs.len() && none_in_block(coeffs, i, h) {
-        i += BLOCK;
+    let (blocks, _) = coeffs[from..].as_chunks::<BLOCK>();
+    for (k, block) in blocks.iter().enumerate() {
+        if !none_in_block(block, h) {
+            return above(coeffs, from + k * BLOCK, h);
+        }
     }
-    above(coeffs, i, h)
+    above(coeffs, from + blocks.len() * BLOCK, h)
 }
 
 // The height and the lowest place where it stands, of entries of magnitude at most `bound`.
@@ -62,8 +61,9 @@ pub fn peak_within(coeffs: &[i64], bound: u64) -> Top
     let mut h: u64 = 0;
     let mut p: usize = 0;
     let mut i = next_above(coeffs, 0, h, bound);
+    // Stays a while: it goes from place to place that `next_above` finds, and no range or iterator says which come.
     while i < coeffs.len() {
-        h = magnitude(coeffs[i]);
+        h = coeffs[i].unsigned_abs();
         p = i;
         i = next_above(coeffs, i + 1, h, bound);
     }

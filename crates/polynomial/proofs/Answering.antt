@@ -2,10 +2,10 @@
 use Prim.Native.Nat.{ℕ, suc, ◌+◌, ◌<◌, ◌≤◌}
 use mathlib.Core.Path.{◌≡◌, refl, sym, ◌∙◌, ap, ap₂}
 use mathlib.Core.Bool.{Bool, true, false, cond, ◌||◌}
-use mathlib.Core.Logic.{◌≢◌, ◌⊎◌, inl, inr, ⊎_elim}
+use mathlib.Core.Logic.{◌⊎◌, inl, inr, ⊎_elim}
 use mathlib.Core.List.{List, ◌++◌}
 use native.Mathlib.Omega.{arith}
-use borrow.Author.Tests.{le-ltb, le-leb, lt-leb, eq-eqb, ne_eqb}
+use borrow.Author.Tests.{le-ltb, le-leb, lt-leb}
 use lib.ListN.{length, drop, length-replicate}
 use lib.Dec.{ltb}
 use lib.IntN.{ℤ, pos}
@@ -20,8 +20,12 @@ use Rattle.step_laws.specs.Firsts.{length-firsts}
 use Rattle.answers.specs.Polynomial.{code, answered, answer, left, leaves}
 use Rattle.answers.specs.declared.Answer.{Answer}
 use Rattle.answers.proofs.Told.{told-only, same_done, in_front}
-use Rattle.polynomial.specs.Making.{MakingOutcomeIs, making_code}
-use Rattle.polynomial.specs.declared.making.MakingOutcome.{MakingOutcome}
+use Rattle.std.specs.Prelude.{Option, Some, None, Ok, Err}
+use Rattle.answers.specs.Refusals.{number_of}
+use Rattle.answers.specs.declared.Refusal.{Refusal}
+use Rattle.answers.specs.declared.Refusal.TheVariants as R
+use Rattle.polynomial.specs.Making.{MadeIs, refusal_of}
+use Rattle.polynomial.specs.declared.making.Made.{Made}
 
 -- ---- codes
 module _ (kind n : ℕ) (h w : ℤ) (room : ℕ) where
@@ -38,6 +42,11 @@ module _ (kind n : ℕ) (h w : ℤ) (room : ℕ) where
   unfolding code
   ask_limit e f g = rw (e, f, g)
 
+-- the code for a refusal, or for none
+abbrev told_by : Option Refusal → ℕ
+told_by None = DONE
+told_by (Some refusal) = number_of refusal
+
 module _ (kind n h w room : ℕ) (e : known_kind kind ≡ true) (f : good_index n ≡ true) (g : 1 ≤ h) (k : 1 ≤ w) where
   limits : (below_one (pos h) || below_one (pos w)) ≡ false
   unfolding below_one
@@ -47,9 +56,16 @@ module _ (kind n h w room : ℕ) (e : known_kind kind ≡ true) (f : good_index 
   unfolding code
   ask_short b = rw (e, f, limits, le-leb room (degree kind n) b)
 
-  pub ask_last : degree kind n < room → code kind n (pos h) (pos w) room ≡ making_code kind n h w
-  unfolding code making_code
-  ask_last b = rw (e, f, limits, lt-leb room (degree kind n) b)
+  pub ask_last : degree kind n < room → code kind n (pos h) (pos w) room ≡ told_by (refusal_of kind n h w)
+  unfolding code refusal_of
+  ask_last b =
+      rw (e, f, limits, lt-leb room (degree kind n) b)
+      (go (over_among w kind (r_of n) (divisors_due (r_of n))) (ltb h (height kind n)))
+    where
+      go : (b t : Bool) → cond b OVER (cond t TALL DONE) ≡ told_by (cond b (Some R.Over) (cond t (Some R.Tall) None))
+      go true t = refl
+      go false true = refl
+      go false false = refl
 
 -- ---- outcomes
 abbrev pub Answers : (kind n : ℕ) (h w : ℤ) → Answer → List ℤ → List ℤ → Type 0
@@ -102,54 +118,50 @@ module _ (kind n : ℕ) (h w : ℤ) (l : List ℤ) where
   at_done = by_code DONE _ (written (coefficients kind n) l) refl refl
 
 -- ---- after the making
+-- nothing but OVER and TALL comes
+which : (kind n h w : ℕ) (refusal : Refusal) → refusal_of kind n h w ≡ Some refusal
+    → (refusal ≡ R.Over) ⊎ (refusal ≡ R.Tall)
+unfolding refusal_of
+which kind n h w refusal = go (over_among w kind (r_of n) (divisors_due (r_of n))) (ltb h (height kind n))
+  where
+    go : (b t : Bool) → cond b (Some R.Over) (cond t (Some R.Tall) None) ≡ Some refusal
+        → (refusal ≡ R.Over) ⊎ (refusal ≡ R.Tall)
+    go true t q = inl (cc)
+    go false true q = inr (cc)
+    go false false q = absurd (cc)
+
 module _
     (kind n h w : ℕ) (l : List ℤ) (e : known_kind kind ≡ true) (f : good_index n ≡ true) (g : 1 ≤ h) (k : 1 ≤ w) (d : ℕ)
-    (ed : d ≡ degree kind n) (room : d < length l) (m : List ℤ) (r : MakingOutcome)
-    (laid : MakingOutcomeIs kind n h w m r)
+    (ed : d ≡ degree kind n) (room : d < length l) (m : List ℤ)
   where
-    last_code : code kind n (pos h) (pos w) (length l) ≡ r.code
-    last_code = ask_last kind n h w (length l) e f g k (omega arith) ∙ sym laid.code
+    last_code : code kind n (pos h) (pos w) (length l) ≡ told_by (refusal_of kind n h w)
+    last_code = ask_last kind n h w (length l) e f g k (omega arith)
 
-    two : (b t : Bool) → cond b OVER (cond t TALL DONE) ≢ DONE → (cond b OVER (cond t TALL DONE) ≡ OVER)
-        ⊎ (cond b OVER (cond t TALL DONE) ≡ TALL)
-    two true t q = inl refl
-    two false true q = inr refl
-    two false false q = absurd (q refl)
-
-    which : r.code ≢ DONE → (r.code ≡ OVER) ⊎ (r.code ≡ TALL)
-    unfolding making_code
-    which q =
-        ⊎_elim (λ x. inl (laid.code ∙ x)) (λ x. inr (laid.code ∙ x))
-        (two (over_among w kind (r_of n) (divisors_due (r_of n))) (ltb h (height kind n))
-        (λ x. q (laid.code ∙ x)))
-
-    zeroed : r.code ≢ DONE → m ++ drop (d + 1) l ≡ written (zeros (suc (degree kind n))) l
+    pub refuses : (refusal : Refusal) → MadeIs kind n h w m (Err refusal)
+        → Answers kind n (pos h) (pos w) (told-only (number_of refusal) d) (m ++ drop (d + 1) l) l
     unfolding zeros
-    zeroed q =
-        in_front l (zeros (suc (degree kind n))) ed (length-replicate (suc (degree kind n)) 0ℤ)
-        (laid.leaves ∙ ap (λ b. cond b (coefficients kind n) (zeros (suc (degree kind n))))
-        (ne_eqb r.code DONE q))
-
-    pub refuses : r.code ≢ DONE → Answers kind n (pos h) (pos w) (told-only r.code d) (m ++ drop (d + 1) l) l
-    refuses q =
-        ⊎_elim (λ x. go OVER x (at_over kind n (pos h) (pos w) l)) (λ x. go TALL x (at_tall kind n (pos h) (pos w) l))
-        (which q)
+    refuses refusal made =
+        ⊎_elim (λ x. go R.Over x (at_over kind n (pos h) (pos w) l)) (λ x. go R.Tall x (at_tall kind n (pos h) (pos w) l))
+        (which kind n h w refusal made.0)
       where
-        go : (c : ℕ) → r.code ≡ c
-            → (code kind n (pos h) (pos w) (length l) ≡ c
-            → Answers kind n (pos h) (pos w) (told-only c (degree kind n)) (written (zeros (suc (degree kind n))) l) l)
-            → Answers kind n (pos h) (pos w) (told-only r.code d) (m ++ drop (d + 1) l) l
-        go c x s = let y = s (last_code ∙ x) in (ap₂ told-only x ed ∙ y.0, zeroed q ∙ y.1)
+        go : (c : Refusal) → refusal ≡ c
+            → (code kind n (pos h) (pos w) (length l) ≡ number_of c
+            → Answers kind n (pos h) (pos w) (told-only (number_of c) (degree kind n))
+            (written (zeros (suc (degree kind n))) l) l)
+            → Answers kind n (pos h) (pos w) (told-only (number_of refusal) d) (m ++ drop (d + 1) l) l
+        go c x s =
+            let y = s (last_code ∙ (ap told_by made.0 ∙ ap number_of x)) in (
+              ap₂ (λ r j. told-only (number_of r) j) x ed ∙ y.0,
+              in_front l (zeros (suc (degree kind n))) ed (length-replicate (suc (degree kind n)) 0ℤ) made.1 ∙ y.1,
+            )
 
-    pub delivers : r.code ≡ DONE → (x : ℤ) → x ≡ gain kind n
+    pub delivers : (r : Made) → MadeIs kind n h w m (Ok r) → (x : ℤ) → x ≡ gain kind n
         → Answers kind n (pos h) (pos w)
         (record { code = DONE; degree = d; additions = r.additions; height = r.height; peak = r.peak; gain = x })
         (m ++ drop (d + 1) l) l
     unfolding coefficients
-    delivers q x is =
-        let y = at_done kind n (pos h) (pos w) l (last_code ∙ q) in (
-          same_done ed (laid.additions q) (laid.height q) (laid.peak q) is ∙ y.0,
-          in_front l (coefficients kind n) ed (length-firsts (suc (degree kind n)) (polynomial kind n))
-              (laid.leaves ∙ ap (λ b. cond b (coefficients kind n) (zeros (suc (degree kind n))))
-              (eq-eqb r.code DONE q)) ∙ y.1,
+    delivers r made x is =
+        let y = at_done kind n (pos h) (pos w) l (last_code ∙ ap told_by made.0) in (
+          same_done ed (ap (λ v. v.additions) made.2) (ap (λ v. v.height) made.2) (ap (λ v. v.peak) made.2) is ∙ y.0,
+          in_front l (coefficients kind n) ed (length-firsts (suc (degree kind n)) (polynomial kind n)) made.1 ∙ y.1,
         )

@@ -1,20 +1,21 @@
--- The making of a polynomial, as the inner functions' contracts tell it: the code they come to, and what they leave.
-use Rattle.std.specs.Prelude.{ℕ, suc, ◌≡◌, cond, List, eqb, ltb, ℤ}
-use Rattle.definitions.specs.Codes.{DONE, OVER, TALL}
+-- The making of a polynomial, as the inner functions' contracts tell it: the polynomial is left, and told are its
+-- additions, its height and its peak; or it is refused, and zeros are left.
+use Rattle.std.specs.Prelude.{ℕ, suc, ◌≡◌, cond, List, ltb, ℤ, Option, Some, None, Result, Ok, Err}
 use Rattle.definitions.specs.Numbers.{r_of}
 use Rattle.definitions.specs.Polynomials.{degree}
 use Rattle.definitions.specs.Requests.{divisors_due, over_among, zeros}
 use Rattle.definitions.specs.Answer.{coefficients, height, peak, additions_for}
-use Rattle.polynomial.specs.declared.making.MakingOutcome.{MakingOutcome}
+use Rattle.answers.specs.declared.Refusal.{Refusal}
+use Rattle.answers.specs.declared.Refusal.TheVariants as R
+use Rattle.polynomial.specs.declared.making.Made.{Made}
 
--- OVER, then TALL
-unfoldable pub making_code : ℕ → ℕ → ℕ → ℕ → ℕ
-making_code kind n h w = cond (over_among w kind (r_of n) (divisors_due (r_of n))) OVER
-    (cond (ltb h (height kind n)) TALL DONE)
+-- why it is refused: OVER, then TALL
+unfoldable pub refusal_of : ℕ → ℕ → ℕ → ℕ → Option Refusal
+refusal_of kind n h w = cond (over_among w kind (r_of n) (divisors_due (r_of n))) (Some R.Over)
+    (cond (ltb h (height kind n)) (Some R.Tall) None)
 
-pub record MakingOutcomeIs (kind n h w : ℕ) (m : List ℤ) (r : MakingOutcome) : Type 0 where
-  pub code : r.code ≡ making_code kind n h w
-  pub leaves : m ≡ cond (eqb r.code DONE) (coefficients kind n) (zeros (suc (degree kind n)))
-  pub additions : r.code ≡ DONE → r.additions ≡ additions_for kind n
-  pub height : r.code ≡ DONE → r.height ≡ Rattle.definitions.specs.Answer.height kind n
-  pub peak : r.code ≡ DONE → r.peak ≡ Rattle.definitions.specs.Answer.peak kind n
+abbrev pub MadeIs : (kind n h w : ℕ) → List ℤ → Result Made Refusal → Type 0
+MadeIs kind n h w m (Ok made) =
+    (refusal_of kind n h w ≡ None) × (m ≡ coefficients kind n)
+    × (made ≡ record { additions = additions_for kind n; height = height kind n; peak = peak kind n })
+MadeIs kind n h w m (Err refusal) = (refusal_of kind n h w ≡ Some refusal) × (m ≡ zeros (suc (degree kind n)))

@@ -7,8 +7,7 @@ mod making;
 ghost use Rattle.std.specs.Prelude.{◌≡◌, length};
 ghost use Rattle.answers.specs.Polynomial as Polynomial;
 
-use answers::Answer;
-use heights::magnitude;
+use answers::{Answer, Refusal};
 
 // The polynomial of n, no taller than h and made of steps within the working limit w, in entries 0 to degree.
 pub fn polynomial(kind: u64, n: u64, h: i64, w: i64, buf: &mut [i64]) -> Answer
@@ -16,17 +15,17 @@ pub fn polynomial(kind: u64, n: u64, h: i64, w: i64, buf: &mut [i64]) -> Answer
     ensures buf_after { buf.new ≡ Polynomial.leaves kind n h w buf.old }
 {
     if !answers::known_kind(kind) {
-        return Answer::refused(answers::KIND, 0);
+        return Answer::refused(Refusal::Kind, 0);
     }
     if !answers::good_index(n) {
-        return Answer::refused(answers::INDEX, 0);
+        return Answer::refused(Refusal::Index, 0);
     }
     if h < 1 {
-        return Answer::refused(answers::LIMIT, 0);
+        return Answer::refused(Refusal::Limit, 0);
     }
     if w < 1 {
-        return Answer::refused(answers::LIMIT, 0);
+        return Answer::refused(Refusal::Limit, 0);
     }
     let parts = index::take_apart(n);
-    making::answer_in(kind, n, parts, magnitude(h), magnitude(w), buf)
+    making::answer_in(kind, n, parts, h.unsigned_abs(), w.unsigned_abs(), buf)
 }

@@ -6,70 +6,57 @@ ghost use Rattle.answers.specs.Polynomial as Polynomial;
 ghost use Rattle.index.specs.Parts.{parts_of};
 ghost use Rattle.step_laws.specs.WorkingLimit.{Workable};
 ghost use Rattle.whole_from_half.specs.Ready.{Ready};
-ghost use Rattle.polynomial.specs.Making.{MakingOutcomeIs};
+ghost use Rattle.polynomial.specs.Making.{MadeIs};
 
-use answers::Answer;
+use answers::{Answer, Refusal};
 use index::Parts;
 use laying_out::lay_out;
 
-// The outcome of the making: a code, and on 0 the additions, the height and the peak.
+// What is told of a polynomial that was made.
 #[derive(Drop)]
-pub(crate) struct MakingOutcome {
-    pub code: u64,
+pub(crate) struct Made {
     pub additions: u64,
     pub height: u64,
     pub peak: u64,
 }
 
-impl MakingOutcome {
-    fn refused(code: u64) -> MakingOutcome
-        ensures { result ≡ record { code = code; additions = 0; height = 0; peak = 0 } }
-    {
-        MakingOutcome {
-            code,
-            additions: 0,
-            height: 0,
-            peak: 0,
-        }
-    }
-}
-
 // r > 1: the kept half after all divisors, and the polynomial laid out from it.
-fn make_by_steps(b: &mut [i64], kind: u64, n: u64, parts: Parts, h: u64, w: u64) -> MakingOutcome
+fn make_by_steps(
+    b: &mut [i64],
+    kind: u64,
+    n: u64,
+    parts: Parts,
+    h: u64,
+    w: u64,
+) -> Result<Made, Refusal>
     requires { Ready kind n parts b.old × (r_of n ≢ 1) × Workable w }
-    ensures { MakingOutcomeIs kind n h w b.new result }
+    ensures { MadeIs kind n h w b.new result }
 {
     let half = index::half_degree(kind, parts.r, parts.free) + 1;
-    let run = kept_half::all_steps(kind, n, parts, w, &mut b[..half]);
-    if run.over {
+    let Ok(run) = kept_half::all_steps(kind, n, parts, w, &mut b[..half]) else {
         shapes::clear(b);
-        return MakingOutcome::refused(answers::OVER);
-    }
-    let laid = lay_out(b, kind, n, parts, h, run.bound);
-    if laid.tall {
-        return MakingOutcome::refused(answers::TALL);
-    }
-    MakingOutcome {
-        code: answers::DONE,
+        return Err(Refusal::Over);
+    };
+    let laid = lay_out(b, kind, n, parts, h, run.bound)?;
+    Ok(Made {
         additions: run.additions,
         height: laid.height,
         peak: laid.peak,
-    }
+    })
 }
 
-// The polynomial of n, or zeros and the code of the refusal.
-fn make(b: &mut [i64], kind: u64, n: u64, parts: Parts, h: u64, w: u64) -> MakingOutcome
+// The polynomial of n, or zeros and why it is refused.
+fn make(b: &mut [i64], kind: u64, n: u64, parts: Parts, h: u64, w: u64) -> Result<Made, Refusal>
     requires { Ready kind n parts b.old × (1 ≤ h) × Workable w }
-    ensures { MakingOutcomeIs kind n h w b.new result }
+    ensures { MadeIs kind n h w b.new result }
 {
     if parts.r == 1 {
         whole_from_half::without_steps(b, kind, n, parts);
-        return MakingOutcome {
-            code: answers::DONE,
+        return Ok(Made {
             additions: 0,
             height: 1,
             peak: 0,
-        };
+        });
     }
     make_by_steps(b, kind, n, parts, h, w)
 }
@@ -82,20 +69,18 @@ pub(crate) fn answer_in(kind: u64, n: u64, parts: Parts, h: u64, w: u64, buf: &m
 {
     let degree = index::degree_from(kind, n, parts.phi);
     if buf.len() as u64 <= degree {
-        return Answer::refused(answers::SHORT, degree);
+        return Answer::refused(Refusal::Short, degree);
     }
     let size = degree as usize + 1;
-    let made = make(&mut buf[..size], kind, n, parts, h, w);
-    if made.code != answers::DONE {
-        return Answer::refused(made.code, degree);
-    }
-    let gain = gain::gain_of(kind, n, parts);
-    Answer {
-        code: answers::DONE,
-        degree,
-        additions: made.additions,
-        height: made.height,
-        peak: made.peak,
-        gain,
+    match make(&mut buf[..size], kind, n, parts, h, w) {
+        Err(refusal) => Answer::refused(refusal, degree),
+        Ok(made) => Answer {
+            code: answers::DONE,
+            degree,
+            additions: made.additions,
+            height: made.height,
+            peak: made.peak,
+            gain: gain::gain_of(kind, n, parts),
+        },
     }
 }

@@ -11,6 +11,7 @@ use Rattle.reading.proofs.read.Reads as read-reads
 use Rattle.reading.specs.contracts.look as look
 use Rattle.reading.proofs.look.Kinds as look-kinds
 use Rattle.reading.proofs.look.Reads as look-reads
+use Rattle.record.proofs.Refused.{same_code}
 
 pub read_one :
     (κs : Lfts 2) (a : ArgsD read.signature κs) (z z' : ResD read.signature κs)
@@ -22,4 +23,4 @@ pub look_one :
     (κs : Lfts 1) (a : ArgsD look.signature κs) (z z' : ResD look.signature κs)
     (e e' : AtExit (ended_of 1 look-kinds.ps look-kinds.r) κs)
     → look-reads.Post κs a z e → look-reads.Post κs a z' e' → z ≡ z'
-look_one κs a z z' e e' p p' = p ∙ sym p'
+look_one κs a z z' e e' p p' = same_code z z' (p ∙ sym p')

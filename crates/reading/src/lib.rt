@@ -6,15 +6,18 @@
 
 ghost use Rattle.std.specs.Prelude.{◌≡◌, ℕ, ◌≤◌, ◌++◌, eqb, length, drop};
 ghost use Rattle.definitions.specs.Codes.{DONE};
+ghost use Rattle.answers.specs.Refusals.{number_of, code_of};
 ghost use Rattle.definitions.specs.Halves.{negates};
 ghost use Rattle.widths.specs.Numbers.{width};
 ghost use Rattle.record.specs.Header.{width_in, kind_in, index_in, count_in, header_code};
 ghost use Rattle.forms.specs.Format.{mark, stored, stored_in, coefficients_in, size_in, uneven_in, read_code};
 ghost use Rattle.forms.specs.Format.{look_code, read_tells, read_answer, read_leaves};
 
-use answers::negates;
+use answers::{Refusal, negates};
 use forms::{Form, Record, mark_of, stored_of};
-use record::{byte_of, count_in, fill, get, header_code, index_in, kind_in, right_width, width_in};
+use record::{
+    byte_of, check_header, count_in, fill, get, index_in, kind_in, right_width, width_in,
+};
 
 // How many coefficients a form stores where the header, whatever its mark, is right.
 fn stored_in(bytes: &[u8], form: Form) -> usize
@@ -76,64 +79,66 @@ fn uneven_in(bytes: &[u8], form: Form) -> bool
     }
 }
 
-// The code past a right header.
-fn code_with(bytes: &[u8], form: Form, room: usize) -> u64
+// Refuses what is wrong past a right header.
+fn check_rest(bytes: &[u8], form: Form, room: usize) -> Result<(), Refusal>
     requires { header_code (mark form) bytes.now ≡ DONE }
-    ensures { result ≡ read_code form bytes.now room }
+    ensures { code_of result ≡ read_code form bytes.now room }
 {
     if bytes.len() < size_in(bytes, form) {
-        return answers::CUT;
+        return Err(Refusal::Cut);
     }
     if (room as u64) < count_in(bytes) {
-        return answers::SHORT;
+        return Err(Refusal::Short);
     }
     let right = right_in(bytes, form);
     let uneven = uneven_in(bytes, form);
     if !right {
-        return answers::WIDTH;
+        return Err(Refusal::Width);
     }
     if uneven {
-        return answers::UNEVEN;
+        return Err(Refusal::Uneven);
     }
-    answers::DONE
+    Ok(())
 }
 
-fn code_of(bytes: &[u8], form: Form, room: usize) -> u64
-    ensures { result ≡ read_code form bytes.now room }
+fn check(bytes: &[u8], form: Form, room: usize) -> Result<(), Refusal>
+    ensures { code_of result ≡ read_code form bytes.now room }
 {
-    let code = header_code(bytes, mark_of(form));
-    if code != answers::DONE {
-        return code;
-    }
-    code_with(bytes, form, room)
+    check_header(bytes, mark_of(form))?;
+    check_rest(bytes, form, room)
 }
 
-// The code by every test but that of the room: no polynomial has more than 65,536 coefficients. Nothing is stored.
-pub fn look(bytes: &[u8], form: Form) -> u64
-    ensures { result ≡ look_code form bytes.now }
+// Every test but that of the room: no polynomial has more than 65,536 coefficients. Nothing is stored.
+pub fn look(bytes: &[u8], form: Form) -> Result<(), Refusal>
+    ensures { code_of result ≡ look_code form bytes.now }
 {
-    code_of(bytes, form, 65536)
+    check(bytes, form, 65536)
 }
 
-// What is told with a code that reading gave.
-fn told(bytes: &[u8], form: Form, code: u64) -> Record
-    requires { (room : ℕ) × (read_code form bytes.now room ≡ code) }
-    ensures { result ≡ read_tells form bytes.now code }
+// What is told with a refusal of reading.
+fn refused(bytes: &[u8], form: Form, refusal: Refusal) -> Record
+    requires { (room : ℕ) × (read_code form bytes.now room ≡ number_of refusal) }
+    ensures { result ≡ read_tells form bytes.now (number_of refusal) }
 {
-    if code == answers::DONE {
-        return Record {
-            code,
-            degree: count_in(bytes) - 1,
-            used: size_in(bytes, form) as u64,
-            kind: kind_in(bytes),
-            n: index_in(bytes),
-            byte: 0,
-        };
+    match refusal {
+        Refusal::Short => Record::refused(refusal, count_in(bytes) - 1, 0),
+        _ => Record::refused(refusal, 0, byte_of(refusal)),
     }
-    if code == answers::SHORT {
-        return Record::refused(code, count_in(bytes) - 1, 0);
+}
+
+// What is told of a record that reads.
+fn told(bytes: &[u8], form: Form) -> Record
+    requires { header_code (mark form) bytes.now ≡ DONE }
+    ensures { result ≡ read_tells form bytes.now DONE }
+{
+    Record {
+        code: answers::DONE,
+        degree: count_in(bytes) - 1,
+        used: size_in(bytes, form) as u64,
+        kind: kind_in(bytes),
+        n: index_in(bytes),
+        byte: 0,
     }
-    Record::refused(code, 0, byte_of(code))
 }
 
 // The store of a record that reads: what it has, and of a half record the other half too.
@@ -177,10 +182,9 @@ pub fn read(bytes: &[u8], form: Form, coeffs: &mut [i64]) -> Record
     ensures answer { result ≡ read_answer form bytes.now (length coeffs.old) }
     ensures leaves { coeffs.new ≡ read_leaves form bytes.now coeffs.old }
 {
-    let code = code_of(bytes, form, coeffs.len());
-    if code != answers::DONE {
-        return told(bytes, form, code);
+    if let Err(refusal) = check(bytes, form, coeffs.len()) {
+        return refused(bytes, form, refusal);
     }
     deliver(bytes, form, coeffs);
-    told(bytes, form, code)
+    told(bytes, form)
 }

@@ -3,4 +3,5 @@ pub mod Passes
 pub mod Headers
 pub mod HeaderTrips
 pub mod Fronts
+pub mod Refused
 pub mod OneOutcome

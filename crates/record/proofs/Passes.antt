@@ -6,14 +6,17 @@ use mathlib.Core.Bool.{true}
 use mathlib.Core.List.{List, [], ◌∷◌, ◌++◌}
 use native.Mathlib.Omega.{arith}
 use native.Mathlib.Numerals.{add-one}
-use native.Mathlib.Nat.{add-zero, zero-mul, one-mul, suc-mul, mul-suc, mul-add, mul_assoc, mul-le-mul_left}
+use native.Mathlib.Nat.{add-zero, zero-mul, one-mul, suc-mul, mul-suc, mul-add, mul_assoc, mul-le-mul_left, mul-le-mul_right}
 use native.Mathlib.Nat.{zero-max, max-zero}
 use lib.Bits.{bit_or}
 use lib.Pow.{pow-add}
 use lib.ListN.{length, get_or, set, take, drop, length-append, length-drop, drop_of_length-le}
-use lib.Seq.{sets, drop-cons, drop-drop, take-add, length-take-le}
+use Rattle.std.proofs.lemmas.List.{append-nil}
+use lib.Seq.{sets, sets-eq, drop-cons, drop-drop, take-add, length-take-le}
 use lib.IntN.{ℤ, pos, nat_abs}
 use Rattle.definitions.specs.Answer.{height_of}
+use Rattle.definitions.specs.Steps.{entries}
+use Rattle.heights.proofs.Looks.{height-left}
 use Rattle.widths.specs.Numbers.{bytes_of, number, twos, signed_of, body, coefficients_at, widths, one_of}
 use Rattle.widths.specs.Classes.{class}
 use Rattle.widths.proofs.Widths.{full_suc}
@@ -21,19 +24,19 @@ use Rattle.widths.proofs.Classes.{class-none, class-or, lesser_less}
 use Rattle.widths.proofs.Digits.{length-bytes_of}
 use Rattle.record.specs.Held.{number_at, Held}
 
--- a number put: the lowest byte first
-pub put_turn : (b : List ℕ) (i k v : ℕ) → 0 < k → sets (set b i (v % 256)) (i + 1) (bytes_of (k - 1) (v / 256))
-    ≡ sets b i (bytes_of k v)
+-- a number put, up to e: the lowest byte first
+pub put_turn : (b : List ℕ) (i e v : ℕ) → i < e → sets (set b i (v % 256)) (i + 1) (bytes_of (e - (i + 1)) (v / 256))
+    ≡ sets b i (bytes_of (e - i) v)
 unfolding bytes_of
-put_turn b i zero v h = absurd (omega arith)
-put_turn b i (suc k) v h =
-    let e : suc k - 1 ≡ k = omega arith in
-    rw (e, add-one)
+put_turn b i e v h =
+    let more : e - i ≡ suc (e - (i + 1)) = omega arith in
+    rw (more, add-one)
 
-pub put_none : (b : List ℕ) (i k v : ℕ) → k ≤ 0 → sets b i (bytes_of k v) ≡ b
+pub put_none : (b : List ℕ) (i e v : ℕ) → e ≤ i → sets b i (bytes_of (e - i) v) ≡ b
 unfolding bytes_of
-put_none b i zero v h = refl
-put_none b i (suc k) v h = absurd (omega arith)
+put_none b i e v h =
+    let none : e - i ≡ 0 = omega arith in
+    rw none
 
 -- a number got: of one byte, and of two halves
 pub byte_in : (bs : List ℕ) (at : ℕ) → at < length bs → number_at 1 at bs ≡ get_or bs at 0
@@ -86,62 +89,58 @@ pub body-none : (w : ℕ) (cs : List ℤ) (b : List ℕ) (at i : ℕ) → length
 unfolding body
 body-none w cs b at i h = rw (drop_of_length-le cs h)
 
--- what is left keeps within its bounds
-pub body-left : (w : ℕ) (cs : List ℤ) (i : ℕ) → i < length cs → length (body w (drop i cs))
-    ≡ w + length (body w (drop (i + 1) cs))
-body-left w cs i l = rw (body_cons w cs i l, length-append, length-bytes_of)
+-- entry i of k, in w bytes each, stands within all of them
+pub room : (w k i : ℕ) → i < k → i * w + w ≤ k * w
+room w k i l = omega (arith, suc-mul i w, mul-le-mul_right w l)
 
--- both passes over the coefficients in some bytes
-pub next_in : (w k at : ℕ) (bs : List ℕ) → 0 < k →
-    coefficients_at w k (drop at bs) ≡ signed_of w (number (take w (drop at bs))) ∷ coefficients_at w (k - 1)
-    (drop (at + w) bs)
-unfolding coefficients_at
-next_in w zero at bs h = absurd (omega arith)
-next_in w (suc k) at bs h =
-    let e : suc k - 1 ≡ k = omega arith in
-    rw (e, drop-drop w at bs)
+-- where the next one stands
+pub next_place : (w i : ℕ) → 10 + (i + 1) * w ≡ 10 + i * w + w
+next_place w i = rw add-one (omega (arith, suc-mul i w))
 
-pub none_in : (w k : ℕ) (bs : List ℕ) → k ≤ 0 → coefficients_at w k bs ≡ []
-unfolding coefficients_at
-none_in w zero bs h = refl
-none_in w (suc k) bs h = absurd (omega arith)
+-- entry i of some stands i * w bytes behind the first
+entry_in : (w k i : ℕ) (bs : List ℕ) → i < k
+    → signed_of w (number (take w (drop (i * w) bs))) ≡ entries (coefficients_at w k bs) i
+unfolding coefficients_at entries
+entry_in w zero i bs l = absurd (omega arith)
+entry_in w (suc k) zero bs l = rw zero-mul
+entry_in w (suc k) (suc i) bs l =
+    let sum : suc i * w ≡ w + i * w = omega (arith, suc-mul i w) in
+    rw (sum, ← drop-drop (i * w) w bs) (entry_in w k i (drop w bs) (omega arith))
 
-pub one_less : (k w : ℕ) → 0 < k → k * w ≡ w + (k - 1) * w
-one_less zero w h = absurd (omega arith)
-one_less (suc k) w h =
-    let e : suc k - 1 ≡ k = omega arith in
-    rw e (omega (arith, suc-mul k w))
+pub entry_at : (w k i : ℕ) (bs : List ℕ) → i < k
+    → signed_of w (number (take w (drop (10 + i * w) bs))) ≡ entries (coefficients_at w k (drop 10 bs)) i
+entry_at w k i bs l = rw (← drop-drop (i * w) 10 bs) (entry_in w k i (drop 10 bs) l)
 
--- the look: the class of some height, and what is left
-abbrev pub Looked : ℕ → ℕ → List ℕ → ℕ → ℕ → ℕ → Type 0
-Looked w k bs all left at = (h : ℕ) × (all ≡ class w h)
-    × (max h (height_of (coefficients_at w left (drop at bs))) ≡ height_of (coefficients_at w k (drop 10 bs)))
+-- the look: the class of some height, and what is left from entry i on
+abbrev pub Looked : ℕ → List ℤ → ℕ → ℕ → Type 0
+Looked w cs all i = (h : ℕ) × (all ≡ class w h) × (max h (height_of (drop i cs)) ≡ height_of cs)
 
-pub look_none : (w k : ℕ) (bs : List ℕ) → Looked w k bs 0 k 10
-look_none w k bs = (0, sym (class-none w), zero-max _)
+pub look_none : (w : ℕ) (cs : List ℤ) → Looked w cs 0 0
+look_none w cs = (0, sym (class-none w), zero-max _)
 
-pub look_turn : (w k left at all c v : ℕ) (bs : List ℕ) → one_of widths w ≡ true → 0 < left → v ≡ number_at w at bs
-    → c ≡ class w (nat_abs (signed_of w v)) → Looked w k bs all left at → Looked w k bs (bit_or all c) (left - 1) (at + w)
+pub look_turn : (w i all c : ℕ) (cs : List ℤ) → one_of widths w ≡ true → i < length cs
+    → c ≡ class w (nat_abs (entries cs i)) → Looked w cs all i → Looked w cs (bit_or all c) (i + 1)
+unfolding entries
+look_turn w i all c cs o l ec (h, ea, e) =
+    let x = nat_abs (get_or cs i (pos 0)) in (
+      max h x,
+      rw (ea, ec) (class-or w h x (lesser_less w o)),
+      omega (arith, e, height-left cs i l),
+    )
+
+pub look_all : (w i all : ℕ) (cs : List ℤ) → length cs ≤ i → Looked w cs all i → all ≡ class w (height_of cs)
 unfolding height_of
-look_turn w k left at all c v bs o l ev ec (h, ea, e) = (
-  max h (nat_abs (signed_of w v)),
-  rw (ea, ec) (class-or w h (nat_abs (signed_of w v)) (lesser_less w o)),
-  rw (ev, ← e, next_in w left at bs l) (omega arith),
-)
+look_all w i all cs l (h, ea, e) =
+    ea ∙ ap (class w) (sym (max-zero h) ∙ (rw (drop_of_length-le cs l) at e))
 
-pub look_all : (w k left at all : ℕ) (bs : List ℕ) → left ≤ 0 → Looked w k bs all left at
-    → all ≡ class w (height_of (coefficients_at w k (drop 10 bs)))
-unfolding height_of
-look_all w k left at all bs l (h, ea, e) =
-    ea ∙ ap (class w) (sym (max-zero h) ∙ (rw (none_in w left (drop at bs) l) at e))
+-- the store of some, from entry i on
+pub fill_turn : (i : ℕ) (all cs : List ℤ) {c : ℤ} → i < length all → c ≡ entries all i
+    → sets (set cs i c) (i + 1) (drop (i + 1) all) ≡ sets cs i (drop i all)
+unfolding entries
+fill_turn i all cs l e = rw (e, drop-cons all i (pos 0) l, add-one)
 
-pub fill_turn : (w k at i : ℕ) (bs : List ℕ) (cs : List ℤ) → 0 < k →
-    sets (set cs i (signed_of w (number (take w (drop at bs))))) (i + 1) (coefficients_at w (k - 1) (drop (at + w) bs))
-    ≡ sets cs i (coefficients_at w k (drop at bs))
-fill_turn w k at i bs cs l = rw (next_in w k at bs l, add-one)
-
-pub fill_none : (w k at i : ℕ) (bs : List ℕ) (cs : List ℤ) → k ≤ 0 → sets cs i (coefficients_at w k (drop at bs)) ≡ cs
-fill_none w k at i bs cs l = rw (none_in w k (drop at bs) l)
+pub fill_none : (i : ℕ) (all cs : List ℤ) → length all ≤ i → sets cs i (drop i all) ≡ cs
+fill_none i all cs l = rw (drop_of_length-le all l)
 
 -- how many there are
 pub length-body : (w : ℕ) (cs : List ℤ) → length (body w cs) ≡ length cs * w
@@ -153,3 +152,19 @@ pub length_at : (w k : ℕ) (bs : List ℕ) → length (coefficients_at w k bs) 
 unfolding coefficients_at
 length_at w zero bs = refl
 length_at w (suc k) bs = ap suc (length_at w k (drop w bs))
+
+-- what is put over the first k of some
+pub sets_over : {A : Type 0} (cs xs : List A) (k : ℕ) → length xs ≡ k → k ≤ length cs
+    → xs ++ drop k cs ≡ sets cs 0 xs
+sets_over cs xs k e h =
+    let all : 0 + length xs ≡ k = omega arith in
+    rw (sets-eq xs cs 0 (omega arith), all)
+
+-- is put over them all
+pub sets_front : {A : Type 0} (cs xs : List A) (k : ℕ) → length xs ≡ k → k ≤ length cs
+    → sets (take k cs) 0 xs ++ drop k cs ≡ sets cs 0 xs
+sets_front {A = A} cs xs k e h =
+    let short : length (take k cs) ≡ k = length-take-le k cs h in
+    let past : drop k (take k cs) ≡ [] = drop_of_length-le (take k cs) (omega arith) in
+    ap (λ (l : List A). l ++ drop k cs) (sym (sets_over (take k cs) xs k e (omega arith)) ∙ rw past (append-nil xs))
+    ∙ sets_over cs xs k e h

@@ -1,11 +1,12 @@
 // The header: 10 bytes, the same in every form of a record but for the second, which marks the form.
 ghost use Rattle.std.specs.Prelude.{◌≡◌, ◌≤◌, length};
 ghost use Rattle.std.proofs.lemmas.List.Edits.{sets};
+ghost use Rattle.answers.specs.Refusals.{code_of, number_of};
 ghost use Rattle.record.specs.Header.{header_of, marked, fields};
 ghost use Rattle.record.specs.Header.{kind_in, width_in, index_in, count_in, field_code, header_code, byte_of};
 
 use super::bytes::{four, one, put, two};
-use answers::known_kind;
+use answers::{Refusal, known_kind};
 use index::degree_of;
 use widths::is_width;
 
@@ -58,52 +59,52 @@ pub fn count_in(bytes: &[u8]) -> u64
     four(bytes, 6)
 }
 
-// The first field that is wrong, by its code. The degree is worked out last: it takes n apart.
-fn field_code(bytes: &[u8]) -> u64
+// Refuses by the first field that is wrong. The degree is worked out last: it takes n apart.
+fn check_fields(bytes: &[u8]) -> Result<(), Refusal>
     requires { 10 ≤ length bytes.now }
-    ensures { result ≡ field_code fields bytes.now }
+    ensures { code_of result ≡ field_code fields bytes.now }
 {
     let kind = kind_in(bytes);
     let kind_right = known_kind(kind);
     let width_right = is_width(width_in(bytes));
     if !kind_right {
-        return answers::RKIND;
+        return Err(Refusal::RecordKind);
     }
     if !width_right {
-        return answers::RWIDTH;
+        return Err(Refusal::RecordWidth);
     }
     let n = index_in(bytes);
     if n == 0 {
-        return answers::RINDEX;
+        return Err(Refusal::RecordIndex);
     }
     if count_in(bytes) != degree_of(kind, n) + 1 {
-        return answers::RCOUNT;
+        return Err(Refusal::RecordCount);
     }
-    answers::DONE
+    Ok(())
 }
 
 // What the header says by itself: CUT, MARK, a wrong field, or nothing wrong.
-pub fn header_code(bytes: &[u8], mark: u8) -> u64
-    ensures { result ≡ header_code mark bytes.now }
+pub fn check_header(bytes: &[u8], mark: u8) -> Result<(), Refusal>
+    ensures { code_of result ≡ header_code mark bytes.now }
 {
     if bytes.len() < 10 {
-        return answers::CUT;
+        return Err(Refusal::Cut);
     }
     if !is_marked(bytes, mark) {
-        return answers::MARK;
+        return Err(Refusal::Mark);
     }
-    field_code(bytes)
+    check_fields(bytes)
 }
 
-// The byte at which the field of a code starts.
-pub fn byte_of(code: u64) -> u64
-    ensures { result ≡ byte_of fields code }
+// The byte at which the field starts that a refusal is about.
+pub fn byte_of(refusal: Refusal) -> u64
+    ensures { result ≡ byte_of fields (number_of refusal) }
 {
-    match code {
-        answers::RKIND => 2,
-        answers::RWIDTH => 3,
-        answers::RINDEX => 4,
-        answers::RCOUNT => 6,
+    match refusal {
+        Refusal::RecordKind => 2,
+        Refusal::RecordWidth => 3,
+        Refusal::RecordIndex => 4,
+        Refusal::RecordCount => 6,
         _ => 0,
     }
 }

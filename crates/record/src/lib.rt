@@ -3,10 +3,12 @@
 
 #![tactic(auto)]
 
+mod body;
 mod bytes;
 mod header;
 mod look;
 
-pub use bytes::{fill, get, put, put_body};
-pub use header::{byte_of, count_in, header_code, index_in, kind_in, put_header, width_in};
+pub use body::{Body, fill};
+pub use bytes::{get, put, put_body};
+pub use header::{byte_of, check_header, count_in, index_in, kind_in, put_header, width_in};
 pub use look::right_width;

@@ -10,8 +10,6 @@ ghost use Rattle.definitions.specs.Series.{Series, firsts};
 ghost use Rattle.definitions.specs.Steps.{accumulate, entries, largest, step_over, step_list};
 ghost use Rattle.repeats.specs.Repeats.{Again, repeated};
 
-use entry_steps::{put, read_entry};
-use heights::smaller;
 use rows::sum_row;
 
 // Each entry from d on is what stands d before it.
@@ -20,11 +18,8 @@ fn copy_up(a: &mut [i64], d: usize)
     ensures { (f : Series) → Again d f → ((k : ℕ) → k < d → entries a.old k ≡ f k)
         → a.new ≡ firsts (length a.old) f }
 {
-    let mut i = d;
-    while i < a.len() {
-        let x = read_entry(a, i - d);
-        put(a, i, x);
-        i += 1;
+    for i in d..a.len() {
+        a[i] = a[i - d];
     }
 }
 
@@ -34,11 +29,9 @@ fn far_back(d: usize, n: usize) -> usize
     ensures { (d ≤ result) × (result ≤ n) × ((f : Series) → Again d f → Again result f) }
 {
     let mut far = d;
-    while far <= n - far {
-        if 128 <= far {
-            return far;
-        }
-        far = far + far;
+    // Stays a while: it doubles, and goes through no range.
+    while far < 128 && far <= n - far {
+        far += far;
     }
     far
 }
@@ -64,11 +57,8 @@ pub fn accumulate_repeated(a: &mut [i64], t: usize, d: usize)
     let n = a.len();
     let rest = d % t;
     let row = d - rest;
-    let mut x = row;
-    while x + rest < n {
-        let from = x + rest;
-        let to = smaller(from as u64 + row as u64, n as u64) as usize;
-        sum_row(a, x, d, from, to);
-        x += row;
+    for from in (d..n).step_by(row) {
+        let to = n.min(from + row);
+        sum_row(a, from - rest, d, from, to);
     }
 }

@@ -7,20 +7,13 @@ ghost use Rattle.definitions.specs.Integers.{◌⊕◌};
 ghost use Rattle.definitions.specs.Steps.{entries};
 ghost use Rattle.repeats.specs.Repeats.{SummedTo};
 
-use entry_steps::{Sort, new_value, put, read_entry};
-
 // From `from` up to `to`, each entry is the sum of those x and d before it, which lie below `from`.
 pub(crate) fn sum_row(a: &mut [i64], x: usize, d: usize, from: usize, to: usize)
     requires from_le_to { (from ≤ to) × (to ≤ length a.old) × (x ≤ from) × (d ≤ from) × (to ≤ from + x) × (to ≤ from + d) }
     requires by_index { (k : ℕ) → from ≤ k → k < to → SFits w64 (entries a.old (k - x) ⊕ entries a.old (k - d)) }
     ensures { SummedTo x d from to a.old a.new }
 {
-    let mut k = from;
-    while k < to {
-        let old = read_entry(a, k - x);
-        let before = read_entry(a, k - d);
-        let v = new_value(Sort::Accumulate, old, before);
-        put(a, k, v);
-        k += 1;
+    for k in from..to {
+        a[k] = a[k - x] + a[k - d];
     }
 }

@@ -1,105 +1,82 @@
--- When a line is good, from the tests that the code makes in its own order.
-use mathlib.Core.Path.{◌≡◌, refl, sym, ◌∙◌}
-use mathlib.Core.Bool.{Bool, true, false, true≢false, ◌&&◌, and-false}
-use mathlib.Core.List.{List}
-use Prim.Native.Nat.{ℕ, ◌+◌, ◌≤◌}
-use native.Mathlib.Omega.{arith}
-use borrow.Author.Tests.{lt-leb, eqb-true}
-use lib.ListN.{length, get_or}
-use lib.Dec.{eqb}
-use Rattle.step_laws.specs.Tests.{by_test}
+-- What is read of a line, part by part: a part that is wrong makes the line wrong, and where none is, it is good.
+use Rattle.std.proofs.Common.{◌≡◌, ℕ, ◌+◌, ◌<◌, ◌≤◌, IfSome, Bool, true, false, ◌&&◌, cond, List, length, get_or, Option, None, Some, refl, sym, ◌∙◌, arith}
+use mathlib.Core.Bool.{and-false, true≢false}
+use Rattle.std.specs.Bool.{then_some}
+use Rattle.std.proofs.Math.Dec.{eqb}
+use borrow.Author.Tests.{eqb-true}
 use Rattle.definitions.specs.Requests.{known_kind}
 use Rattle.text.specs.Text.{SPACE}
-use Rattle.request_lines.specs.Request.{kind_of, is_good_with, place_of_limit}
-use Rattle.digits.specs.Digits.{between, digits_at, number_at, one_to_nine}
-use Rattle.request_lines.specs.Request.{is_good, wrong, read_line}
-use Rattle.request_lines.specs.declared.Request.{Request}
+use Rattle.digits.specs.Digits.{digits_at, number_at, one_to_nine, IsNumber}
 use Rattle.digits.proofs.Digits.{nine_range}
+use Rattle.request_lines.specs.Request.{kind_of, IsKind, is_good_with, place_of_limit, is_good, read_line}
+use Rattle.request_lines.specs.declared.Request.{Request}
 
--- a letter that has a kind
-pub known : (letter : ℕ) → (kind_of letter ≡ 0 → ⊥) → known_kind (kind_of letter) ≡ true
-unfolding kind_of known_kind
-known letter h =
-    by_test (eqb letter 70) (λ e. rw e)
-    (λ e. by_test (eqb letter 73) (λ k. rw (e, k)) (λ k. absurd (h (rw (e, k)))))
+pub reads_wrong : (l : List ℕ) → is_good l ≡ false → read_line l ≡ None
+unfolding read_line
+reads_wrong l g = rw g
 
-pub unknown : (letter : ℕ) → kind_of letter ≡ 0 → known_kind (kind_of letter) ≡ false
-unfolding known_kind
-unknown letter h = rw h
+chosen : (w : Bool) (q : Request) → then_some w q ≡ cond w (Some q) None
+chosen true q = refl
+chosen false q = refl
 
--- a conjunction's parts
-right_of : (a b : Bool) → (a && b) ≡ true → b ≡ true
-right_of true b e = e
-right_of false b e = absurd (true≢false (sym e))
+bounded : (w : Bool) (q : Request) → q.h < 1000000000 → IfSome (then_some w q) (λ q. q.h < 1000000000)
+bounded true q h = h
+bounded false q h = tt
 
-left_of : (a b : Bool) → (a && b) ≡ true → a ≡ true
-left_of true b e = refl
-left_of false b e = e
+both : (a b : Bool) → (a && b) ≡ true → (a ≡ true) × (b ≡ true)
+both true b e = (refl, e)
+both false b e = absurd (true≢false (sym e))
 
-third : (p q r s : Bool) → (p && (q && (r && s))) ≡ true → r ≡ true
-third p q r s e = left_of r s (right_of q (r && s) (right_of p (q && (r && s)) e))
+module _ (l : List ℕ) where
+  pub no_kind : known_kind (kind_of (get_or l 0 0)) ≡ false → read_line l ≡ None
+  unfolding is_good is_good_with
+  no_kind h = reads_wrong l (simp h)
 
-sixth : (p q r s t u : Bool) → (p && (q && (r && (s && (t && u))))) ≡ true → u ≡ true
-sixth p q r s t u e =
-    right_of t u
-    (right_of s (t && u)
-    (right_of r (s && (t && u)) (right_of q (r && (s && (t && u))) (right_of p (q && (r && (s && (t && u)))) e))))
+  pub no_space : eqb (get_or l 1 0) SPACE ≡ false → read_line l ≡ None
+  unfolding is_good is_good_with
+  no_space h = reads_wrong l (simp (h, and-false))
 
-fifth : (p q r s t u : Bool) → (p && (q && (r && (s && (t && u))))) ≡ true → t ≡ true
-fifth p q r s t u e =
-    left_of t u (right_of s (t && u)
-    (right_of r (s && (t && u)) (right_of q (r && (s && (t && u))) (right_of p (q && (r && (s && (t && u)))) e))))
+  pub no_index : one_to_nine (digits_at l 2) ≡ false → read_line l ≡ None
+  unfolding is_good is_good_with
+  no_index h = reads_wrong l (simp (h, and-false))
 
-module _ (l : List ℕ) (a b : ℕ) where
-  pub most_nine : is_good_with l a b ≡ true → b ≤ 9
-  unfolding is_good_with
-  most_nine e =
-      (nine_range b
-      (fifth (known_kind (kind_of (get_or l 0 0))) (eqb (get_or l 1 0) SPACE) (one_to_nine a) (eqb (get_or l (2 + a) 0) SPACE)
-      (one_to_nine b) (eqb (length l) (3 + a + b)) e)
-      ).1
+  pub no_gap : eqb (get_or l (2 + digits_at l 2) 0) SPACE ≡ false → read_line l ≡ None
+  unfolding is_good is_good_with
+  no_gap h = reads_wrong l (simp (h, and-false))
 
-  short_with : is_good_with l a b ≡ true → length l ≤ 21
-  unfolding is_good_with
-  short_with e =
-      omega (
-        arith,
-        nine_range a
-            (third (known_kind (kind_of (get_or l 0 0))) (eqb (get_or l 1 0) SPACE) (one_to_nine a)
-            (eqb (get_or l (2 + a) 0) SPACE && (one_to_nine b && eqb (length l) (3 + a + b))) e),
-        most_nine e,
-        eqb-true (length l) (3 + a + b)
-            (sixth (known_kind (kind_of (get_or l 0 0))) (eqb (get_or l 1 0) SPACE) (one_to_nine a)
-            (eqb (get_or l (2 + a) 0) SPACE) (one_to_nine b) (eqb (length l) (3 + a + b)) e),
+  pub no_limit : one_to_nine (digits_at l (3 + digits_at l 2)) ≡ false → read_line l ≡ None
+  unfolding is_good is_good_with place_of_limit
+  no_limit h = reads_wrong l (simp (h, and-false))
+
+  all_of_it : known_kind (kind_of (get_or l 0 0)) ≡ true → eqb (get_or l 1 0) SPACE ≡ true
+      → one_to_nine (digits_at l 2) ≡ true → eqb (get_or l (2 + digits_at l 2) 0) SPACE ≡ true
+      → one_to_nine (digits_at l (3 + digits_at l 2)) ≡ true
+      → then_some (eqb (length l) (3 + digits_at l 2 + digits_at l (3 + digits_at l 2)))
+      (record { kind = kind_of (get_or l 0 0); n = number_at l 2; h = number_at l (3 + digits_at l 2) })
+      ≡ read_line l
+  unfolding read_line is_good is_good_with place_of_limit
+  all_of_it k s n g h = simp (k, s, n, g, h) (chosen _ _)
+
+  -- where all parts are right, the line is good if that is all of it
+  pub reads_all : (kind a n b h : ℕ) (r : Option Request) → IsKind (get_or l 0 0) (Some kind)
+      → eqb (get_or l 1 0) SPACE ≡ true → IsNumber l 2 (Some (a, n)) → eqb (get_or l (2 + a) 0) SPACE ≡ true
+      → IsNumber l (3 + a) (Some (b, h))
+      → r ≡ then_some (eqb (length l) (3 + a + b)) (record { kind = kind; n = n; h = h })
+      → (r ≡ read_line l) × IfSome r (λ q. q.h < 1000000000)
+  reads_all kind a n b h r k s x g y e =
+      let gap = rw x.1 at g in
+      let limit = rw x.1 at y in (
+        e ∙ rw (k.1, x.2, limit.2, limit.1, x.1) (all_of_it k.0 s x.0 gap limit.0),
+        rw e (bounded (eqb (length l) (3 + a + b)) (record { kind = kind; n = n; h = h }) y.3),
       )
 
-  pub too_many : 10 ≤ a → is_good_with l a b ≡ false
-  unfolding is_good_with between
-  too_many h = simp (lt-leb a 9 h, and-false)
-
-  pub good_as : a ≡ digits_at l 2 → b ≡ digits_at l (3 + a) → is_good_with l a b ≡ is_good l
-  unfolding is_good place_of_limit
-  good_as p q = rw (q, p)
-
--- n of ten digits or more; where h stands
-pub too_many_good : (l : List ℕ) (a : ℕ) → a ≡ digits_at l 2 → 10 ≤ a → is_good l ≡ false
-too_many_good l a p h = sym (good_as l a (digits_at l (3 + a)) p refl) ∙ too_many l a (digits_at l (3 + a)) h
-
-pub limit : (l : List ℕ) (a : ℕ) → a ≡ digits_at l 2 → number_at l (3 + a) ≡ number_at l (place_of_limit l)
-unfolding place_of_limit
-limit l a p = rw p
-
--- a good line has at most 21 bytes
-pub good_short : (l : List ℕ) → is_good l ≡ true → length l ≤ 21
-unfolding is_good
-good_short l e = short_with l (digits_at l 2) (digits_at l (place_of_limit l)) e
-
-pub reads_good : (l : List ℕ) (k n h : ℕ) → is_good l ≡ true → k ≡ kind_of (get_or l 0 0) → n ≡ number_at l 2
-    → h ≡ number_at l (place_of_limit l) → ◌≡◌ {A = Request} (record { good = true; kind = k; n = n; h = h }) (read_line l)
-unfolding read_line
-reads_good l k n h g p q r = rw g (λ i. record { good = true; kind = p i; n = q i; h = r i })
-
-pub reads_wrong : (l : List ℕ) → is_good l ≡ false
-    → ◌≡◌ {A = Request} (record { good = false; kind = 0; n = 0; h = 0 }) (read_line l)
-unfolding read_line wrong
-reads_wrong l g = rw g
+  -- a good line has at most 21 bytes
+  pub good_short : is_good l ≡ true → length l ≤ 21
+  unfolding is_good is_good_with
+  good_short e =
+      let a = digits_at l 2 in
+      let b = digits_at l (place_of_limit l) in
+      let p = both (one_to_nine a) (eqb (get_or l (2 + a) 0) SPACE && (one_to_nine b && eqb (length l) (3 + a + b)))
+      (both (eqb (get_or l 1 0) SPACE) _ (both _ _ e).1).1 in
+      let q = both (one_to_nine b) (eqb (length l) (3 + a + b)) (both (eqb (get_or l (2 + a) 0) SPACE) _ p.1).1 in
+      omega (arith, nine_range a p.0, nine_range b q.0, eqb-true (length l) (3 + a + b) q.1)

@@ -108,23 +108,22 @@ by_searches P none more shelf = go (length shelf) shelf (omega arith)
         let less = moves (b ∷ bs) (omega arith) in
         more (b ∷ bs) (omega arith) (go m (left_by (b ∷ bs)) (omega arith))
 
--- the record at the place where a search ended, before the shelf's end
-pub record Stands (bs : List ℕ) : Type 0 where
-  pub header : header_code whole_mark bs ≡ DONE
-  pub size : size_at bs ≡ size_in bs
-  pub whole : size_at bs ≤ length bs
+-- where a search ends is the shelf's end, or a record that is kept
+pub ends_at : (shelf : List ℕ) (at start : ℕ) → start ≡ at + to_next (drop at shelf)
+    → (drop start shelf ≡ []) ⊎ (keepable (drop start shelf) ≡ true)
+ends_at shelf at start e =
+    let here : drop start shelf ≡ there (drop at shelf) = rw e (sym (drop-drop (to_next (drop at shelf)) at shelf)) in
+    rw here (next-found (drop at shelf))
 
-pub stands : (shelf : List ℕ) (at start : ℕ) → start ≡ at + to_next (drop at shelf) → start < length shelf
-    → Stands (drop start shelf)
-stands shelf at start e l =
-    ⊎_elim (λ (none : there (drop at shelf) ≡ []). absurd (omega
-    (arith, ap length (here ∙ none), length-drop start shelf)))
-    (λ k. let p = size_at_lem (drop start shelf) (ap keepable here ∙ k) in
-    record {
-      header = header_looked (drop start shelf) (keepable_reads (drop start shelf) (ap keepable here ∙ k)).0;
-      size = p.1;
-      whole = p.2;
-    }) (next-found (drop at shelf))
-  where
-    here : drop start shelf ≡ there (drop at shelf)
-    here = rw e (sym (drop-drop (to_next (drop at shelf)) at shelf))
+pub ends_within : (shelf : List ℕ) (at start : ℕ) → at ≤ length shelf → start ≡ at + to_next (drop at shelf)
+    → start ≤ length shelf
+ends_within shelf at start l e = omega (arith, e, next_le (drop at shelf), length-drop at shelf)
+
+-- and its size is within what stands there
+pub size_within : (bs : List ℕ) → (bs ≡ []) ⊎ (keepable bs ≡ true) → size_at bs ≤ length bs
+size_within bs = ⊎_elim (λ (e : bs ≡ []). rw e (omega arith)) (λ k. (size_at_lem bs k).2)
+
+-- a record that is kept has a right header, as the function that reads its size asks
+pub right_header : (bs : List ℕ) → (bs ≡ [] → ⊥) → (bs ≡ []) ⊎ (keepable bs ≡ true) → header_code whole_mark bs ≡ DONE
+right_header bs some =
+    ⊎_elim (λ (e : bs ≡ []). absurd (some e)) (λ k. header_looked bs (keepable_reads bs k).0)

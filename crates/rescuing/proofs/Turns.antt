@@ -3,7 +3,7 @@
 -- whole (`Wrote`).
 use Prim.Native.Nat.{ℕ, zero, suc, ◌+◌, ◌*◌, ◌-◌, ◌≤◌, ◌<◌}
 use mathlib.Core.Path.{◌≡◌, refl, sym, ap, ◌∙◌}
-use mathlib.Core.Bool.{Bool, true, false, ◌||◌}
+use mathlib.Core.Bool.{Bool, true, false, true≢false, ◌||◌}
 use mathlib.Core.List.{List, [], ◌∷◌, ◌++◌, append-nil, append_assoc}
 use mathlib.Core.Logic.{⊎_elim}
 use native.Mathlib.Omega.{arith}
@@ -16,10 +16,12 @@ use Rattle.record.proofs.Passes.{sets-append}
 use Rattle.shelf.proofs.Alone.{tail}
 use Rattle.step_laws.specs.Tests.{neither}
 use Rattle.keeping.specs.Keepable.{to_next, cramped_to}
-use Rattle.rescuing.specs.declared.passes.Next.{Next}
+use Rattle.std.specs.Prelude.{Result, Ok, Err, IsOk}
+use Rattle.std.specs.declared.ops.Range.{Range}
+use Rattle.keeping.specs.declared.Cramped.{Cramped}
 use Rattle.rescuing.specs.Rescue.{size_at, found_by, left_by, searches, kept_by, stretch, listed_by, cramped_by}
 use Rattle.rescuing.specs.Rescue.{kept, listed}
-use Rattle.rescuing.specs.Passes.{NextIs}
+use Rattle.rescuing.specs.Passes.{FoundIs, NextIs}
 use Rattle.rescuing.proofs.Searches.{there, length_skipped, length_found, left_is, length-left}
 use Rattle.rescuing.proofs.Searches.{found-or-end, searches-none, searches-step, by_searches}
 
@@ -95,25 +97,34 @@ listed_le =
     by_skip left at zero e found n h = omega (arith, length-left left, (stretch-long at 0).1 refl)
     by_skip left at (suc k) e found n h = omega (arith, length-left left, (stretch-long at (suc k)).0)
 
+-- a search that ended for no want of room found something
+pub found_ok : (room : ℕ) (shelf : List ℕ) (at : ℕ) → cramped_to room (drop at shelf) ≡ false
+    → (r : Result (Range ℕ) Cramped) → NextIs room shelf at r → IsOk r
+found_ok room shelf at free (Ok found) is = refl
+found_ok room shelf at free (Err e) is = absurd (true≢false (sym is ∙ free))
+
+pub found_in : (room : ℕ) (shelf : List ℕ) (at : ℕ) → {r : Result (Range ℕ) Cramped} {found : Range ℕ} → r ≡ Ok found
+    → NextIs room shelf at r → FoundIs room shelf at found
+found_in room shelf at e is = rw e at is
+
 -- a place of a shelf, and the search from there
 module _ (room : ℕ) (shelf : List ℕ) (at : ℕ) (l : at < length shelf) where
   some : 0 < length (drop at shelf)
   some = rw length-drop (omega arith)
 
-  pub not-cramped : {c : Bool} → c ≡ cramped_to room (drop at shelf) → cramped_in room (drop at shelf) ≡ false → c ≡ false
-  not-cramped e none =
-      e ∙ (neither (cramped_to room (drop at shelf)) _ (sym (cramped-step (drop at shelf) some room) ∙ none)).0
+  pub not-cramped : cramped_in room (drop at shelf) ≡ false → cramped_to room (drop at shelf) ≡ false
+  not-cramped none = (neither (cramped_to room (drop at shelf)) _ (sym (cramped-step (drop at shelf) some room) ∙ none)).0
 
-  module _ (r : Next) (is : NextIs room shelf at r) (free : r.cramped ≡ false) where
+  module _ (r : Range ℕ) (is : FoundIs room shelf at r) where
     -- where the record stands
     stands : drop r.start shelf ≡ there (drop at shelf)
-    stands = rw (is.start free) (sym (drop-drop (to_next (drop at shelf)) at shelf))
+    stands = rw (is.start) (sym (drop-drop (to_next (drop at shelf)) at shelf))
 
     pub starts : r.start ≡ at + to_next (drop at shelf)
-    starts = is.start free
+    starts = is.start
 
     pub ends : r.end ≡ r.start + size_at (there (drop at shelf))
-    ends = is.end free ∙ ap (λ (x : List ℕ). r.start + size_at x) stands
+    ends = is.end ∙ ap (λ (x : List ℕ). r.start + size_at x) stands
 
     pub after : drop r.end shelf ≡ left_by (drop at shelf)
     after =
@@ -138,6 +149,9 @@ module _ (room : ℕ) (shelf : List ℕ) (at : ℕ) (l : at < length shelf) wher
         let e : r.end - r.start ≡ size_at (there (drop at shelf)) = omega (arith, ends) in
         rw (e, stands) refl
 
+    pub size_is : length (take (r.end - r.start) (drop r.start shelf)) ≡ r.end - r.start
+    size_is = ap length record_is ∙ length_found (drop at shelf) ∙ omega (arith, ends)
+
     pub skip_is : r.start - at ≡ to_next (drop at shelf)
     skip_is = omega (arith, starts)
 
@@ -154,7 +168,7 @@ module _ (room : ℕ) (shelf : List ℕ) (at : ℕ) (l : at < length shelf) wher
     pub cramped-turn : cramped_in room (drop at shelf) ≡ cramped_in room (drop r.end shelf)
     cramped-turn =
         cramped-step (drop at shelf) some room
-        ∙ rw (after, ← is.cramps, free) refl
+        ∙ rw (after, is.free) refl
 
 -- what was counted, at a place
 pub record Counted (room : ℕ) (shelf : List ℕ) (at k s : ℕ) : Type 0 where
@@ -169,34 +183,33 @@ counted_none room shelf = record { inside = omega arith; keeps = zero-add _; lis
 
 module _ (room : ℕ) (shelf : List ℕ) (at k s : ℕ) (so : Counted room shelf at k s) where
   -- some record has too little room
-  pub counted-cramped : at < length shelf → (r : Next) → NextIs room shelf at r → r.cramped ≡ true
-      → true ≡ cramped_in room shelf
-  counted-cramped l r is e =
+  pub counted-cramped : at < length shelf → cramped_to room (drop at shelf) ≡ true → cramped_in room shelf ≡ true
+  counted-cramped l e =
       let some : 0 < length (drop at shelf) = rw length-drop (omega arith) in
-      sym (cramped-step (drop at shelf) some room ∙ rw (← is.cramps, e) refl) ∙ so.cramps
+      sym so.cramps ∙ cramped-step (drop at shelf) some room ∙ rw e refl
 
-  module _ (l : at < length shelf) (r : Next) (is : NextIs room shelf at r) (free : r.cramped ≡ false) where
+  module _ (l : at < length shelf) (r : Range ℕ) (is : FoundIs room shelf at r) where
     pub counted-turn : Counted room shelf r.end (k + (r.end - r.start)) (s + length (stretch at (r.start - at)))
     counted-turn =
-        let b = bounds room shelf at l r is free in
+        let b = bounds room shelf at l r is in
         record {
           inside = b.2;
           keeps = omega (
             arith,
             so.keeps,
-            ap length (kept-turn room shelf at l r is free),
+            ap length (kept-turn room shelf at l r is),
             length-append (take (r.end - r.start) (drop r.start shelf)) (kept_in (drop r.end shelf)),
-            ap length (record_is room shelf at l r is free),
+            ap length (record_is room shelf at l r is),
             length_found (drop at shelf),
-            ends room shelf at l r is free,
+            ends room shelf at l r is,
           );
           lists = omega (
             arith,
             so.lists,
-            ap length (listed-turn room shelf at l r is free),
+            ap length (listed-turn room shelf at l r is),
             length-append (stretch at (r.start - at)) (listed_in r.end (drop r.end shelf)),
           );
-          cramps = sym (cramped-turn room shelf at l r is free) ∙ so.cramps;
+          cramps = sym (cramped-turn room shelf at l r is) ∙ so.cramps;
         }
 
   -- at the end of the shelf
@@ -214,18 +227,11 @@ module _ (room : ℕ) (shelf : List ℕ) (at k s : ℕ) (so : Counted room shelf
   unfolding kept listed
   counts_small = (omega (arith, so.keeps, kept-le shelf), omega (arith, so.lists, listed_le shelf 0))
 
--- a part from a place on, with something stored at its start
-pub part-stored : (l vs : List ℕ) (at : ℕ) → at + length vs ≤ length l → (ys : List ℕ)
-    → ys ≡ sets (take (length l - at) (drop at l)) 0 vs → put_mid at (length l - at) l ys ≡ sets l at vs
-part-stored l vs at fits ys e =
-    let none : drop (length l - at) (drop at l) ≡ [] =
-    drop_of_length-le (drop at l) {i = length l - at} (rw length-drop (omega arith)) in
-    let whole : ys ≡ vs ++ drop (at + length vs) l =
-    e ∙ ap (λ (x : List ℕ). sets x 0 vs) (tail l at) ∙ sets-eq vs (drop at l) 0
-    (rw (length-drop, zero-add) (omega arith))
-    ∙ rw (zero-add, drop-drop) refl in
-    rw (none, whole) (ap (λ (x : List ℕ). take at l ++ x) (append-nil _) ∙ sym (append_assoc (take at l) vs _))
-    ∙ sym (sets-eq vs l at fits)
+-- a part of a list, replaced by as much
+pub part-stored : (l vs : List ℕ) (at : ℕ) → at + length vs ≤ length l → (n : ℕ) → n ≡ length vs → (ys : List ℕ) → ys ≡ vs
+    → put_mid at n l ys ≡ sets l at vs
+part-stored l vs at fits n en ys e =
+    rw (en, e, drop-drop) (sym (append_assoc (take at l) vs (drop (at + length vs) l)) ∙ sym (sets-eq vs l at fits))
 
 -- some more, behind what was stored
 store_on : (l l' : List ℕ) (i n : ℕ) (xs ys all : List ℕ) → all ≡ xs ++ ys → l' ≡ sets l i xs → n ≡ i + length xs
@@ -245,20 +251,18 @@ wrote_none shelf out list = record { outs = refl; numbers = refl; out_long = ref
 
 module _ (room : ℕ) (shelf : List ℕ) (at k s : ℕ) (out₀ list₀ out list : List ℕ)
     (so : Wrote shelf at k s out₀ list₀ out list) where
-  module _ (l : at < length shelf) (r : Next) (is : NextIs room shelf at r) (free : r.cramped ≡ false) where
+  module _ (l : at < length shelf) (r : Range ℕ) (is : FoundIs room shelf at r) where
     pub wrote_turn : (out' list' : List ℕ) → out' ≡ sets out k (take (r.end - r.start) (drop r.start shelf))
         → list' ≡ sets list s (stretch at (r.start - at))
         → Wrote shelf r.end (k + (r.end - r.start)) (s + length (stretch at (r.start - at))) out₀ list₀ out' list'
     wrote_turn out' list' eo el =
         let found = take (r.end - r.start) (drop r.start shelf) in
-        let size : length found ≡ r.end - r.start =
-        ap length (record_is room shelf at l r is free) ∙ length_found (drop at shelf)
-        ∙ omega (arith, ends room shelf at l r is free) in
+        let size : length found ≡ r.end - r.start = size_is room shelf at l r is in
         record {
-          outs = store_on out out' k _ found _ _ (kept-turn room shelf at l r is free) eo (omega (arith, size))
+          outs = store_on out out' k _ found _ _ (kept-turn room shelf at l r is) eo (omega (arith, size))
               ∙ so.outs;
           numbers = store_on list list' s _ (stretch at (r.start - at)) _ _
-              (listed-turn room shelf at l r is free) el refl
+              (listed-turn room shelf at l r is) el refl
               ∙ so.numbers;
           out_long = ap length eo ∙ length-sets out k found ∙ so.out_long;
           list_long = ap length el ∙ length-sets list s (stretch at (r.start - at)) ∙ so.list_long;

@@ -8,6 +8,7 @@ mod passes;
 ghost use Rattle.std.specs.Prelude.{◌≡◌, length};
 ghost use Rattle.rescuing.specs.Rescue.{rescue_answer, rescue_leaves, rescue_lists, rescue_clears};
 
+use answers::Refusal;
 use passes::{is_short, write_all};
 
 // What a rescue answers: the code, the bytes kept, and how many stretches are skipped.
@@ -36,7 +37,7 @@ pub fn rescue(shelf: &[u8], out: &mut [u8], list: &mut [u64], coeffs: &mut [i64]
     if is_short(shelf, out.len(), list.len(), coeffs) {
         shapes::clear(coeffs);
         return Rescued {
-            code: answers::SHORT,
+            code: u64::from(Refusal::Short),
             kept: 0,
             stretches: 0,
         };

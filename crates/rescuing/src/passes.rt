@@ -1,59 +1,41 @@
 // The passes over a shelf, a search after the other: one that counts, and one that writes.
-ghost use Rattle.std.specs.Prelude.{◌≡◌, true, not, ◌+◌, ◌-◌, ◌/◌, ◌≤◌, ◌<◌, length, take, drop, eqb};
+ghost use Rattle.std.specs.Prelude.{◌≡◌, true, not, [], ◌+◌, ◌-◌, ◌/◌, ◌≤◌, ◌<◌, ◌⊎◌, length, eqb};
 ghost use Rattle.std.proofs.lemmas.List.Edits.{sets};
 ghost use Rattle.definitions.specs.Codes.{DONE};
-ghost use Rattle.keeping.specs.Keepable.{to_next};
+ghost use Rattle.keeping.specs.Keepable.{keepable};
 ghost use Rattle.rescuing.specs.Rescue.{size_at, stretch, kept, listed, rescue_code};
 ghost use Rattle.rescuing.specs.Passes.{NextIs, CountIs};
 
-use half_passes::copy;
-use keeping::search;
+use keeping::{Cramped, search};
+use std::ops::Range;
 
-// A search from a place on: whether it ended for want of room; and where the record that it found starts and ends.
-#[derive(Drop)]
-struct Next {
-    cramped: bool,
-    start: usize,
-    end: usize,
-}
-
-// So many bytes are kept, and so many numbers listed; or some record has too little room for its coefficients.
-#[derive(Drop)]
+// So many bytes are kept, and so many numbers listed.
+#[derive(Clone, Copy)]
 pub(crate) struct Count {
-    pub cramped: bool,
     pub kept: usize,
     pub slots: usize,
 }
 
-// The end of the record that a search from a place on found; at the shelf's end there is none.
-fn end_from(shelf: &[u8], at: usize, start: usize) -> usize
-    requires { start ≡ at + to_next (drop at shelf.now) }
-    ensures { result ≡ start + size_at (drop start shelf.now) }
+// The size of the record where a search ended; at the shelf's end there is none.
+fn size_at(bytes: &[u8]) -> usize
+    requires { (bytes.now ≡ []) ⊎ (keepable bytes.now ≡ true) }
+    ensures { result ≡ size_at bytes.now }
 {
-    if shelf.len() <= start {
-        return start;
+    if bytes.is_empty() {
+        return 0;
     }
-    start + shelf::size_in(&shelf[start..])
+    shelf::size_in(bytes)
 }
 
-fn next_from(shelf: &[u8], at: usize, coeffs: &mut [i64]) -> Next
+// A search from a place on: where the record that it found stands.
+fn next_from(shelf: &[u8], at: usize, coeffs: &mut [i64]) -> Result<Range<usize>, Cramped>
     requires { at ≤ length shelf.now }
     ensures next_is { NextIs (length coeffs.old) shelf.now at result }
     ensures coeffs_len_unchanged { length coeffs.new ≡ length coeffs.old }
 {
-    let sought = search(shelf, at, coeffs);
-    if sought.cramped {
-        return Next {
-            cramped: true,
-            start: at,
-            end: at,
-        };
-    }
-    Next {
-        cramped: false,
-        start: sought.place,
-        end: end_from(shelf, at, sought.place),
-    }
+    let start = search(shelf, at, coeffs)?;
+    let end = start + size_at(&shelf[start..]);
+    Ok(start..end)
 }
 
 // How many numbers the stretch from one place to another has in the list.
@@ -64,44 +46,28 @@ fn slots_for(at: usize, start: usize) -> usize
 }
 
 // The pass that counts. It ends where some record has too little room for its coefficients.
-fn count_all(shelf: &[u8], coeffs: &mut [i64]) -> Count
+fn count_all(shelf: &[u8], coeffs: &mut [i64]) -> Result<Count, Cramped>
     ensures count_is { CountIs (length coeffs.old) shelf.now result }
     ensures coeffs_len_unchanged { length coeffs.new ≡ length coeffs.old }
 {
     let mut at = 0;
     let mut kept = 0;
     let mut slots = 0;
+    // Stays a while: each turn goes on where the record that it found ends.
     while at < shelf.len() {
-        let next = next_from(shelf, at, coeffs);
-        if next.cramped {
-            return Count {
-                cramped: true,
-                kept: 0,
-                slots: 0,
-            };
-        }
-        slots += slots_for(at, next.start);
-        kept += next.end - next.start;
-        at = next.end;
+        let found = next_from(shelf, at, coeffs)?;
+        slots += slots_for(at, found.start);
+        kept += found.end - found.start;
+        at = found.end;
     }
-    Count {
-        cramped: false,
-        kept,
-        slots,
-    }
+    Ok(Count { kept, slots })
 }
 
 // Are the rooms so large that SHORT can't be met? A stretch and the record after it have 11 bytes at least.
 fn is_roomy(len: usize, room: usize, slots: usize, entries: usize) -> bool
     ensures { result ≡ true → (len ≤ room) × (len / 11 < slots / 2) × (65536 ≤ entries) }
 {
-    if room < len {
-        return false;
-    }
-    if slots / 2 <= len / 11 {
-        return false;
-    }
-    65536 <= entries
+    len <= room && len / 11 < slots / 2 && 65536 <= entries
 }
 
 // Is it SHORT, for so many bytes, numbers and coefficients?
@@ -112,14 +78,10 @@ pub(crate) fn is_short(shelf: &[u8], room: usize, slots: usize, coeffs: &mut [i6
     if is_roomy(shelf.len(), room, slots, coeffs.len()) {
         return false;
     }
-    let all = count_all(shelf, coeffs);
-    if all.cramped {
-        return true;
+    match count_all(shelf, coeffs) {
+        Ok(all) => room < all.kept || slots < all.slots,
+        Err(_) => true,
     }
-    if room < all.kept {
-        return true;
-    }
-    slots < all.slots
 }
 
 // A stretch in the list, if it is not empty; answers the slot after it.
@@ -137,14 +99,14 @@ fn put_stretch(list: &mut [u64], slot: usize, at: usize, start: usize) -> usize
 }
 
 // A record in the output; answers the place after it.
-fn put_record(shelf: &[u8], start: usize, end: usize, out: &mut [u8], at: usize) -> usize
-    requires { (start ≤ end) × (end ≤ length shelf.now) × (at + (end - start) ≤ length out.old) }
-    ensures value { result ≡ at + (end - start) }
-    ensures out_after { out.new ≡ sets out.old at (take (end - start) (drop start shelf.now)) }
+fn put_record(bytes: &[u8], out: &mut [u8], at: usize) -> usize
+    requires { at + length bytes.now ≤ length out.old }
+    ensures value { result ≡ at + length bytes.now }
+    ensures out_after { out.new ≡ sets out.old at bytes.now }
 {
-    let size = end - start;
-    copy(&shelf[start..], size, &mut out[at..]);
-    at + size
+    let end = at + bytes.len();
+    out[at..end].copy_from_slice(bytes);
+    end
 }
 
 // The pass that writes.
@@ -158,15 +120,12 @@ pub(crate) fn write_all(shelf: &[u8], out: &mut [u8], list: &mut [u64], coeffs: 
     let mut at = 0;
     let mut kept = 0;
     let mut slots = 0;
+    // Stays a while: each turn goes on where the record that it found ends.
     while at < shelf.len() {
-        let next = next_from(shelf, at, coeffs);
-        slots = put_stretch(list, slots, at, next.start);
-        kept = put_record(shelf, next.start, next.end, out, kept);
-        at = next.end;
+        let found = next_from(shelf, at, coeffs).unwrap();
+        slots = put_stretch(list, slots, at, found.start);
+        kept = put_record(&shelf[found.start..found.end], out, kept);
+        at = found.end;
     }
-    Count {
-        cramped: false,
-        kept,
-        slots,
-    }
+    Count { kept, slots }
 }

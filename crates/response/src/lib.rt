@@ -5,7 +5,10 @@
 #![tactic(auto)]
 
 ghost use Rattle.std.specs.Prelude.{◌≡◌, false};
+ghost use Rattle.answers.specs.Refusals.{number_of};
 ghost use Rattle.response.specs.Response.{0ᶠ, is_within, is_inside, is_coarse, next_at, answer};
+
+use answers::Refusal;
 
 // A point, and a running value, by its real and its imaginary part.
 #[repr(C)]
@@ -46,11 +49,11 @@ fn coarse(c: i64) -> bool
 }
 
 // A refusal: its code, and 0 and 0.
-fn refused(code: u64) -> Value
-    ensures { result ≡ record { code = code; real = 0ᶠ; imag = 0ᶠ } }
+fn refused(refusal: Refusal) -> Value
+    ensures { result ≡ record { code = number_of refusal; real = 0ᶠ; imag = 0ᶠ } }
 {
     Value {
-        code,
+        code: refusal.into(),
         real: 0.0,
         imag: 0.0,
     }
@@ -79,23 +82,19 @@ pub fn response(coeffs: &[i64], at: Point) -> Value
     ensures { result ≡ answer coeffs.now at }
 {
     if !inside(at) {
-        return refused(answers::POINT);
+        return refused(Refusal::Point);
     }
     let zero = 0.0;
     let mut running = Point {
         real: zero,
         imag: zero,
     };
-    let count = coeffs.len();
-    let mut left = count;
-    while 0 < left {
-        let highest = left - 1;
-        let c = coeffs[highest];
+    for i in (0..coeffs.len()).rev() {
+        let c = coeffs[i];
         if coarse(c) {
-            return refused(answers::COARSE);
+            return refused(Refusal::Coarse);
         }
         running = next(running, at, c);
-        left -= 1;
     }
     Value {
         code: answers::DONE,

@@ -8,6 +8,7 @@ use borrow.Author.Tests.{lt-ltb, le-ltb, le-leb, lt-leb}
 use lib.ListN.{length, drop, length-replicate}
 use lib.Dec.{ltb}
 use lib.IntN.{ℤ, pos}
+use Rattle.std.specs.Prelude.{Ok}
 use Rattle.definitions.specs.Integers.{0ℤ}
 use Rattle.definitions.specs.Codes.{DONE, KIND, INDEX, LIMIT, SHORT, TALL}
 use Rattle.definitions.specs.Polynomials.{degree, polynomial}
@@ -116,39 +117,34 @@ module _ (kind n : ℕ) (h : ℤ) (l s : List ℤ) where
 module _
     (kind n h : ℕ) (l s : List ℤ) (e : known_kind kind ≡ true) (f : good_index n ≡ true) (g : 1 ≤ h) (d : ℕ)
     (ed : d ≡ degree kind n) (room : d < length l) (enough : 2 * n + 16 ≤ length s)
-    (m t : List ℤ) (r : Laid) (laid : LaidIs kind n h m r) (clear : t ≡ zeros (length s))
+    (m t : List ℤ) (clear : t ≡ zeros (length s))
   where
-    by_height : (b : Bool) → r.tall ≡ b → code kind n (pos h) (length l) (length s) ≡ cond b TALL DONE
+    by_height : (b : Bool) → ltb h (height kind n) ≡ b → code kind n (pos h) (length l) (length s) ≡ cond b TALL DONE
     by_height b q =
-        ask_last kind n h (length l) (length s) e f g (omega arith) enough
-        ∙ ap (λ x. cond x TALL DONE) (sym laid.tall ∙ q)
+        ask_last kind n h (length l) (length s) e f g (omega arith) enough ∙ ap (λ x. cond x TALL DONE) q
 
-    left_by_lem : (b : Bool) → r.tall ≡ b → m ≡ cond b (zeros (suc (degree kind n))) (coefficients kind n)
-    left_by_lem b q = laid.leaves ∙ ap (λ x. cond x (zeros (suc (degree kind n))) (coefficients kind n)) q
-
-    pub refuses : r.tall ≡ true → Answers kind n (pos h) (told-only TALL d) (m ++ drop (d + 1) l) l t s
+    pub refuses : h < height kind n → m ≡ zeros (suc (degree kind n))
+        → Answers kind n (pos h) (told-only TALL d) (m ++ drop (d + 1) l) l t s
     unfolding zeros
-    refuses q =
-        let y = at_tall kind n (pos h) l s (by_height true q) in (
+    refuses tall z =
+        let y = at_tall kind n (pos h) l s (by_height true (lt-ltb h (height kind n) tall)) in (
           ap (told-only TALL) ed ∙ y.0,
           (
-            in_front l (zeros (suc (degree kind n))) ed (length-replicate (suc (degree kind n)) 0ℤ) (left_by_lem true q)
-                ∙ y.1.0,
+            in_front l (zeros (suc (degree kind n))) ed (length-replicate (suc (degree kind n)) 0ℤ) z ∙ y.1.0,
             clear ∙ y.1.1,
           ),
         )
 
-    pub delivers : r.tall ≡ false → (x : ℤ) → x ≡ gain kind n
+    pub delivers : (r : Laid) → LaidIs kind n h m (Ok r) → (x : ℤ) → x ≡ gain kind n
         → Answers kind n (pos h)
         (record { code = DONE; degree = d; additions = 0; height = r.height; peak = r.peak; gain = x })
         (m ++ drop (d + 1) l) l t s
     unfolding coefficients
-    delivers q x is =
-        let y = at_done kind n (pos h) l s (by_height false q) in (
-          same_done ed refl (laid.height q) (laid.peak q) is ∙ y.0,
+    delivers r laid x is =
+        let y = at_done kind n (pos h) l s (by_height false (le-ltb h (height kind n) laid.0)) in (
+          same_done ed refl (ap (λ v. v.height) laid.2) (ap (λ v. v.peak) laid.2) is ∙ y.0,
           (
-            in_front l (coefficients kind n) ed (length-firsts (suc (degree kind n)) (polynomial kind n))
-                (left_by_lem false q) ∙ y.1.0,
+            in_front l (coefficients kind n) ed (length-firsts (suc (degree kind n)) (polynomial kind n)) laid.1 ∙ y.1.0,
             clear ∙ y.1.1,
           ),
         )

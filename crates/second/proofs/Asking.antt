@@ -1,14 +1,11 @@
 -- What the engine is asked for is in order (`asked`); the lower half that it leaves is known to be in range (`lower`,
 -- `bounded`); and where r is 1 nothing is asked (`laid_one`).
 use Prim.Native.Nat.{ℕ, ◌+◌, ◌*◌, ◌<◌, ◌≤◌}
-use mathlib.Core.Path.{◌≡◌, refl, sym, ◌∙◌, ap}
-use mathlib.Core.Bool.{false}
+use mathlib.Core.Path.{◌≡◌, refl, sym, ◌∙◌, ap, ap₂}
 use mathlib.Core.Logic.{◌≢◌}
 use mathlib.Core.List.{List}
 use native.Mathlib.Nat as NatL
 use native.Mathlib.Omega.{arith}
-use borrow.Author.Tests.{le-ltb}
-use lib.Dec.{ltb}
 use lib.ListN.{length, take, length-take, get_or-eq_default}
 use lib.Seq.{get_or-take}
 use lib.IntN.{ℤ, nat_abs}
@@ -35,6 +32,8 @@ use Rattle.squarefree_from_half.proofs.Growing.{half_within}
 use Rattle.whole_from_half.specs.Ready.{Ready}
 use Rattle.whole_from_half.proofs.Laying.{above_zero, r_is, free_is, r_fits}
 use Rattle.laying_out.specs.Laid.{LaidIs}
+use Rattle.laying_out.specs.declared.Laid.{Laid}
+use Rattle.std.specs.Prelude.{Ok}
 use Rattle.second_engine.specs.Halves.{Asked, Half}
 use Rattle.second.specs.Bounds.{bound_for}
 use Rattle.second.proofs.Bounded.{within}
@@ -102,12 +101,7 @@ pub still_ready : {kind n : ℕ} {a : Parts} {l m : List ℤ} → Ready kind n a
 still_ready R e = record { parts = R.parts; known = R.known; good = R.good; room = e ∙ R.room }
 
 pub laid_one : (kind n h : ℕ) (x : List ℤ) → 0 < n → r_of n ≡ 1 → 1 ≤ h → x ≡ coefficients kind n
-    → LaidIs kind n h x (record { tall = false; height = 1; peak = 0 })
+    → LaidIs kind n h x (Ok (record { height = 1; peak = 0 }))
 laid_one kind n h x pos o t e =
     let top = told-one kind n pos o in
-    record {
-      tall = sym (ap (ltb h) top.0 ∙ le-ltb h 1 t);
-      leaves = e;
-      height = λ _. sym top.0;
-      peak = λ _. sym top.1;
-    }
+    (rw top.0 t, e, ap₂ {C = Laid} (λ y z. record { height = y; peak = z }) (sym top.0) (sym top.1))

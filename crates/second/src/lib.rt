@@ -7,8 +7,7 @@ mod making;
 ghost use Rattle.std.specs.Prelude.{◌≡◌, length};
 ghost use Rattle.answers.specs.Second as Second;
 
-use answers::Answer;
-use heights::magnitude;
+use answers::{Answer, Refusal};
 
 // The polynomial of n, no taller than h, in entries 0 to degree, without a step. The scratch is all zero afterwards, or
 // untouched.
@@ -18,14 +17,14 @@ pub fn second(kind: u64, n: u64, h: i64, buf: &mut [i64], scratch: &mut [i64]) -
     ensures scratch_after { scratch.new ≡ Second.scratches kind n h (length buf.old) scratch.old }
 {
     if !answers::known_kind(kind) {
-        return Answer::refused(answers::KIND, 0);
+        return Answer::refused(Refusal::Kind, 0);
     }
     if !answers::good_index(n) {
-        return Answer::refused(answers::INDEX, 0);
+        return Answer::refused(Refusal::Index, 0);
     }
     if h < 1 {
-        return Answer::refused(answers::LIMIT, 0);
+        return Answer::refused(Refusal::Limit, 0);
     }
     let parts = index::take_apart(n);
-    making::answer_in(kind, n, parts, magnitude(h), buf, scratch)
+    making::answer_in(kind, n, parts, h.unsigned_abs(), buf, scratch)
 }

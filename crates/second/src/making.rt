@@ -7,38 +7,37 @@ ghost use Rattle.laying_out.specs.Laid.{LaidIs};
 ghost use Rattle.whole_from_half.specs.Ready.{Ready};
 ghost use Rattle.second.specs.Bounds.{bound_for};
 
-use answers::Answer;
+use answers::{Answer, Refusal};
 use index::Parts;
-use laying_out::Laid;
+use laying_out::{Laid, Tall};
 
 // No coefficient is larger (crate `never_over`), so that two can be added.
 const BOUND: u64 = 4611686018427387903;
 
 // F of one or two primes has no magnitude above 1 (crates `never_over` and `flat_for_two_primes`): that spares the look
 // for its height.
+#[tactic(auto, unfolding(crate::specs::Bounds::bound_for))]
 fn bound_of(kind: u64, count: usize) -> u64
     ensures { result ≡ bound_for kind count }
 {
-    if kind == 1 {
-        if count <= 2 {
-            return 1;
-        }
-    }
-    BOUND
+    if kind == 1 && count <= 2 { 1 } else { BOUND }
 }
 
 // The polynomial of n, or zeros where it is too tall.
-fn make(b: &mut [i64], scratch: &mut [i64], kind: u64, n: u64, parts: Parts, h: u64) -> Laid
+fn make(
+    b: &mut [i64],
+    scratch: &mut [i64],
+    kind: u64,
+    n: u64,
+    parts: Parts,
+    h: u64,
+) -> Result<Laid, Tall>
     requires { Ready kind n parts b.old × (1 ≤ h) × (2 * n + 16 ≤ length scratch.old) }
     ensures { LaidIs kind n h b.new result }
 {
     if parts.r == 1 {
         whole_from_half::without_steps(b, kind, n, parts);
-        return Laid {
-            tall: false,
-            height: 1,
-            peak: 0,
-        };
+        return Ok(Laid { height: 1, peak: 0 });
     }
     let primes = parts.primes;
     let count = parts.count;
@@ -62,24 +61,24 @@ pub(crate) fn answer_in(
 {
     let degree = index::degree_from(kind, n, parts.phi);
     if buf.len() as u64 <= degree {
-        return Answer::refused(answers::SHORT, degree);
+        return Answer::refused(Refusal::Short, degree);
     }
     if (scratch.len() as u64) < 2 * n + 16 {
-        return Answer::refused(answers::SHORT, degree);
+        return Answer::refused(Refusal::Short, degree);
     }
     let size = degree as usize + 1;
     let made = make(&mut buf[..size], scratch, kind, n, parts, h);
     shapes::clear(scratch);
-    if made.tall {
-        return Answer::refused(answers::TALL, degree);
-    }
+    let Ok(laid) = made else {
+        return Answer::refused(Refusal::Tall, degree);
+    };
     let gain = gain::gain_of(kind, n, parts);
     Answer {
         code: answers::DONE,
         degree,
         additions: 0,
-        height: made.height,
-        peak: made.peak,
+        height: laid.height,
+        peak: laid.peak,
         gain,
     }
 }

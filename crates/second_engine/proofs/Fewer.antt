@@ -1,15 +1,15 @@
 -- One prime fewer: with p the last prime of r's row, r / p is the product of the others and phi(r) / (p - 1) its phi;
 -- each slice has room for what it is then asked for, as scratch too (`one_fewer`); and what was made of one prime fewer
 -- can be joined (`join`). Of no prime at all the lower half is one entry.
-use Prim.Native.Nat.{ℕ, suc, ◌+◌, ◌*◌, ◌-◌, ◌/◌, ◌<◌, ◌≤◌, ◌∣◌}
+use Prim.Native.Nat.{ℕ, zero, suc, ◌+◌, ◌*◌, ◌-◌, ◌/◌, ◌<◌, ◌≤◌, ◌∣◌}
 use mathlib.Core.Path.{◌≡◌, refl, sym, ◌∙◌, ap, ap₂, subst}
 use mathlib.Core.Bool.{Bool, true, false, cond}
-use mathlib.Core.List.{List}
+use mathlib.Core.List.{List, [], ◌∷◌, ◌++◌}
 use native.Mathlib.Nat as NatL
 use native.Mathlib.Omega.{arith}
 use lib.Dec.{eqb}
-use lib.ListN.{length, get_or, set, take, drop, length-drop}
-use lib.Seq.{get_or-set_same, length-take-le}
+use lib.ListN.{length, get_or, set, take, drop, length-drop, get_or-append}
+use lib.Seq.{get_or-set_same, get_or-take, get_or-append-add, length-take-le}
 use lib.IntN.{ℤ, pos, negsuc}
 use borrow.Rule.Slice.PartMut.{put_mid}
 use Rattle.definitions.specs.Integers.{⊖, 0ℤ}
@@ -25,7 +25,8 @@ use Rattle.numbers.specs.PrimeRows.{OddRow, fewer, odd_fewer, row-pos, row-phi, 
 use Rattle.cyclotomic.specs.Family.{F-one, z^_1_zero}
 use Rattle.cyclotomic.specs.Apart.{I-one}
 use Rattle.shapes.proofs.Stretches.{put_before, put_in, put_length}
-use Rattle.second_engine.specs.Halves.{Asked, Half, HalfFrom, Filled, Joining}
+use Rattle.second_engine.proofs.Joined.{both_degrees}
+use Rattle.second_engine.specs.Halves.{Asked, Half, Filled, Joining}
 
 -- the lower half of either kind has room for both polynomials of two primes fewer
 module _ (l : List ℕ) (i : ℕ) (o : OddRow l (suc (suc i))) where
@@ -79,9 +80,39 @@ module _ (l : List ℕ) (i : ℕ) (o : OddRow l (suc (suc i))) where
       go true = omega (arith, outgrown, first)
       go false = omega (arith, rest, three, one, above)
 
+-- ---- rows that begin alike
+module _ (l l' : List ℕ) where
+  row_alike : (k : ℕ) → ((i : ℕ) → i < k → get_or l i 0 ≡ get_or l' i 0) → row_to l k ≡ row_to l' k
+  unfolding row_to
+  row_alike zero h = refl
+  row_alike (suc k) h = ap₂ ◌*◌ (row_alike k (λ i b. h i (omega arith))) (h k (omega arith))
+
+  pub asked_alike : {kind k r free : ℕ} {a b : List ℤ} → ((i : ℕ) → i < k → get_or l i 0 ≡ get_or l' i 0)
+      → Asked kind l k r free a b → Asked kind l' k r free a b
+  asked_alike {k = k} h A =
+      record {
+        few = A.few;
+        row =
+            record {
+              new = λ i b. rw (sym (h i b), sym (row_alike i (λ j c. h j (omega arith)))) (A.row.new i b);
+              odd = λ i b. rw (sym (h i b)) (A.row.odd i b);
+              rising = λ i b. rw (sym (h i (omega arith)), sym (h (suc i) b)) (A.row.rising i b);
+            };
+        is_r = A.is_r ∙ row_alike k h;
+        is_free = A.is_free;
+        small = A.small;
+        room = A.room;
+        scratch = λ j e. rw (sym (row_alike j (λ i b. h i (omega arith)))) (A.scratch j e);
+      }
+
+-- the first k of a row by themselves
+pub asked_front : {kind : ℕ} {l : List ℕ} {k r free : ℕ} {a b : List ℤ} → k ≤ length l → Asked kind l k r free a b
+    → Asked kind (take k l) (length (take k l)) r free a b
+asked_front {l = l} {k = k} enough A =
+    rw (length-take-le k l enough) (asked_alike l (take k l) (λ i b. sym (get_or-take k l i 0 b)) A)
+
 -- what is known of m = r / p and of phi(m), as they are computed
-pub record OneFewer (kind : ℕ) (primes : List ℕ) (k r m below p : ℕ) (a b : List ℤ) : Type 0 where
-  pub few : k ≤ 5
+pub record OneFewer (kind : ℕ) (rest : List ℕ) (r m below p : ℕ) (a b : List ℤ) : Type 0 where
   pub above : 2 < p
   pub prime : Prime p
   pub new : ¬ (p ∣ m)
@@ -93,32 +124,44 @@ pub record OneFewer (kind : ℕ) (primes : List ℕ) (k r m below p : ℕ) (a b 
   pub room : half_degree kind r + 1 ≤ length a
   pub both : m + 2 ≤ length b
   pub ask : (kind' : ℕ) (c d : List ℤ) → length d ≡ length a → half_degree kind' m + 1 ≤ length c
-      → Asked kind' primes (k - 1) m below c d
+      → Asked kind' rest (length rest) m below c d
 
-module _ {kind : ℕ} {primes : List ℕ} {k r free : ℕ} {a b : List ℤ} (A : Asked kind primes k r free a b)
-    (ne : ¬ (k ≡ 0))
+module _ {kind : ℕ} {l : List ℕ} {r free : ℕ} {a b : List ℤ} (A : Asked kind l (length l) r free a b)
+    (rest : List ℕ) (p : ℕ) (cut : (l ≡ rest ++ (p ∷ [])) × (length rest + 1 ≡ length l))
   where
+    abbrev k : ℕ
+    k = length rest
+
     abbrev P : ℕ
-    P = get_or primes (k - 1) 0
+    P = get_or l k 0
 
     abbrev M : ℕ
-    M = row_to primes (k - 1)
+    M = row_to l k
 
-    next : suc (k - 1) ≡ k
-    next = omega arith
+    -- p is the last, and the rest are those before it
+    p_is : p ≡ P
+    p_is =
+        let at : k ≡ length rest + 0 = omega arith in
+        sym (ap (λ x. get_or x k 0) cut.0 ∙ ap (λ i. get_or (rest ++ (p ∷ [])) i 0) at ∙ get_or-append-add rest (p ∷ []) 0 0)
 
-    row : OddRow primes (suc (k - 1))
-    row = subst (OddRow primes) (sym next) A.row
+    rest_same : (i : ℕ) → i < k → get_or l i 0 ≡ get_or rest i 0
+    rest_same i b = ap (λ x. get_or x i 0) cut.0 ∙ get_or-append rest (p ∷ []) 0 i b
+
+    count : length l ≡ suc k
+    count = omega (arith, cut.1)
+
+    row : OddRow l (suc k)
+    row = subst (OddRow l) count A.row
 
     p-above : 2 < P
-    p-above = row.odd (k - 1) (omega arith)
+    p-above = row.odd k (omega arith)
 
     r_is : r ≡ M * P
     unfolding row_to
-    r_is = A.is_r ∙ ap (row_to primes) (sym next)
+    r_is = A.is_r ∙ ap (row_to l) count
 
     free_is : free ≡ phi M * (P - 1)
-    free_is = A.is_free ∙ ap phi (A.is_r ∙ ap (row_to primes) (sym next)) ∙ row-phi primes (k - 1) row.new
+    free_is = A.is_free ∙ ap phi (A.is_r ∙ ap (row_to l) count) ∙ row-phi l k row.new
 
     m_is : r / P ≡ M
     m_is = ap (λ x. x / P) r_is ∙ NatL.mul-div_cancel M (omega (arith, p-above))
@@ -135,45 +178,44 @@ module _ {kind : ℕ} {primes : List ℕ} {k r free : ℕ} {a b : List ℤ} (A :
 
     -- with one prime fewer, in b or a part of it, where a is the scratch
     asked : (kind' : ℕ) (c d : List ℤ) → length d ≡ length a → half_degree kind' M + 1 ≤ length c
-        → Asked kind' primes (k - 1) M (phi M) c d
+        → Asked kind' rest k M (phi M) c d
     asked kind' c d same room =
-        record {
+        asked_alike l rest rest_same
+        (record {
           few = omega (arith, A.few);
-          row = odd_fewer primes row;
+          row = odd_fewer l row;
           is_r = refl;
           is_free = refl;
           small = m_small;
           room = room;
-          scratch = λ i e. rw same (NatL.le_trans (roomy primes i (twice i e) kind) (rw (two i e) A.room));
-        }
+          scratch = λ i e. rw same (NatL.le_trans (roomy l i (twice i e) kind) (rw (two i e) A.room));
+        })
       where
-        twice : (i : ℕ) → k - 1 ≡ suc i → OddRow primes (suc (suc i))
-        twice i e = let at : k ≡ suc (suc i) = omega arith in subst (OddRow primes) at A.row
+        twice : (i : ℕ) → k ≡ suc i → OddRow l (suc (suc i))
+        twice i e = subst (λ j. OddRow l (suc j)) e row
 
-        two : (i : ℕ) → k - 1 ≡ suc i → row_to primes (suc (suc i)) ≡ r
-        two i e = let at : suc (suc i) ≡ k = omega arith in ap (row_to primes) at ∙ sym A.is_r
+        two : (i : ℕ) → k ≡ suc i → row_to l (suc (suc i)) ≡ r
+        two i e = let at : suc (suc i) ≡ length l = omega (arith, cut.1) in ap (row_to l) at ∙ sym A.is_r
 
-    pub one_fewer : {p : ℕ} → p ≡ P → OneFewer kind primes k r (r / p) (free / (p - 1)) p a b
-    one_fewer e =
-        rw (e, m_is, below_is)
+    pub one_fewer : OneFewer kind rest r (r / p) (free / (p - 1)) p a b
+    one_fewer =
+        rw (p_is, m_is, below_is)
         (record {
-          few = A.few;
           above = p-above;
-          prime = (row.new (k - 1) (omega arith)).0;
-          new = (row.new (k - 1) (omega arith)).1;
-          pos = row-pos primes (k - 1) (fewer primes row.new);
+          prime = (row.new k (omega arith)).0;
+          new = (row.new k (omega arith)).1;
+          pos = row-pos l k (fewer l row.new);
           small = m_small;
           is_r = r_is;
           is_below = refl;
           index = A.small;
           room = A.room;
-          both = A.scratch (k - 1) (omega arith);
+          both = A.scratch k count;
           ask = asked;
         })
 
 -- ---- both polynomials of m
-module _ {kind : ℕ} {primes : List ℕ} {k r m below p : ℕ} {a b : List ℤ}
-    (O : OneFewer kind primes k r m below p a b)
+module _ {kind : ℕ} {rest : List ℕ} {r m below p : ℕ} {a b : List ℤ} (O : OneFewer kind rest r m below p a b)
   where
     pub degree-le : (kind' : ℕ) → degree kind' m ≤ m
     unfolding degree
@@ -190,18 +232,9 @@ module _ {kind : ℕ} {primes : List ℕ} {k r m below p : ℕ} {a b : List ℤ}
     unfolding half_degree
     front-half kind' = omega (arith, front-room kind')
 
-    -- the other kind's stands in front, and this kind's after it
-    both_degrees : degree (other_kind kind) m + degree kind m ≡ m
-    unfolding degree other_kind
-    both_degrees = go (eqb kind 1)
-      where
-        go : (c : Bool) → cond (eqb (cond c 2 1) 1) (phi m) (m - phi m) + cond c (phi m) (m - phi m) ≡ m
-        go true = omega (arith, phi-le m)
-        go false = omega (arith, phi-le m)
-
     pub rest-half : {n w : ℕ} → n ≡ length b → w ≡ degree (other_kind kind) m + 1 → half_degree kind m + 1 ≤ n - w
     unfolding half_degree
-    rest-half e f = omega (arith, both_degrees, O.both)
+    rest-half e f = omega (arith, both_degrees kind m, O.both)
 
     pub rest-length : (q : List ℤ) (w : ℕ) → length q ≡ length b → w ≡ degree (other_kind kind) m + 1
         → length (take (length q - w) (drop w q)) ≡ length q - w
@@ -242,16 +275,14 @@ module _ {kind : ℕ} {primes : List ℕ} {k r m below p : ℕ} {a b : List ℤ}
         within : w ≤ length q
         within = omega (arith, e, lq, front-room (other_kind kind))
 
-pub half-front : (kind m : ℕ) (l : List ℤ) → Half kind m l → HalfFrom 0 kind m l
-half-front kind m l h i b = ap (entries l) (omega arith) ∙ h i b
-
 -- ---- of no prime: F(1) = z - 1 and I(1) = 1
-one-row : {kind : ℕ} {primes : List ℕ} {k r free : ℕ} {a b : List ℤ} → Asked kind primes k r free a b → k ≡ 0 → r ≡ 1
+pub one-row : {kind : ℕ} {l : List ℕ} {r free : ℕ} {a b : List ℤ} → Asked kind l (length l) r free a b → length l ≡ 0
+    → r ≡ 1
 unfolding row_to
-one-row {primes = primes} A e = A.is_r ∙ ap (row_to primes) e
+one-row {l = l} A e = A.is_r ∙ ap (row_to l) e
 
 -- the lower half of either is its first entry
-one_entry : (kind r : ℕ) (a : List ℤ) (v : ℤ) → r ≡ 1 → half_degree kind r + 1 ≤ length a → v ≡ polynomial kind 1 0
+pub one_entry : (kind r : ℕ) (a : List ℤ) (v : ℤ) → r ≡ 1 → half_degree kind r + 1 ≤ length a → v ≡ polynomial kind 1 0
     → Half kind r (set a 0 v)
 unfolding half_degree degree entries
 one_entry kind r a v e room is i b =
@@ -266,14 +297,10 @@ one_entry kind r a v e room is i b =
     first : i ≡ 0
     first = omega (arith, ap (λ n. cond (eqb kind 1) (phi n) (n - phi n) / 2) e, short (eqb kind 1))
 
-pub first_one : {primes : List ℕ} {k r free : ℕ} {a b : List ℤ} → Asked 1 primes k r free a b → k ≡ 0
-    → Half 1 r (set a 0 (negsuc 0))
+pub first_one : negsuc 0 ≡ polynomial 1 1 0
 unfolding polynomial ⊖
-first_one {r = r} {a = a} A e =
-    one_entry 1 r a (negsuc 0) (one-row A e) A.room (sym (ap (λ f. f 0) F-one ∙ z^_1_zero 1 (omega arith)))
+first_one = sym (ap (λ f. f 0) F-one ∙ z^_1_zero 1 (omega arith))
 
-pub inverse_one : {primes : List ℕ} {k r free : ℕ} {a b : List ℤ} → Asked 2 primes k r free a b → k ≡ 0
-    → Half 2 r (set a 0 (pos 1))
+pub inverse_one : pos 1 ≡ polynomial 2 1 0
 unfolding polynomial constant
-inverse_one {r = r} {a = a} A e =
-    one_entry 2 r a (pos 1) (one-row A e) A.room (sym (ap (λ f. f 0) I-one))
+inverse_one = sym (ap (λ f. f 0) I-one)

@@ -1,17 +1,20 @@
 -- Parts of a slice as series; that the product of both polynomials of m, and its quotient, is that of m p; and that
 -- 64-bit numbers which are so modulo 2^64 are it. The sizes, as they are computed.
-use Prim.Native.Nat.{ℕ, ◌+◌, ◌*◌, ◌-◌, ◌/◌, ◌<◌, ◌≤◌}
+use Prim.Native.Nat.{ℕ, ◌+◌, ◌*◌, ◌-◌, ◌<◌, ◌≤◌}
 use mathlib.Core.Path.{◌≡◌, sym, ◌∙◌, ap, fun_ext}
+use mathlib.Core.Bool.{Bool, true, false, cond}
 use mathlib.Core.List.{List, ◌++◌}
 use native.Mathlib.Omega.{arith}
 use native.Mathlib.Nat as NatL
+use lib.Dec.{eqb}
 use lib.ListN.{length, take, drop, get_or, length-take, get_or-append, get_or-eq_default}
 use lib.Seq.{get_or-take, get_or-drop}
 use lib.IntN.{ℤ}
 use Rattle.definitions.specs.Integers.{0ℤ}
-use Rattle.definitions.specs.Series.{Series, ◌·◌, ◌÷◌, spread}
+use Rattle.definitions.specs.Series.{Series, ◌·◌, spread}
 use Rattle.definitions.specs.Numbers.{phi}
-use Rattle.definitions.specs.Polynomials.{z^_1, polynomial, degree}
+use Rattle.definitions.specs.Polynomials.{polynomial, degree}
+use Rattle.definitions.specs.Second.{other_kind}
 use Rattle.definitions.specs.Steps.{entries}
 use Rattle.definitions.specs.KeptHalf.{half_degree}
 use Rattle.numbers.specs.Phi.{phi-times, phi-le}
@@ -23,20 +26,31 @@ use Rattle.never_over.proofs.Heights.{coefficient_fits}
 use Rattle.wrapped_sums.specs.Wrapped.{wrap}
 use Rattle.wrapped_sums.specs.Alike.{like_exact}
 use Rattle.spread_products.specs.Rows.{Made}
-use Rattle.second_engine.specs.Halves.{Half, Part, Filled, Joining}
+use Rattle.second_engine.specs.declared.kind.Kind.{Kind}
+use Rattle.second_engine.specs.declared.kind.Kind.TheVariants.{First, Inverse}
+use Rattle.second_engine.specs.Kinds.{kind_means}
+use Rattle.second_engine.specs.Halves.{Half, Part, Filled, Joining, divided}
 
 -- ---- parts
-pub part_series : {f : Series} {a e : ℕ} {l : List ℤ} → Part f a e l → entries (take (e - a) (drop a l)) ≡ f
+pub own_series : {f : Series} {a e : ℕ} {l : List ℤ} → Part f a e l → a ≤ e → entries (drop a (take e l)) ≡ f
 unfolding entries
-part_series {f} {a} {e} {l} P =
-    fun_ext (λ i. by_order i (e - a)
-    (λ b. get_or-take (e - a) (drop a l) i 0ℤ b ∙ get_or-drop a l i 0ℤ ∙ P.inside i b)
+own_series {f} {a} {e} {l} P some =
+    fun_ext (λ i. get_or-drop a (take e l) i 0ℤ
+    ∙ by_order (a + i) e
+    (λ b. get_or-take e l (a + i) 0ℤ b ∙ P.inside i (omega arith))
     (λ b.
-    let far : length (take (e - a) (drop a l)) ≤ i = omega (arith, length-take (e - a) (drop a l)) in
-    get_or-eq_default (take (e - a) (drop a l)) 0ℤ far ∙ sym (P.past i b)))
+    let far : length (take e l) ≤ a + i = omega (arith, length-take e l) in
+    get_or-eq_default (take e l) 0ℤ far ∙ sym (P.past i (omega arith))))
 
-pub front_series : {f : Series} {e : ℕ} {l : List ℤ} → Part f 0 e l → entries (take e l) ≡ f
-front_series {e = e} {l = l} P = ap (λ k. entries (take k l)) (sym (NatL.sub-zero e)) ∙ part_series P
+pub front_series : {f : Series} {w : ℕ} (e : ℕ) {l : List ℤ} → Part f 0 w l → w ≤ e → entries (take w (take e l)) ≡ f
+unfolding entries
+front_series {f} {w} e {l} P b =
+    fun_ext (λ i. by_order i w
+    (λ c. get_or-take w (take e l) i 0ℤ c ∙ get_or-take e l i 0ℤ (omega arith)
+    ∙ ap (λ k. get_or l k 0ℤ) (omega arith) ∙ P.inside i (omega arith))
+    (λ c.
+    let far : length (take w (take e l)) ≤ i = omega (arith, length-take w (take e l)) in
+    get_or-eq_default (take w (take e l)) 0ℤ far ∙ sym (P.past i (omega arith))))
 
 -- what stands before the part that was filled in
 pub still : {from to kind m : ℕ} {f : Series} {l q : List ℤ} → Filled from to kind m l q → Part f 0 from l
@@ -71,53 +85,25 @@ module _ {kind m below p : ℕ} {a b : List ℤ} (J : Joining kind m below p a b
   pub m_small : m ≤ 65535
   m_small = NatL.le_trans (NatL.le-mul_of_pos_right m p-pos) J.small
 
-  pub p_small : p ≤ 65535
-  p_small = NatL.le_trans (NatL.le-mul_of_pos_right p J.pos) (rw (NatL.mul_comm p m) J.small)
-
-  phi-r : below * (p - 1) ≡ phi (m * p)
+  pub phi-r : below * (p - 1) ≡ phi (m * p)
   phi-r = ap (λ x. x * (p - 1)) J.is_below ∙ sym (phi-times m p J.prime J.new)
 
   pub free-r : below * (p - 1) ≤ m * p
   free-r = rw phi-r (phi-le (m * p))
 
-pub size-first : {m below p : ℕ} {a b : List ℤ} → Joining 1 m below p a b
-    → below * (p - 1) / 2 + 1 ≡ half_degree 1 (m * p) + 1
-unfolding half_degree degree
-size-first J = ap (λ x. x / 2 + 1) (phi-r J)
-
-pub size_inverse : {m below p : ℕ} {a b : List ℤ} → Joining 2 m below p a b
-    → (m * p - below * (p - 1)) / 2 + 1 ≡ half_degree 2 (m * p) + 1
-unfolding half_degree degree
-size_inverse {m} {below} {p} J = ap (λ x. (m * p - x) / 2 + 1) (phi-r J)
-
--- where I(m) ends, and F(m), if it stands in front; and where the other ends after it
-module _ (m : ℕ) {below : ℕ} (e : below ≡ phi m) where
-  pub below_le : below ≤ m
-  below_le = rw e (phi-le m)
-
-  pub first-whole : m - below + 1 ≡ degree 2 m + 1
-  unfolding degree
-  first-whole = ap (λ x. m - x + 1) e
-
-  pub first-end : m + 2 ≡ m - below + 1 + (degree 1 m + 1)
-  unfolding degree
-  first-end = omega (arith, phi-le m)
-
-  pub inverse_whole : below + 1 ≡ degree 1 m + 1
-  unfolding degree
-  inverse_whole = ap (λ x. x + 1) e
-
-  pub inverse_end : m + 2 ≡ below + 1 + (degree 2 m + 1)
-  unfolding degree
-  inverse_end = omega (arith, phi-le m)
+-- the other kind's stands in front, and this kind's after it
+pub both_degrees : (kind m : ℕ) → degree (other_kind kind) m + degree kind m ≡ m
+unfolding degree other_kind
+both_degrees kind m = go (eqb kind 1)
+  where
+    go : (c : Bool) → cond (eqb (cond c 2 1) 1) (phi m) (m - phi m) + cond c (phi m) (m - phi m) ≡ m
+    go true = omega (arith, phi-le m)
+    go false = omega (arith, phi-le m)
 
 -- ---- products
-pub is_first : {m below p : ℕ} {a b : List ℤ} → Joining 1 m below p a b
-    → spread p (polynomial 1 m) · polynomial 2 m ÷ z^_1 m ≡ polynomial 1 (m * p)
-unfolding polynomial
-is_first {m} {below} {p} J = divided_first m p J.pos J.prime J.new
-
-pub is_inverse : {m below p : ℕ} {a b : List ℤ} → Joining 2 m below p a b
-    → spread p (polynomial 2 m) · polynomial 1 m ≡ polynomial 2 (m * p)
-unfolding polynomial
-is_inverse {m} {below} {p} J = product_inverse m p J.pos J.prime J.new
+pub joined : (kind : Kind) {m below p : ℕ} {a b : List ℤ} → Joining (kind_means kind) m below p a b
+    → divided (kind_means kind) m (spread p (polynomial (kind_means kind) m) · polynomial (other_kind (kind_means kind)) m)
+    ≡ polynomial (kind_means kind) (m * p)
+unfolding polynomial other_kind
+joined First {m} {below} {p} J = divided_first m p J.pos J.prime J.new
+joined Inverse {m} {below} {p} J = product_inverse m p J.pos J.prime J.new

@@ -1,10 +1,10 @@
 -- What the second engine is asked for, and what it leaves.
-use Rattle.std.specs.Prelude.{ℕ, suc, ◌+◌, ◌*◌, ◌-◌, ◌<◌, ◌≤◌, ◌≡◌, List, length, ℤ}
+use Rattle.std.specs.Prelude.{ℕ, suc, ◌+◌, ◌*◌, ◌-◌, ◌<◌, ◌≤◌, ◌≡◌, cond, eqb, List, length, ℤ}
 use Rattle.std.specs.Int.{◌∣◌}
 use Rattle.definitions.specs.Integers.{0ℤ}
-use Rattle.definitions.specs.Series.{Series}
+use Rattle.definitions.specs.Series.{Series, ◌÷◌}
 use Rattle.definitions.specs.Numbers.{row_to, phi}
-use Rattle.definitions.specs.Polynomials.{polynomial, degree}
+use Rattle.definitions.specs.Polynomials.{z^_1, polynomial, degree}
 use Rattle.definitions.specs.Steps.{entries}
 use Rattle.definitions.specs.KeptHalf.{half_degree}
 use Rattle.definitions.specs.Second.{other_kind}
@@ -51,3 +51,7 @@ pub record Joining (kind m below p : ℕ) (a b : List ℤ) : Type 0 where
   pub both : m + 2 ≤ length b
   pub other : Part (polynomial (other_kind kind) m) 0 (degree (other_kind kind) m + 1) b
   pub own : HalfFrom (degree (other_kind kind) m + 1) kind m b
+
+-- a product as it is taken: for F it is divided by z^m - 1
+abbrev pub divided : ℕ → ℕ → Series → Series
+divided kind m s = cond (eqb kind 1) (s ÷ z^_1 m) s

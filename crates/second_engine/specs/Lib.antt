@@ -1,2 +1,3 @@
 -- What the contracts of `second_engine` cite.
+pub mod Kinds
 pub mod Halves

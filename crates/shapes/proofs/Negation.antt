@@ -26,3 +26,6 @@ module _ (v : ℤ) (f : mag v < 2 ^ 63) where
 
   pub stored_minus : nat_abs v ≤ largest → seen (pos 0 -ℤ seen v) ≡ ⊖ v
   stored_minus h = ap seen minus_seen ∙ to_z-of_z (neg_fits v h)
+
+  pub minus_fits : nat_abs v ≤ largest → SFits w64 (pos 0 -ℤ seen v)
+  minus_fits h = rw minus_seen (neg_fits v h)

@@ -20,12 +20,11 @@ use Rattle.step_laws.specs.Tests.{by_order}
 use Rattle.entry_steps.proofs.Split.{get_or-set_by}
 use Rattle.shapes.proofs.Stretches.{put_before, put_in, put_length}
 
-pub record Spreading (t : ℕ) (e : Series) (n : ℕ) (l : List ℤ) (i at : ℕ) : Type 0 where
-  pub place : at ≡ i * t
+pub record Spreading (t : ℕ) (e : Series) (n : ℕ) (l : List ℤ) (i : ℕ) : Type 0 where
   pub len : length l ≡ n
   pub old : (k : ℕ) → k ≤ i → k < n → get_or l k 0ℤ ≡ e k
-  pub none : (k : ℕ) → i < k → k ≤ at → k < n → get_or l k 0ℤ ≡ 0ℤ
-  pub new : (k : ℕ) → at < k → k < n → get_or l k 0ℤ ≡ spread t e k
+  pub none : (k : ℕ) → i < k → k ≤ i * t → k < n → get_or l k 0ℤ ≡ 0ℤ
+  pub new : (k : ℕ) → i * t < k → k < n → get_or l k 0ℤ ≡ spread t e k
 
 pub above_fits : (t top : ℕ) {n : ℕ} → 1 ≤ t → n ≡ top * t + 1 → top + 1 ≤ n
 above_fits t top one e = let m : top ≤ top * t = NatL.le-mul_of_pos_right top one in omega arith
@@ -40,12 +39,10 @@ module _ (t top : ℕ) (l ys : List ℤ) (one : 1 ≤ t) (e : length l ≡ top *
   unfolding zeros
   ys_length = ap length z ∙ length-replicate (length l - (top + 1)) 0ℤ
 
-  pub spreading_start : (at : ℕ) → at ≡ length l - 1
-      → Spreading t (entries l) (length l) (put_mid (top + 1) (length l - (top + 1)) l ys) top at
+  pub spreading_start : Spreading t (entries l) (length l) (put_mid (top + 1) (length l - (top + 1)) l ys) top
   unfolding entries zeros
-  spreading_start at a =
+  spreading_start =
       record {
-        place = omega arith;
         len = put_length (top + 1) (length l) l ys fits (omega arith) ys_length;
         old = λ k h b. put_before (top + 1) (length l) l ys fits (omega arith) ys_length k (omega arith);
         none = λ k h u b. put_in (top + 1) (length l) l ys fits (omega arith) ys_length k (omega arith) b
@@ -55,75 +52,69 @@ module _ (t top : ℕ) (l ys : List ℤ) (one : 1 ≤ t) (e : length l ≡ top *
       }
 
 -- no entry goes down
-pub at_least : {t : ℕ} {e : Series} {n : ℕ} {l : List ℤ} {i at : ℕ} → Spreading t e n l i at → 1 ≤ t → i ≤ at
-at_least {t} {i = i} s one = let m : i ≤ i * t = NatL.le-mul_of_pos_right i one in omega (arith, s.place)
+at_least : (t i : ℕ) → 1 ≤ t → i ≤ i * t
+at_least t i one = NatL.le-mul_of_pos_right i one
 
 -- one turn: (i - 1) t is i - 1 at least, so what is still old lies below all that is new
-module _ {t : ℕ} {e : Series} {n : ℕ} {l : List ℤ} {i at : ℕ} (s : Spreading t e n l i at) (some : 0 < i) where
+module _ {t : ℕ} {e : Series} {n : ℕ} {l : List ℤ} {i : ℕ} (s : Spreading t e n l i) (some : 0 < i) where
   -- (i - 1) t
-  step_down : at ≡ (i - 1) * t + t
-  step_down =
-      let back : i ≡ suc (i - 1) = omega arith in
-      s.place ∙ ap (λ j. j * t) back ∙ NatL.suc-mul (i - 1) t
-
-  pub room : t ≤ at
-  room = omega (arith, step_down)
+  step_down : i * t ≡ (i - 1) * t + t
+  step_down = let back : i ≡ suc (i - 1) = omega arith in ap (λ j. j * t) back ∙ NatL.suc-mul (i - 1) t
 
   -- between two multiples of t lies none
-  gap : (k : ℕ) → at - t < k → k < at → k % t ≢ 0
+  gap : (k : ℕ) → (i - 1) * t < k → k < i * t → k % t ≢ 0
   gap k a b z =
       let q : k / t * t ≡ k = omega (arith, NatL.div-add-mod' k t) in
-      let low : (i - 1) * t < k / t * t = omega (arith, step_down) in
-      let high : k / t * t < i * t = omega (arith, s.place) in
+      let low : (i - 1) * t < k / t * t = omega arith in
+      let high : k / t * t < i * t = omega arith in
       omega (arith, NatL.lt_of_mul-lt-mul_right t low, NatL.lt_of_mul-lt-mul_right t high)
 
-  off : (k : ℕ) → at - t < k → k < at → 0ℤ ≡ spread t e k
+  off : (k : ℕ) → (i - 1) * t < k → k < i * t → 0ℤ ≡ spread t e k
   off k a b = sym (spread_off t k e (gap k a b))
 
   -- v was read, zero put in its place, and v put where it goes
-  module _ {m₁ m : List ℤ} {z v : ℤ} (one : 1 ≤ t) (b : at < n) (r : v ≡ entries l i) (c : z ≡ 0ℤ)
-      (q₁ : m₁ ≡ set l i z) (q : m ≡ set m₁ at v) where
-    far_enough : i - 1 ≤ at - t
-    far_enough = let m : i - 1 ≤ (i - 1) * t = NatL.le-mul_of_pos_right (i - 1) one in omega (arith, step_down)
+  module _ {m : List ℤ} {v : ℤ} (one : 1 ≤ t) (b : i * t < n) (r : v ≡ entries l i)
+      (q : m ≡ set (set l i 0ℤ) (i * t) v) where
+    far_enough : i - 1 ≤ (i - 1) * t
+    far_enough = at_least t (i - 1) one
+
+    up : i ≤ i * t
+    up = at_least t i one
 
     -- what a place holds then: what was moved, nothing, or what it held
-    after : (k : ℕ) (y : ℤ) → (k ≡ at → e i ≡ y) → (k ≢ at → k ≡ i → 0ℤ ≡ y) → (k ≢ at → k ≢ i → get_or l k 0ℤ ≡ y)
-        → get_or m k 0ℤ ≡ y
+    after : (k : ℕ) (y : ℤ) → (k ≡ i * t → e i ≡ y) → (k ≢ i * t → k ≡ i → 0ℤ ≡ y)
+        → (k ≢ i * t → k ≢ i → get_or l k 0ℤ ≡ y) → get_or m k 0ℤ ≡ y
     unfolding entries
     after k y moved cleared rest =
-        let up = at_least s one in
-        rw (q, q₁)
-        (get_or-set_by (set l i z) at v (omega (arith, length-set l i z)) k y
-        (λ p. r ∙ s.old i (omega arith) (omega arith) ∙ moved p)
-        (λ na. get_or-set_by l i z (omega arith) k y (λ p. c ∙ cleared na p) (rest na)))
+        rw q
+        (get_or-set_by (set l i 0ℤ) (i * t) v (omega (arith, length-set l i 0ℤ, s.len)) k y
+        (λ p. r ∙ s.old i (omega arith) (omega (arith, up)) ∙ moved p)
+        (λ na. get_or-set_by l i 0ℤ (omega (arith, up, s.len)) k y (cleared na) (rest na)))
 
-    pub spreading_turn : Spreading t e n m (i - 1) (at - t)
+    pub spreading_turn : Spreading t e n m (i - 1)
     spreading_turn =
-        let up = at_least s one in
         let far = far_enough in
-        let wide = room in
+        let high = up in
+        let down = step_down in
         record {
-          place = omega (arith, step_down);
-          len = rw (q, q₁) (simp length-set s.len);
+          len = rw q (simp length-set s.len);
           old = λ k h u. after k (e k) (λ p. absurd (omega arith)) (λ na p. absurd (omega arith))
               (λ na ni. s.old k (omega arith) u);
           none = λ k h w u. after k 0ℤ (λ p. absurd (omega arith)) (λ na p. refl)
               (λ na ni. s.none k (omega arith) (omega arith) u);
-          new = λ k h u. after k (spread t e k) (λ p. sym (ap (spread t e) (p ∙ s.place) ∙ there))
+          new = λ k h u. after k (spread t e k) (λ p. sym (ap (spread t e) p ∙ there))
               (λ na p. off k h (omega arith))
-              (λ na ni. by_order k at (λ w. s.none k (omega arith) (omega arith) u ∙ off k h w)
+              (λ na ni. by_order k (i * t) (λ w. s.none k (omega arith) (omega arith) u ∙ off k h w)
               (λ w. s.new k (omega arith) u));
         }
       where
         there : spread t e (i * t) ≡ e i
         there = spread_on t (i * t) e (NatL.mul-mod_left i t) ∙ ap e (NatL.mul-div_cancel i one)
 
-pub spreading_end : {t : ℕ} {e : Series} {n : ℕ} {l : List ℤ} {i at : ℕ} → Spreading t e n l i at → 1 ≤ t → i ≡ 0
+pub spreading_end : {t : ℕ} {e : Series} {n : ℕ} {l : List ℤ} {i : ℕ} → Spreading t e n l i → 1 ≤ t → i ≡ 0
     → l ≡ firsts n (spread t e)
-spreading_end {t} {e} {n} {l} {i} {at} s one z = is_firsts n (spread t e) l s.len (λ k b. go k b (ℕ_discrete k 0))
+spreading_end {t} {e} {n} {l} {i} s one z = is_firsts n (spread t e) l s.len (λ k b. go k b (ℕ_discrete k 0))
   where
     go : (k : ℕ) → k < n → Dec (k ≡ 0) → get_or l k 0ℤ ≡ spread t e k
     go k b (yes q) = s.old k (omega arith) b ∙ ap e q ∙ sym (spread-zero t one e) ∙ ap (spread t e) (sym q)
-    go k b (no q) =
-        let p : at ≡ 0 = s.place ∙ ap (λ j. j * t) z ∙ NatL.zero-mul t in
-        s.new k (omega arith) b
+    go k b (no q) = let p : i * t ≡ 0 = ap (λ j. j * t) z ∙ NatL.zero-mul t in s.new k (omega arith) b

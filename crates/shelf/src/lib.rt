@@ -32,7 +32,10 @@ pub fn read(bytes: &[u8], coeffs: &mut [i64]) -> Record
 pub fn look(bytes: &[u8]) -> u64
     ensures { result ≡ look_code bytes.now }
 {
-    reading::look(bytes, Form::Whole)
+    match reading::look(bytes, Form::Whole) {
+        Ok(()) => answers::DONE,
+        Err(refusal) => refusal.into(),
+    }
 }
 
 // The bytes of a record with a right header.

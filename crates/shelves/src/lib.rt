@@ -5,17 +5,21 @@
 
 ghost use Rattle.std.specs.Prelude.{◌≡◌, ◌&&◌, eqb};
 ghost use Rattle.definitions.specs.Codes.{ABSENT};
+ghost use Rattle.answers.specs.Refusals.{number_of};
 ghost use Rattle.shelves.specs.Walk.{walked};
 ghost use Rattle.shelves.specs.Lookup.{OWN, HOUSE, refused, found_by, found, held_by, held_at};
 
+use answers::Refusal;
 use browsing::{Shown, between, part, shown_at};
 
 // The shelves by their numbers; 0 is none.
+// Stay numbers: C is told them in `Found`, and `held` reads them back from there.
 const OWN: u64 = 1;
 
 const HOUSE: u64 = 2;
 
 // How a walk over a shelf came out.
+// Stays an enum: a match, a stop and the end are three outcomes; in an Option in a Result the end would be an Ok(None).
 #[derive(Drop)]
 pub enum Walked {
     // The first record of that kind and index: the shelf from `start` up to `end`.
@@ -54,6 +58,13 @@ impl Found {
         }
     }
 
+    // A refusal for no byte of a shelf.
+    fn without(refusal: Refusal) -> Found
+        ensures { result ≡ refused (number_of refusal) 0 0 }
+    {
+        Found::refused(u64::from(refusal), 0, 0)
+    }
+
     // What a walk over a shelf decides; ABSENT where it came to the end.
     fn by(shelf: u64, walked: Walked) -> Found
         ensures { result ≡ found_by shelf walked (refused ABSENT 0 0) }
@@ -68,7 +79,7 @@ impl Found {
                 length: between(start, end) as u64,
             },
             Walked::Stopped { code, start } => Found::refused(code, start as u64, shelf),
-            Walked::Ended => Found::refused(answers::ABSENT, 0, 0),
+            Walked::Ended => Found::without(Refusal::Absent),
         }
     }
 }
@@ -85,15 +96,15 @@ pub fn walk(kind: u64, n: u64, shelf: &[u8]) -> Walked
     ensures { result ≡ walked kind n shelf.now }
 {
     let mut at = 0;
+    // Stays a while: each turn goes on where the record that is shown ends.
     while at < shelf.len() {
-        let shown = shown_at(shelf, at);
-        match shown {
+        match shown_at(shelf, at) {
             Shown::Record {
                 start,
                 end,
                 kind: k,
                 n: m,
-                degree: _,
+                ..
             } => {
                 if is_asked(kind, n, k, m) {
                     return Walked::Match { start, end };
@@ -101,7 +112,7 @@ pub fn walk(kind: u64, n: u64, shelf: &[u8]) -> Walked
                 at = end;
             }
             Shown::Refused { code, start } => return Walked::Stopped { code, start },
-            Shown::End { start: _ } => return Walked::Ended,
+            Shown::End { .. } => return Walked::Ended,
         }
     }
     Walked::Ended
@@ -115,9 +126,8 @@ fn find_with(kind: u64, n: u64, own: &[u8], house: &[u8]) -> Found
 {
     let first = walk(kind, n, own);
     match first {
-        Walked::Match { start: _, end: _ } => Found::by(OWN, first),
-        Walked::Stopped { code: _, start: _ } => Found::by(OWN, first),
         Walked::Ended => Found::by(HOUSE, walk(kind, n, house)),
+        _ => Found::by(OWN, first),
     }
 }
 
@@ -126,10 +136,10 @@ pub fn find(kind: u64, n: u64, own: &[u8], house: &[u8]) -> Found
     ensures { result ≡ found kind n own.now house.now }
 {
     if !answers::known_kind(kind) {
-        return Found::refused(answers::KIND, 0, 0);
+        return Found::without(Refusal::Kind);
     }
     if !answers::good_index(n) {
-        return Found::refused(answers::INDEX, 0, 0);
+        return Found::without(Refusal::Index);
     }
     find_with(kind, n, own, house)
 }
@@ -139,13 +149,11 @@ pub fn held<'a>(f: Found, own: &'a [u8], house: &'a [u8]) -> &'a [u8]
     ensures held { result.now ≡ held_by f own.entry house.entry }
     ensures lies { result.ref_ptr ≡ held_at f own.entry house.entry }
 {
-    if f.from == OWN {
-        return part(own, f.start as usize, f.length as usize);
+    match f.from {
+        OWN => part(own, f.start as usize, f.length as usize),
+        HOUSE => part(house, f.start as usize, f.length as usize),
+        _ => part(house, 0, 0),
     }
-    if f.from == HOUSE {
-        return part(house, f.start as usize, f.length as usize);
-    }
-    part(house, 0, 0)
 }
 
 // The lookup: that very stretch of one of two shelves; an empty one with a refusal, which `find` tells.

@@ -9,6 +9,7 @@ ghost use Rattle.sieve.specs.Sieving.{with_prime, odd_to, Without, Sifted};
 
 // The distinct odd primes found so far, ascending, with zeros after them; how many; their product, and how many
 // numbers up to it share no factor above 1 with it.
+// Stays an array with a count: `index::Parts`, which takes it over, is copied, and the kit's ArrayVec is not Copy.
 #[derive(Drop)]
 pub struct OddPrimes {
     pub primes: [u64; 5],
@@ -48,6 +49,7 @@ fn without(n: u64, p: u64) -> u64
     ensures { Without n p result }
 {
     let mut rest = n;
+    // Stays a while: how often p divides is what the loop finds out.
     while rest % p == 0 {
         rest = rest / p;
     }
@@ -88,6 +90,7 @@ pub fn odd_primes(n: u64) -> OddPrimes
         rest: without(n, 2),
     };
     let mut p: u64 = 3;
+    // Stays a while: each prime found lowers the end, so it is no range.
     while p * p <= s.rest {
         s = s.sift(n, p);
         p += 2;

@@ -61,20 +61,18 @@ module _ (away : Bool) (at : ℕ) (g l : List ℤ) where
       }
 
   module _ {m : List ℤ} {j : ℕ} (p : RowTo away at g l m j) where
-    pub row_next : at + j < length l → {q : List ℤ}
-        → q ≡ set m (at + j) (wrap (entries m (at + j) ⊕ signed away (entries g j)))
-        → RowTo away at g l q (j + 1)
+    pub row_next : at + j < length l → (v : ℤ) → v ≡ wrap (entries m (at + j) ⊕ signed away (entries g j))
+        → RowTo away at g l (set m (at + j) v) (j + 1)
     unfolding entries
-    row_next b e =
+    row_next b v e =
         let back : at + j - at ≡ j = omega arith in
-        rw e
-        (record {
+        record {
           split =
-              moved_up p.split (at + j) (at + (j + 1)) b refl (omega arith) _
-              (ap (λ v. wrap (v ⊕ signed away (entries g j))) (p.split.above (at + j) (omega arith) b)
+              moved_up p.split (at + j) (at + (j + 1)) b refl (omega arith) v
+              (e ∙ ap (λ v. wrap (v ⊕ signed away (entries g j))) (p.split.above (at + j) (omega arith) b)
               ∙ ap (λ i. wrap (entries l (at + j) ⊕ signed away (entries g i))) (sym back)
               ∙ sym (row_from (at + j) (omega arith)));
-        })
+        }
 
     module _ (ends : min (length g) (length l - at) ≤ j) where
       abbrev s : Series

@@ -1,6 +1,6 @@
 -- A division by z^m - 1: what the quotient is at a place, from the one m before; that of series equal modulo 2^64 it is
 -- equal so; and one that has got to some place.
-use Prim.Native.Nat.{ℕ, ◌+◌, ◌-◌, ◌<◌, ◌≤◌, min}
+use Prim.Native.Nat.{ℕ, ◌+◌, ◌-◌, ◌<◌, ◌≤◌}
 use mathlib.Core.Path.{◌≡◌, refl, sym, ◌∙◌, ap, ap₂}
 use mathlib.Core.List.{List, [], ◌∷◌}
 use native.Mathlib.Nat.{not-suc-le-zero}
@@ -22,13 +22,12 @@ use Rattle.step_laws.specs.Firsts.{length-firsts, firsts_here, firsts_past}
 use Rattle.step_laws.specs.Accumulated.{by_chain}
 use Rattle.cyclotomic.specs.Family.{unit_z^_1}
 use Rattle.cyclotomic.specs.Second.{times-z^_1}
-use Rattle.entry_steps.specs.Passes.{Split, set_four}
+use Rattle.entry_steps.specs.Passes.{Split}
 use Rattle.entry_steps.proofs.Split.{moved_up, all_firsts, all_below}
-use Rattle.entry_steps.proofs.FourEntries.{moved_four_up}
 use Rattle.wrapped_sums.specs.Wrapped.{wrap, Like}
 use Rattle.wrapped_sums.specs.Residues.{wrap_fits, wrap_fit, wrap-wrap, like_⊖, like_⊝}
 use Rattle.spread_products.specs.Rows.{Made}
-use Rattle.spread_products.specs.Quotients.{quotient, quotient_list, next_quotient, DividedTo}
+use Rattle.spread_products.specs.Quotients.{quotient, quotient_list}
 
 module _ (m : ℕ) (one : 1 ≤ m) (f : Series) where
   abbrev Q : Series
@@ -124,51 +123,24 @@ module _ (m : ℕ) (one : 1 ≤ m) (l : List ℤ) where
       record { len = refl; below = λ k b c. absurd (not-suc-le-zero b); above = λ k b c. refl }
 
   module _ {q : List ℤ} {i : ℕ} (p : Lower m l q i) where
-    pub low-next : i < m → i < length l → {q' : List ℤ} → q' ≡ set q i (wrap (0ℤ ⊝ entries q i)) → Lower m l q' (i + 1)
+    pub low-next : i < m → i < length l → (v : ℤ) → v ≡ wrap (0ℤ ⊝ entries q i) → Lower m l (set q i v) (i + 1)
     unfolding entries
-    low-next b c e =
-        rw e
-        (moved_up p i (i + 1) c refl refl _
-        (ap (λ v. wrap (0ℤ ⊝ v)) (p.above i (omega arith) c) ∙ low_value m one (entries l) i b))
+    low-next b c v e =
+        moved_up p i (i + 1) c refl refl v
+        (e ∙ ap (λ v. wrap (0ℤ ⊝ v)) (p.above i (omega arith) c) ∙ low_value m one (entries l) i b)
 
-    pub low_ends : i ≤ length l → min m (length l) ≤ i → DividedTo m l q i
-    low_ends most ends = record { most = most; reach = λ b. omega (arith, ends); split = p }
-
-  module _ {q : List ℤ} {i : ℕ} (p : DividedTo m l q i) where
-    value_at_lem : (k : ℕ) → i ≤ k → k < i + m → k < length l → next_quotient m q k ≡ quotient m (entries l) k
+    pub next_one : m ≤ i → i < length l → (v : ℤ) → v ≡ wrap (entries q (i - m) ⊝ entries q i)
+        → Lower m l (set q i v) (i + 1)
     unfolding entries
-    value_at_lem k low high b =
-        let far : m ≤ i = p.reach (omega arith) in
-        ap (λ v. wrap (v ⊝ entries q k)) (p.split.below (k - m) (omega arith) (omega arith))
-        ∙ ap (λ v. wrap (quotient m (entries l) (k - m) ⊝ v)) (p.split.above k low b)
-        ∙ next-value m one (entries l) k (omega arith)
-
-    pub next_one : i < length l → {q' : List ℤ} → q' ≡ set q i (next_quotient m q i) → DividedTo m l q' (i + 1)
-    next_one b e =
-        let far : m ≤ i = p.reach b in
-        rw e
-        (record {
-          most = omega arith;
-          reach = λ c. omega arith;
-          split = moved_up p.split i (i + 1) b refl refl _ (value_at_lem i (omega arith) (omega arith) b);
-        })
-
-    pub next_four : 4 ≤ m → i + 4 ≤ length l → {q' : List ℤ} → q' ≡ set_four q i (next_quotient m q)
-        → DividedTo m l q' (i + 4)
-    next_four four b e =
-        let far : m ≤ i = p.reach (omega arith) in
-        rw e
-        (record {
-          most = b;
-          reach = λ c. omega arith;
-          split =
-              moved_four_up q i (next_quotient m q) p.split refl refl b
-              (λ k low high. value_at_lem k low (omega arith) (omega arith));
-        })
+    next_one far c v e =
+        moved_up p i (i + 1) c refl refl v
+        (e ∙ ap (λ v. wrap (v ⊝ entries q i)) (p.below (i - m) (omega arith) (omega arith))
+        ∙ ap (λ v. wrap (quotient m (entries l) (i - m) ⊝ v)) (p.above i (omega arith) c)
+        ∙ next-value m one (entries l) i far)
 
     pub ended : length l ≤ i → q ≡ quotient_list m l
     unfolding quotient_list
-    ended h = all_firsts (all_below p.split h)
+    ended h = all_firsts (all_below p h)
 
 -- by z - 1, with what is carried
 pub running_next : (l : List ℤ) {q : List ℤ} {i : ℕ} {v w : ℤ} → Lower 1 l q i → v ≡ carried_at (entries l) i

@@ -1,12 +1,14 @@
 -- A product by rows: the terms of f taken so far, with z^p for z, times g; one term more; and the end, where f has no
 -- more terms or the next would stand past the slice.
-use Prim.Native.Nat.{ℕ, suc, ◌+◌, ◌*◌, ◌-◌, ◌/◌, ◌%◌, ◌<◌, ◌≤◌, min}
+use Prim.Native.Nat.{ℕ, ◌+◌, ◌*◌, ◌/◌, ◌%◌, ◌<◌, ◌≤◌, min}
 use mathlib.Core.Path.{◌≡◌, refl, sym, ◌∙◌, ap, ap₂, fun_ext}
 use mathlib.Core.Logic.{◌⊎◌, inl, inr}
 use mathlib.Core.List.{List, [], ◌∷◌}
 use native.Mathlib.Nat as NatL
 use native.Mathlib.Omega.{arith}
 use native.Mathlib.Decide.{ℕ_discrete}
+use Rattle.std.specs.Int.{div_ceil}
+use Rattle.std.proofs.lemmas.Grind.{div_ceil_times}
 use lib.ListN.{length, take, length-take, get_or, get_or-eq_default, replicate, length-replicate, get_or-replicate}
 use lib.Seq.{get_or-take, take_all}
 use lib.IntN.{ℤ}
@@ -145,18 +147,11 @@ module _ (p : ℕ) (one : 0 < p) (f g : List ℤ) where
       reach j c b (inl short) = inl short
       reach j c b (inr low) = inr (omega arith)
 
--- ---- how many terms are taken: as many as f has, or as stand within n entries
-module _ (k n p t : ℕ) (one : 0 < p) (is : t ≡ min k ((n + p - 1) / p)) where
-  pub within : (i : ℕ) → i < t → (i < k) × (i * p < n)
-  within i b =
-      let up : suc i * p ≤ n + p - 1 = (NatL.le-div_iff_mul-le {x = suc i} {y = n + p - 1} one).0 (omega arith) in
-      (omega arith, omega (arith, NatL.suc-mul i p))
-
-  pub beyond : (i : ℕ) → t ≤ i → (k ≤ i) ⊎ (n ≤ i * p)
-  beyond i b =
-      by_order i k
-      (λ low.
-      let far : (n + p - 1) / p < suc i = omega arith in
-      let up : n + p - 1 < suc i * p = (NatL.div-lt_iff_lt-mul {k = p} {x = n + p - 1} {y = suc i} one).0 far in
-      inr (omega (arith, NatL.suc-mul i p)))
-      (λ high. inl high)
+-- ---- where all terms are taken that f has, or that stand within n entries
+pub beyond : (k n p t : ℕ) → 0 < p → t ≡ min k (div_ceil n p) → (i : ℕ) → t ≤ i → (k ≤ i) ⊎ (n ≤ i * p)
+beyond k n p t one is i b =
+    by_order i k
+    (λ low.
+    let all : div_ceil n p ≤ i = omega arith in
+    inr (NatL.le_trans (div_ceil_times n p one).0 (NatL.mul-le-mul_right p all)))
+    (λ high. inl high)

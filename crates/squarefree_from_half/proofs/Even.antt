@@ -122,15 +122,8 @@ first-seen kind even k = go (ℕ_discrete kind 1) even
     go (no e) true = rw (kind_two kind k e, first_I2) minus_one-seen
     go (no e) false = rw (kind_two kind k e, first_I1)
 
--- ---- the three ways
+-- ---- the two ways of an even index
 module _ (kind r : ℕ) (even : Bool) (l : List ℤ) (len : length l ≡ degree kind (cond even (2 * r) r) + 1) where
-  pub odd_length : even ≡ false → length l ≡ degree kind r + 1
-  odd_length e = len ∙ ap (λ b. degree kind (cond b (2 * r) r) + 1) e
-
-  pub odd_grown : even ≡ false → (x : List ℤ) → x ≡ firsts (degree kind r + 1) (polynomial kind r)
-      → x ≡ firsts (length l) (polynomial kind (cond even (2 * r) r))
-  odd_grown e x q = q ∙ ap₂ (λ n b. firsts n (polynomial kind (cond b (2 * r) r))) (sym (odd_length e)) (sym e)
-
   even_length : even ≡ true → length l ≡ degree kind (2 * r) + 1
   even_length e = len ∙ ap (λ b. degree kind (cond b (2 * r) r) + 1) e
 

@@ -32,7 +32,7 @@ fn second_copy(a: &mut [i64], r: u64, top: usize)
     ensures { a.new ≡ firsts (length a.old) (I (2 * r)) }
 {
     let s = r as usize;
-    shapes::clear(&mut a[top..s]);
+    a[top..s].fill(0);
     shapes::negated_copy(a, s);
 }
 

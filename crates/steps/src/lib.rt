@@ -3,12 +3,13 @@
 #![tactic(auto)]
 
 ghost use Rattle.std.specs.Prelude.{◌≡◌};
+ghost use Rattle.answers.specs.Refusals.{number_of};
 ghost use Rattle.definitions.specs.Steps.{step_code, step_count, step_leaves};
 ghost use Rattle.entry_steps.specs.Sorts.{sort_means};
 
-use bounded_steps::{look, take_bounded};
+use answers::Refusal;
+use bounded_steps::{Over, look, take_bounded};
 pub use entry_steps::Sort;
-use heights::magnitude;
 
 #[derive(Drop)]
 pub struct Step {
@@ -25,10 +26,13 @@ pub struct Stepped {
 
 impl Stepped {
     // A refusal: its code, and nothing was added.
-    fn refused(code: u64) -> Stepped
-        ensures { result ≡ record { code = code; count = 0 } }
+    fn refused(refusal: Refusal) -> Stepped
+        ensures { result ≡ record { code = number_of refusal; count = 0 } }
     {
-        Stepped { code, count: 0 }
+        Stepped {
+            code: refusal.into(),
+            count: 0,
+        }
     }
 }
 
@@ -43,13 +47,13 @@ impl Step {
         let sort = self.sort;
         let size = self.size;
         if size == 0 {
-            return Stepped::refused(answers::STEP);
+            return Stepped::refused(Refusal::Step);
         }
         if 65535 < size {
-            return Stepped::refused(answers::STEP); // as for an index
+            return Stepped::refused(Refusal::Step); // as for an index
         }
         if w < 1 {
-            return Stepped::refused(answers::LIMIT);
+            return Stepped::refused(Refusal::Limit);
         }
         let n = a.len() as u64;
         if n <= size {
@@ -58,14 +62,12 @@ impl Step {
                 count: 0,
             };
         }
-        let outcome = take_bounded(a, sort, size, look(a), magnitude(w));
-        if outcome.over {
-            return Stepped::refused(answers::OVER);
-        }
-        let count = n - size;
-        Stepped {
-            code: answers::DONE,
-            count,
+        match take_bounded(a, sort, size, look(a), w.unsigned_abs()) {
+            Ok(_) => Stepped {
+                code: answers::DONE,
+                count: n - size,
+            },
+            Err(Over) => Stepped::refused(Refusal::Over),
         }
     }
 }

@@ -1,92 +1,54 @@
-// An inner crate: the standard streams of our own programs. A call that a signal interrupts is tried again, a write
-// that takes a part goes on with the rest, and what failed can be said in one line. No contract can say what is read or
-// written; each function is safe and ends.
+// An inner crate: the standard streams of our own programs. A call that a signal interrupts is tried again, and
+// what failed can be said in one line. No contract can say what is read or written; each function is safe and ends.
 
 #![tactic(auto)]
 
-ghost use Rattle.std.specs.Prelude.{◌≡◌, [], ◌∷◌, ◌++◌, ◌+◌, ◌≤◌, length, take, pos};
+ghost use Rattle.std.specs.Prelude.{◌≡◌, [], ◌∷◌, ◌++◌, ◌+◌, ◌≤◌, length, take, pos, IfOk, MatchResult};
 ghost use Rattle.io.specs.Counts.{IsPrefixLen};
 ghost use Rattle.text.specs.Text.{spaced};
 ghost use Rattle.text.specs.Puts.{Puts};
 
-use std::io::{Error, ErrorKind, Read, Write};
+use std::io::{ErrorKind, Read, Result, Write};
 use text::{put_item, put_text};
 
-// What a read gave: so many bytes at the start of the chunk, none at the end of the input or where it failed.
+// A read that failed, after so many bytes that the ones before it gave.
 #[derive(Drop)]
-pub struct Got {
-    pub count: usize,
-    pub failed: bool,
+pub struct ReadFailed {
+    pub after: usize,
 }
 
-// Whether a signal interrupted the call before it moved a byte.
-fn interrupted(e: &Error) -> bool {
-    e.kind() == ErrorKind::Interrupted
-}
-
-// One read. A proved loop has to end, so it counts its turns, up to a number that no run comes to.
-pub fn read_some<R: Read>(from: &mut R, chunk: &mut [u8]) -> Got
-    ensures { IsPrefixLen result.count chunk.new }
+// One read: how many bytes it put at the start of the chunk, none at the end of the input. A proved loop has to end, so
+// it counts its turns, up to a number that no run comes to.
+pub fn read_some<R: Read>(from: &mut R, chunk: &mut [u8]) -> Result<usize>
+    ensures { IfOk result (λ n. IsPrefixLen n chunk.new) }
 {
     for _ in 0..u64::MAX {
         match from.read(chunk) {
-            Ok(n) => {
-                return Got {
-                    count: n,
-                    failed: false,
-                };
-            }
-            Err(e) => {
-                if !interrupted(&e) {
-                    break;
-                }
-            }
+            Err(e) if e.kind() == ErrorKind::Interrupted => {}
+            done => return done,
         }
     }
-    Got {
-        count: 0,
-        failed: true,
-    }
+    Err(ErrorKind::Interrupted.into())
 }
 
 // One read, to where the ones before have come. What they gave stays.
-pub fn read_more<R: Read>(from: &mut R, buffer: &mut [u8], at: usize) -> Got
+pub fn read_more<R: Read>(
+    from: &mut R,
+    buffer: &mut [u8],
+    at: usize,
+) -> std::result::Result<usize, ReadFailed>
     requires { at ≤ length buffer.old }
-    ensures count_in_bounds { at + result.count ≤ length buffer.new }
+    ensures count_in_bounds { MatchResult result (λ n. at + n ≤ length buffer.new) (λ e. e.after ≡ at) }
     ensures buffer_unchanged { take at buffer.new ≡ take at buffer.old }
 {
-    read_some(from, &mut buffer[at..])
+    read_some(from, &mut buffer[at..]).map_err(|_| ReadFailed { after: at })
 }
 
-// One write: how many bytes it took, none where it failed.
-fn write_some<W: Write>(to: &mut W, bytes: &[u8]) -> usize
-    ensures { result ≤ length bytes.now }
+// A buffer. Only the length is known, so that no proof goes through it.
+pub fn room<T: Copy, const N: usize>(zero: T) -> [T; N]
+    ensures { N ≡ length result }
 {
-    for _ in 0..u64::MAX {
-        match to.write(bytes) {
-            Ok(n) => return n,
-            Err(e) => {
-                if !interrupted(&e) {
-                    break;
-                }
-            }
-        }
-    }
-    0
-}
-
-// All of the bytes: true only where the counts that the writes answered add up to their number; false where a write
-// failed or took nothing, when a part may have been written. Those counts have no name in a contract, so it has none.
-pub fn write_whole<W: Write>(to: &mut W, bytes: &[u8]) -> bool {
-    let mut done = 0;
-    while done < bytes.len() {
-        let n = write_some(to, &bytes[done..]);
-        if n == 0 {
-            return false;
-        }
-        done += n;
-    }
-    true
+    [zero; N]
 }
 
 // A text, a space and a number, and a text.
@@ -107,5 +69,5 @@ pub fn say(rt: &HostRuntime, before: &[u8], count: u64, after: &[u8])
 {
     let mut line = [0u8; 128];
     let n = put_line(&mut line, before, count, after);
-    write_whole(&mut rt.stderr(), &line[..n]);
+    let _ = rt.stderr().write_all(&line[..n]);
 }

@@ -1,5 +1,10 @@
 // Inner: numbers as text in byte buffers, for our own programs alone. Each function puts something at a place and
 // answers the next place; the caller sees to the room.
+// Stays a buffer and a place: a struct that holds the `&mut` proves as well, but each function then has a clause more,
+// that it keeps the reference, since by that alone the caller learns what its buffer holds; and what is offered outside
+// takes a buffer anyway.
+// Stays functions, not `Display` and `write!`: std's writers over a `&mut [u8]` name no `contents`, so a `write!` into
+// one promises nothing of its bytes.
 
 #![tactic(auto)]
 
@@ -8,6 +13,7 @@ ghost use Rattle.text.specs.Text.{MINUS, decimal, spaced, sign};
 ghost use Rattle.text.specs.Puts.{Puts};
 
 use heights::magnitude;
+use itoa::Buffer;
 
 pub fn put(out: &mut [u8], at: usize, b: u8) -> usize
     requires { at < length out.old }
@@ -22,33 +28,31 @@ pub fn put_text(out: &mut [u8], at: usize, bytes: &[u8]) -> usize
     requires { at + length bytes.now ≤ length out.old }
     ensures { Puts bytes.now at out.old out.new result }
 {
-    let mut i = 0;
-    while i < bytes.len() {
-        out[at + i] = bytes[i];
-        i += 1;
-    }
-    at + i
+    let end = at + bytes.len();
+    out[at..end].copy_from_slice(bytes);
+    end
 }
 
-// A number's digits: those of its tenth, and the last one.
+// A number's digits. Apart, for its buffer would slow down the numbers of one digit.
+#[cold]
+#[inline(never)]
 fn put_digits(out: &mut [u8], at: usize, n: u64) -> usize
-    requires { at + length (decimal n) ≤ length out.old }
-    ensures { Puts (decimal n) at out.old out.new result }
+    requires { at + 20 ≤ length out.old }
+    ensures puts { Puts (decimal n) at out.old out.new result }
+    ensures upper_bound { result ≤ at + 20 }
 {
-    if n < 10 {
-        return put(out, at, 48 + n as u8);
-    }
-    let p = put_digits(out, at, n / 10);
-    put(out, p, 48 + (n % 10) as u8)
+    let mut digits = Buffer::new();
+    put_text(out, at, digits.format(n).as_bytes())
 }
 
 // The same; nearly all numbers have one digit.
 pub fn put_number(out: &mut [u8], at: usize, n: u64) -> usize
     requires { at + 20 ≤ length out.old }
-    ensures { Puts (decimal n) at out.old out.new result }
+    ensures puts { Puts (decimal n) at out.old out.new result }
+    ensures upper_bound { result ≤ at + 20 }
 {
     if n < 10 {
-        return put(out, at, 48 + n as u8);
+        return put(out, at, b'0' + n as u8);
     }
     put_digits(out, at, n)
 }
@@ -95,10 +99,8 @@ pub fn put_coefficients(out: &mut [u8], at: usize, entries: &[i64], count: usize
     ensures upper_bound { result ≤ at + 22 * count }
 {
     let mut p = at;
-    let mut i = 0;
-    while i < count {
-        p = put_signed(out, p, entries[i]);
-        i += 1;
+    for c in &entries[..count] {
+        p = put_signed(out, p, *c);
     }
     p
 }

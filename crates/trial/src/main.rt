@@ -2,92 +2,89 @@
 // standard output (second/README.md has the form of both). What it prints is held to what second/ made by another
 // road, so nothing is promised here but that each function is safe and ends. A line that is not a good request is
 // answered by a question mark. All of the input is read before the first answer, 4 MB at most: of more, the rest has
-// no answers, and the run fails.
+// no answers.
 
 #![tactic(auto)]
 
-ghost use Rattle.std.specs.Prelude.{◌≡◌, length};
+ghost use Rattle.std.specs.Prelude.{◌≤◌, length};
 
-use trial_lines::Row;
-use trial_output::STDOUT;
+use std::io;
+use streams::{read_some, room};
 
-// Standard input.
-const STDIN: i32 = 0;
-
-// A door of two buffers, one of half records, the one of a rescue, of a response or of a census, or one of one buffer.
-fn ask(
-    name: u64,
-    asked: Row,
-    indices: &[u64],
-    entries: &mut [i64],
-    scratch: &mut [i64],
-    bytes: &mut [u8],
-) {
-    if !trial_pair_doors::ask(name, asked, indices, entries, scratch, bytes) {
-        if !trial_half_doors::ask(name, asked, entries, bytes) {
-            if !trial_rescue_doors::ask(name, asked, entries, bytes) {
-                if !trial_response_doors::ask(name, asked, entries) {
-                    if !trial_census_doors::ask(name, asked, entries) {
-                        trial_doors::ask(name, asked, entries);
-                    }
-                }
-            }
-        }
-    }
+// What a request can be lent: entries, those of a second buffer, bytes, bytes to write to, and a list.
+#[derive(Drop)]
+struct Rooms<'a> {
+    entries: &'a mut [i64],
+    scratch: &'a mut [i64],
+    bytes: &'a mut [u8],
+    space: &'a mut [u8],
+    list: &'a mut [u64],
 }
 
 // A whole line. Its words are a name and numbers; then, each where there are some, indices, entries, entries of a
 // second buffer, and bytes.
-fn answer(line: &[u8], buf: &mut [i64], scratch: &mut [i64], space: &mut [u8]) {
-    let name = trial_lines::name(line);
-    let asked = trial_lines::numbers(line, name.next);
-    let indices = trial_lines::indices(line, asked.next);
-    let entries = trial_lines::entries(line, indices.next, buf);
-    let others = trial_lines::entries(line, entries.next, scratch);
-    let bytes = trial_lines::bytes(line, others.next, space);
-    let values = indices.values;
-    let i = indices.count;
-    let k = entries.count;
-    let j = others.count;
-    let m = bytes.count;
-    if bytes.next == line.len() {
-        ask(
-            name.bits,
-            asked,
-            &values[..i],
-            &mut buf[..k],
-            &mut scratch[..j],
-            &mut space[..m],
-        );
-    } else {
-        io::write_all(STDOUT, b"?\n");
+fn answer(rt: &HostRuntime, line: &[u8], rooms: &mut Rooms<'_>) -> io::Result<()> {
+    let (name, rest) = trial_lines::name(line);
+    let (asked, rest) = trial_lines::numbers(rest);
+    let (indices, rest) = trial_lines::indices(rest);
+    let (lent, rest) = trial_lines::entries(rest, rooms.entries);
+    let (more, rest) = trial_lines::entries(rest, rooms.scratch);
+    let (held, rest) = trial_lines::bytes(rest, rooms.bytes);
+    let entries = &mut rooms.entries[..lent];
+    let scratch = &mut rooms.scratch[..more];
+    let bytes = &mut rooms.bytes[..held];
+    let space = &mut *rooms.space;
+    let list = &mut *rooms.list;
+    let indices = &indices.values[..indices.count];
+    let known = rest.is_empty()
+        && (trial_pair_doors::ask(rt, name, asked, indices, entries, scratch, bytes)?
+            || trial_half_doors::ask(rt, name, asked, entries, bytes, space)?
+            || trial_rescue_doors::ask(rt, name, asked, entries, bytes, space, list)?
+            || trial_response_doors::ask(rt, name, asked, entries)?
+            || trial_census_doors::ask(rt, name, asked, entries, list)?
+            || trial_doors::ask(rt, name, asked, entries)?);
+    if !known {
+        println!(rt; "?")?;
     }
+    Ok(())
 }
 
-// Line after line.
-fn answer_all(input: &[u8], buf: &mut [i64], scratch: &mut [i64], space: &mut [u8]) {
-    let mut at = 0;
-    while at < input.len() {
-        let end = trial_lines::line_end(input, at);
-        answer(&input[at..end], buf, scratch, space);
-        at = end + 1;
-    }
-}
-
-// Room for all of the input. Only the length is known of it, so that no proof goes through its bytes.
-fn large() -> [u8; 4194304]
-    ensures { 4194304 ≡ length result }
+// Reads to the end of the input, until a read fails or until the buffer is full, and tells how much there is.
+fn read_all(rt: &HostRuntime, input: &mut [u8]) -> usize
+    ensures { result ≤ length input.new }
 {
-    [0; 4194304]
+    let mut at = 0;
+    for _ in 0..u64::MAX {
+        let n = read_some(&mut rt.stdin(), &mut input[at..]).unwrap_or(0);
+        if n == 0 {
+            break;
+        }
+        at += n;
+    }
+    at
 }
 
-fn main() {
-    let mut input = large();
-    let mut space = io::large_buffer();
+// Line after line. A write that fails is passed over: what was printed is held to a stored output.
+fn answer_all(rt: &HostRuntime, input: &[u8], rooms: &mut Rooms<'_>) {
+    for line in input.split_inclusive(|b| *b == b'\n') {
+        let _ = answer(rt, line.strip_suffix(b"\n").unwrap_or(line), rooms);
+    }
+}
+
+fn main(rt: HostRuntime) {
+    let mut input = room::<u8, 4194304>(0);
     let mut entries = [0i64; 65536];
-    let buf: &mut [i64] = &mut entries;
-    let mut others = [0i64; 131088];
-    let scratch: &mut [i64] = &mut others;
-    let n = io::read_full(STDIN, &mut input);
-    answer_all(&input[..n], buf, scratch, &mut space);
+    let mut scratch = [0i64; 131088];
+    let mut bytes = [0u8; 65536];
+    let mut space = [0u8; 65536];
+    let mut list = [0u64; 65536];
+    let n = read_all(&rt, &mut input);
+    let mut rooms = Rooms {
+        entries: &mut entries,
+        scratch: &mut scratch,
+        bytes: &mut bytes,
+        space: &mut space,
+        list: &mut list,
+    };
+    answer_all(&rt, &input[..n], &mut rooms);
 }

@@ -4,44 +4,30 @@
 
 #![tactic(auto)]
 
-ghost use Rattle.std.specs.Prelude.{◌≡◌, length};
-
-use trial_lines::{Row, as_entries, room};
+use std::io;
+use trial_lines::room;
+use trial_output::Entries;
 
 // The name of the request, as `trial_lines::name` reads it.
 const CENSUS: u64 = 106385075;
 
-// The rows are told by way of as many entries.
-fn census(asked: Row, work: &mut [i64], rows: &mut [u64], told: &mut [i64])
-    requires { length told.old ≡ length rows.old }
-{
-    let v = asked.bits;
-    let a = bonvedrick::bv_census(v[0], v[1], rows, work);
-    as_entries(rows, told);
-    trial_output::numbers(&[a.code, a.rows, a.additions]);
-    trial_output::two(told, work);
-}
-
-// Into as many of the rows' numbers as are lent.
-fn census_in(asked: Row, work: &mut [i64], rows: &mut [u64], told: &mut [i64])
-    requires { length told.old ≡ length rows.old }
-{
-    let v = asked.bits;
-    let s = room(v[2], rows.len());
-    census(asked, work, &mut rows[..s], &mut told[..s]);
-}
-
-fn counted(asked: Row, work: &mut [i64]) {
-    let mut rows = trial_lines::list_room();
-    let mut told = trial_lines::entry_room();
-    census_in(asked, work, &mut rows, &mut told);
-}
-
-// A request by its name; tells whether it is this one.
-pub fn ask(name: u64, asked: Row, work: &mut [i64]) -> bool {
+// A request by its name; tells whether it is this one. A census goes into as many of the rows' numbers as are lent.
+pub fn ask(
+    rt: &HostRuntime,
+    name: u64,
+    asked: [u64; 4],
+    work: &mut [i64],
+    rows: &mut [u64],
+) -> io::Result<bool> {
     if name != CENSUS {
-        return false;
+        return Ok(false);
     }
-    counted(asked, work);
-    true
+    let slots = room(asked[2], rows.len());
+    let rows = &mut rows[..slots];
+    rows.fill(170);
+    let a = bonvedrick::bv_census(asked[0], asked[1], rows, work);
+    let rows = Entries(rows);
+    let work = Entries(work);
+    println!(rt; "{} {} {}{rows}{work}", a.code, a.rows, a.additions)?;
+    Ok(true)
 }

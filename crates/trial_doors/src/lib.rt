@@ -4,8 +4,9 @@
 
 #![tactic(auto)]
 
-use trial_lines::Row;
-use trial_output::STDOUT;
+use std::io;
+use steps::Stepped;
+use trial_output::Entries;
 
 // The names of the requests, as `trial_lines::name` reads them.
 const POLYNOMIAL: u64 = 579882274169900;
@@ -16,48 +17,44 @@ const COMB: u64 = 114082;
 
 const ACCUMULATE: u64 = 38608993388165;
 
-fn polynomial(asked: Row, entries: &mut [i64]) {
-    let v = asked.bits;
-    let s = asked.signed;
-    let a = bonvedrick::bv_polynomial(v[0], v[1], s[2], s[3], entries);
-    trial_output::numbers(&[a.code, a.degree, a.additions, a.height, a.peak]);
-    trial_output::signed(b" ", a.gain);
-    trial_output::entries(entries);
+fn polynomial(rt: &HostRuntime, asked: [u64; 4], entries: &mut [i64]) -> io::Result<()> {
+    let [kind, n, h, w] = asked;
+    let a = bonvedrick::bv_polynomial(kind, n, h.cast_signed(), w.cast_signed(), entries);
+    let told = Entries(entries);
+    println!(rt;
+        "{} {} {} {} {} {}{told}",
+        a.code, a.degree, a.additions, a.height, a.peak, a.gain
+    )
 }
 
-fn partial(asked: Row, entries: &mut [i64]) {
-    let v = asked.bits;
-    let s = asked.signed;
-    let a = bonvedrick::bv_partial(v[0], v[1], v[2], s[3], entries);
-    trial_output::numbers(&[a.code, a.degree, a.additions, a.due]);
-    trial_output::entries(entries);
+fn partial(rt: &HostRuntime, asked: [u64; 4], entries: &mut [i64]) -> io::Result<()> {
+    let [kind, n, j, w] = asked;
+    let a = bonvedrick::bv_partial(kind, n, j, w.cast_signed(), entries);
+    let told = Entries(entries);
+    println!(rt; "{} {} {} {}{told}", a.code, a.degree, a.additions, a.due)
 }
 
-fn comb(asked: Row, entries: &mut [i64]) {
-    let v = asked.bits;
-    let s = asked.signed;
-    let a = bonvedrick::bv_comb(v[0], s[1], entries);
-    trial_output::numbers(&[a.code, a.count]);
-    trial_output::entries(entries);
+// What a step answered, and what it left.
+fn stepped(rt: &HostRuntime, a: Stepped, entries: &[i64]) -> io::Result<()> {
+    let told = Entries(entries);
+    println!(rt; "{} {}{told}", a.code, a.count)
 }
 
-fn accumulate(asked: Row, entries: &mut [i64]) {
-    let v = asked.bits;
-    let s = asked.signed;
-    let a = bonvedrick::bv_accumulate(v[0], s[1], entries);
-    trial_output::numbers(&[a.code, a.count]);
-    trial_output::entries(entries);
-}
-
-// A request by its name; a question mark for any other.
-pub fn ask(name: u64, asked: Row, entries: &mut [i64]) {
+// A request by its name; tells whether it is one of these.
+pub fn ask(rt: &HostRuntime, name: u64, asked: [u64; 4], entries: &mut [i64]) -> io::Result<bool> {
+    let [size, w, _, _] = asked;
     match name {
-        POLYNOMIAL => polynomial(asked, entries),
-        PARTIAL => partial(asked, entries),
-        COMB => comb(asked, entries),
-        ACCUMULATE => accumulate(asked, entries),
-        _ => {
-            io::write_all(STDOUT, b"?\n");
+        POLYNOMIAL => polynomial(rt, asked, entries)?,
+        PARTIAL => partial(rt, asked, entries)?,
+        COMB => {
+            let a = bonvedrick::bv_comb(size, w.cast_signed(), entries);
+            stepped(rt, a, entries)?;
         }
+        ACCUMULATE => {
+            let a = bonvedrick::bv_accumulate(size, w.cast_signed(), entries);
+            stepped(rt, a, entries)?;
+        }
+        _ => return Ok(false),
     }
+    Ok(true)
 }

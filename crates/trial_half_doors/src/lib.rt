@@ -4,7 +4,10 @@
 
 #![tactic(auto)]
 
-use trial_lines::Row;
+use conversions::Converted;
+use std::io;
+use trial_lines::room;
+use trial_output::{Bytes, Entries};
 
 // The names of the requests, as `trial_lines::name` reads them.
 const WRITE_HALF: u64 = 25917583000966;
@@ -15,55 +18,60 @@ const TO_HALF: u64 = 687080838;
 
 const TO_WHOLE: u64 = 22002548101;
 
-fn write_half(asked: Row, entries: &[i64], bytes: &mut [u8]) {
-    let v = asked.bits;
-    let a = bonvedrick::bv_write_half(v[0], v[1], entries, bytes);
-    trial_output::numbers(&[a.code, a.degree, a.used, a.byte]);
-    trial_output::bytes(bytes);
+fn write_half(
+    rt: &HostRuntime,
+    asked: [u64; 4],
+    entries: &[i64],
+    bytes: &mut [u8],
+) -> io::Result<()> {
+    let a = bonvedrick::bv_write_half(asked[0], asked[1], entries, bytes);
+    let told = Bytes(bytes);
+    println!(rt; "{} {} {} {}{told}", a.code, a.degree, a.used, a.byte)
 }
 
-fn read_half(entries: &mut [i64], bytes: &[u8]) {
+fn read_half(rt: &HostRuntime, entries: &mut [i64], bytes: &[u8]) -> io::Result<()> {
     let a = bonvedrick::bv_read_half(bytes, entries);
-    trial_output::numbers(&[a.code, a.degree, a.used, a.kind, a.n, a.byte]);
-    trial_output::entries(entries);
+    let told = Entries(entries);
+    println!(rt;
+        "{} {} {} {} {} {}{told}",
+        a.code, a.degree, a.used, a.kind, a.n, a.byte
+    )
 }
 
-fn to_half(bytes: &[u8], out: &mut [u8]) {
-    let a = bonvedrick::bv_to_half(bytes, out);
-    trial_output::numbers(&[a.code, a.degree, a.read, a.written, a.byte]);
-    trial_output::bytes(out);
+// What a conversion answered, and what it wrote.
+fn converted(rt: &HostRuntime, a: Converted, out: &[u8]) -> io::Result<()> {
+    let told = Bytes(out);
+    println!(rt;
+        "{} {} {} {} {}{told}",
+        a.code, a.degree, a.read, a.written, a.byte
+    )
 }
 
-fn to_whole(bytes: &[u8], out: &mut [u8]) {
-    let a = bonvedrick::bv_to_whole(bytes, out);
-    trial_output::numbers(&[a.code, a.degree, a.read, a.written, a.byte]);
-    trial_output::bytes(out);
-}
-
-// A conversion of the bytes, to the half form or to the whole one, into as much of the space as is lent.
-fn convert(asked: Row, half: bool, bytes: &[u8], space: &mut [u8]) {
-    let v = asked.bits;
-    let k = trial_lines::room(v[0], space.len());
-    if half {
-        to_half(bytes, &mut space[..k]);
-    } else {
-        to_whole(bytes, &mut space[..k]);
-    }
-}
-
-fn converted(asked: Row, half: bool, bytes: &[u8]) {
-    let mut space = trial_lines::filled();
-    convert(asked, half, bytes, &mut space);
-}
-
-// A request by its name; tells whether it is one of these.
-pub fn ask(name: u64, asked: Row, entries: &mut [i64], bytes: &mut [u8]) -> bool {
+// A request by its name; tells whether it is one of these. A conversion goes into as much of the space as is
+// lent, of which each byte holds 170.
+pub fn ask(
+    rt: &HostRuntime,
+    name: u64,
+    asked: [u64; 4],
+    entries: &mut [i64],
+    bytes: &mut [u8],
+    space: &mut [u8],
+) -> io::Result<bool> {
+    let lent = room(asked[0], space.len());
+    let out = &mut space[..lent];
+    out.fill(170);
     match name {
-        WRITE_HALF => write_half(asked, entries, bytes),
-        READ_HALF => read_half(entries, bytes),
-        TO_HALF => converted(asked, true, bytes),
-        TO_WHOLE => converted(asked, false, bytes),
-        _ => return false,
+        WRITE_HALF => write_half(rt, asked, entries, bytes)?,
+        READ_HALF => read_half(rt, entries, bytes)?,
+        TO_HALF => {
+            let a = bonvedrick::bv_to_half(bytes, out);
+            converted(rt, a, out)?;
+        }
+        TO_WHOLE => {
+            let a = bonvedrick::bv_to_whole(bytes, out);
+            converted(rt, a, out)?;
+        }
+        _ => return Ok(false),
     }
-    true
+    Ok(true)
 }

@@ -3,293 +3,184 @@
 // and ends, and how much of a buffer can be lent: what is made of what was read is printed, and held to a stored
 // output.
 //
-// A reader is told the place of the byte before its word, and tells the place after it. From NOWHERE, which is told
-// where a word is not there, nothing can be read: so whoever reads to the end of a line has read all its words well.
+// A reader is given the line from the byte before its word on, and hands back the line after it. Where its word is not
+// there it hands back what it was given: so a line is good where nothing is left of it.
 
 #![tactic(auto)]
 
-ghost use Rattle.std.specs.Prelude.{◌≡◌, ◌≤◌, length};
-ghost use Rattle.trial_lines.specs.Lends.{Lends};
-
-use digits::byte_at;
-use std::num::{wrapping_add_u64, wrapping_add_usize, wrapping_sub_u64};
-
-pub const NOWHERE: usize = 18446744073709551615;
-
-// A number: a negative one as what it is modulo 2^64, and any other as it is.
-#[derive(Clone, Copy)]
-pub struct Found {
-    pub bits: u64,
-    pub next: usize,
-}
-
-// Up to four numbers, so too, and as what they are from -2^63 on.
-#[derive(Clone, Copy)]
-pub struct Row {
-    pub bits: [u64; 4],
-    pub signed: [i64; 4],
-    pub next: usize,
-}
+ghost use Rattle.std.specs.Prelude.{◌≤◌, IfSome, length};
 
 // Up to 12 indices, and how many.
 #[derive(Drop)]
 pub struct Listed {
     pub values: [u64; 12],
     pub count: usize,
-    pub next: usize,
-}
-
-// How many entries or bytes of a buffer are lent.
-#[derive(Drop)]
-pub struct Lent {
-    pub count: usize,
-    pub next: usize,
 }
 
 // The name that a line starts with, up to a space: a number in base 32 whose digits are its letters, a as 1. So no two
-// names of up to 12 letters are the same.
-pub fn name(line: &[u8]) -> Found {
+// names of up to 12 small letters are the same.
+// Stays a number: the program takes capital letters for small ones, and has to go on doing so.
+pub fn name<'a>(line: &'a [u8]) -> (u64, &'a [u8]) {
+    let end = line.iter().position(|b| *b == b' ').unwrap_or(line.len());
     let mut bits: u64 = 0;
-    let mut i = 0;
-    while i < line.len() {
-        if line[i] == b' ' {
-            break;
-        }
-        bits = bits % 576460752303423488 * 32 + (line[i] % 32) as u64;
-        i += 1;
+    for b in &line[..end] {
+        bits = bits % 576460752303423488 * 32 + u64::from(*b % 32);
     }
-    Found { bits, next: i }
+    (bits, &line[end..])
 }
 
-// What a digit counts for, in decimal or hexadecimal; 256 is none.
-fn digit(b: u8) -> u64
-    ensures { result ≤ 256 }
-{
-    match b {
-        48..=57 => (b - 48) as u64,
-        97..=102 => (b - 87) as u64,
-        _ => 256,
+// A number that a text starts with: a negative one as what it is modulo 2^64. More than a u64 holds wraps.
+fn number<'a>(text: &'a [u8]) -> Option<(u64, &'a [u8])> {
+    let digits = text.strip_prefix(b"-").unwrap_or(text);
+    let count = digits.iter().take_while(|b| b.is_ascii_digit()).count();
+    if count == 0 {
+        return None;
     }
-}
-
-// The number after a certain byte, which is to stand at the place told. More than a u64 holds wraps.
-fn number(line: &[u8], at: usize, before: u8) -> Found {
-    let first = wrapping_add_usize(at, 1);
-    let second = wrapping_add_usize(at, 2);
-    let minus = byte_at(line, first) == b'-';
-    let from = if minus { second } else { first };
     let mut bits: u64 = 0;
-    let mut i = from;
-    while i < line.len() {
-        let d = digit(line[i]);
-        if 9 < d {
-            break;
-        }
-        bits = wrapping_add_u64(bits % 1844674407370955162 * 10, d);
-        i += 1;
+    for b in &digits[..count] {
+        bits = (bits % 1844674407370955162 * 10).wrapping_add(u64::from(*b % 16));
     }
-    let good = i != from && byte_at(line, at) == before;
-    Found {
-        bits: if minus {
-            wrapping_sub_u64(0, bits)
-        } else {
-            bits
-        },
-        next: if good { i } else { NOWHERE },
+    if digits.len() < text.len() {
+        bits = bits.wrapping_neg();
     }
+    Some((bits, &digits[count..]))
 }
 
-// The number from -2^63 on that a u64 is modulo 2^64.
-pub fn signed(bits: u64) -> i64 {
-    if bits < 9223372036854775808 {
-        return bits as i64;
+// A word that is a number with a space after it.
+fn whole_number<'a>(line: &'a [u8]) -> Option<(u64, &'a [u8])> {
+    let (bits, rest) = number(line.strip_prefix(b" ")?)?;
+    if rest.first() == Some(&b' ') {
+        Some((bits, rest))
+    } else {
+        None
     }
-    !((18446744073709551615 - bits) as i64)
 }
 
 // Numbers, as many as have a space after them, and four at most.
-pub fn numbers(line: &[u8], at: usize) -> Row {
-    let mut bits = [0u64; 4];
-    let mut whole = [0i64; 4];
-    let mut next = at;
-    let mut i = 0;
-    while i < 4 {
-        let v = number(line, next, b' ');
-        if byte_at(line, v.next) != b' ' {
+pub fn numbers<'a>(line: &'a [u8]) -> ([u64; 4], &'a [u8]) {
+    let mut row = [0u64; 4];
+    let mut rest = line;
+    for place in row.iter_mut() {
+        let Some((bits, after)) = whole_number(rest) else {
             break;
-        }
-        bits[i] = v.bits;
-        whole[i] = signed(v.bits);
-        next = v.next;
-        i += 1;
+        };
+        *place = bits;
+        rest = after;
     }
-    Row {
-        bits,
-        signed: whole,
-        next,
-    }
-}
-
-// How many of a buffer's entries can be lent where so many are asked for.
-fn of_entries(asked: usize, a: &[i64]) -> usize
-    ensures { Lends result a.now }
-{
-    if asked <= a.len() { asked } else { a.len() }
-}
-
-// The same of bytes.
-fn of_bytes(asked: usize, a: &[u8]) -> usize
-    ensures { Lends result a.now }
-{
-    if asked <= a.len() { asked } else { a.len() }
+    (row, rest)
 }
 
 // A list of indices: after an n, with commas between; or none, where the word has no n. More than there is room for is
 // not cut but no good word.
-pub fn indices(line: &[u8], at: usize) -> Listed
-    ensures { Lends result.count result.values }
+pub fn indices<'a>(line: &'a [u8]) -> (Listed, &'a [u8])
+    ensures { result.0.count ≤ 12 }
 {
-    let first = wrapping_add_usize(at, 1);
-    let second = wrapping_add_usize(at, 2);
     let mut values = [0u64; 12];
-    let mut next = first;
-    let mut before = b'n';
     let mut count = 0;
-    while count < 12 {
-        let v = number(line, next, before);
-        if v.next == NOWHERE {
-            break;
+    let mut rest = line;
+    if let Some(list) = line.strip_prefix(b" n") {
+        rest = list;
+        for place in values.iter_mut() {
+            let text = if count == 0 {
+                rest
+            } else {
+                rest.strip_prefix(b",").unwrap_or(b"")
+            };
+            let Some((bits, after)) = number(text) else {
+                break;
+            };
+            *place = bits;
+            count += 1;
+            rest = after;
         }
-        values[count] = v.bits;
-        count += 1;
-        next = v.next;
-        before = b',';
     }
-    let none = if byte_at(line, first) == b'n' {
-        second
-    } else {
-        at
-    };
-    Listed {
-        values,
-        count,
-        next: if 0 < count { next } else { none },
+    (Listed { values, count }, rest)
+}
+
+// Entries that are a length, a star and what each of them holds.
+fn repeated<'a>(line: &'a [u8], buf: &mut [i64]) -> Option<(usize, &'a [u8])>
+    ensures { IfSome result (λ read. read.0 ≤ length buf.new) }
+{
+    let (times, after) = number(line.strip_prefix(b" ")?)?;
+    let (bits, after) = number(after.strip_prefix(b"*")?)?;
+    if (buf.len() as u64) < times {
+        return None;
+    }
+    let times = times as usize;
+    buf[..times].fill(bits.cast_signed());
+    Some((times, after))
+}
+
+// Entries that are spelled out, with commas between. More than there are is not cut but no good word.
+fn spelled<'a>(line: &'a [u8], buf: &mut [i64]) -> (usize, &'a [u8])
+    ensures { result.0 ≤ length buf.new }
+{
+    let mut count = 0;
+    let mut rest = line;
+    for place in buf.iter_mut() {
+        let before: &[u8] = if count == 0 { b" " } else { b"," };
+        let Some((bits, after)) = number(rest.strip_prefix(before).unwrap_or(b"")) else {
+            break;
+        };
+        *place = bits.cast_signed();
+        count += 1;
+        rest = after;
+    }
+    (count, rest)
+}
+
+// Entries, and how many.
+pub fn entries<'a>(line: &'a [u8], buf: &mut [i64]) -> (usize, &'a [u8])
+    ensures { result.0 ≤ length buf.new }
+{
+    match repeated(line, buf) {
+        Some(read) => read,
+        None => spelled(line, buf),
     }
 }
 
-// Entries: a length, a star and what each of them holds; or two or more with commas between. More than there are is not
-// cut but no good word.
-pub fn entries(line: &[u8], at: usize, buf: &mut [i64]) -> Lent
-    ensures { Lends result.count buf.new }
+// What a digit counts for, in hexadecimal.
+fn digit(b: u8) -> Option<u8>
+    ensures { IfSome result (λ v. v ≤ 15) }
 {
-    let times = number(line, at, b' ');
-    let filling = number(line, times.next, b'*');
-    let run = filling.next != NOWHERE && times.bits <= buf.len() as u64;
-    let most = if run { times.bits as usize } else { NOWHERE };
-    let mut next = if run { filling.next } else { at };
-    let mut before = b' ';
-    let mut count = 0;
-    while count < buf.len() {
-        let v = if run {
-            filling
-        } else {
-            number(line, next, before)
-        };
-        if count == most || v.next == NOWHERE {
-            break;
-        }
-        buf[count] = signed(v.bits);
-        count += 1;
-        next = v.next;
-        before = b',';
+    match b {
+        b'0'..=b'9' => Some(b - b'0'),
+        b'a'..=b'f' => Some(b - b'a' + 10),
+        _ => None,
     }
-    Lent {
-        count: of_entries(count, buf),
-        next,
-    }
+}
+
+// A byte, and the line after it.
+fn byte<'a>(line: &'a [u8]) -> Option<(u8, &'a [u8])> {
+    let high = digit(*line.first()?)?;
+    let low = digit(*line.get(1)?)?;
+    Some((high * 16 + low, &line[2..]))
 }
 
 // Bytes: in hexadecimal after an x, two digits each; or none, where the line ends.
-pub fn bytes(line: &[u8], at: usize, buf: &mut [u8]) -> Lent
-    ensures { Lends result.count buf.new }
+pub fn bytes<'a>(line: &'a [u8], buf: &mut [u8]) -> (usize, &'a [u8])
+    ensures { result.0 ≤ length buf.new }
 {
-    let first = wrapping_add_usize(at, 2);
-    let mut next = if byte_at(line, wrapping_add_usize(at, 1)) == b'x' {
-        first
+    let mut rest = if line.get(1) == Some(&b'x') {
+        &line[2..]
     } else {
-        at
+        line
     };
     let mut count = 0;
-    while count < buf.len() {
-        let high = digit(byte_at(line, next));
-        let low = digit(byte_at(line, wrapping_add_usize(next, 1)));
-        let v = high * 16 + low;
-        if 255 < v {
+    for place in buf.iter_mut() {
+        let Some((b, after)) = byte(rest) else {
             break;
-        }
-        buf[count] = v as u8;
+        };
+        *place = b;
         count += 1;
-        next = wrapping_add_usize(next, 2);
+        rest = after;
     }
-    Lent {
-        count: of_bytes(count, buf),
-        next,
-    }
+    (count, rest)
 }
 
-// Bytes that are lent to be written over. Only the length is known, so that no proof goes through them.
-pub fn filled() -> [u8; 65536]
-    ensures { 65536 ≡ length result }
-{
-    [170; 65536]
-}
-
-// How much of such a buffer is lent: as much as is asked for, or all.
+// How much of a buffer is lent: as much as is asked for, or all.
 pub fn room(asked: u64, len: usize) -> usize
     ensures { result ≤ len }
 {
-    if asked < len as u64 {
-        asked as usize
-    } else {
-        len
-    }
-}
-
-// Where the line that begins at a place ends: at its newline, or at the end.
-pub fn line_end(input: &[u8], from: usize) -> usize
-    requires { from ≤ length input.now }
-    ensures { (from ≤ result) × (result ≤ length input.now) }
-{
-    let mut i = from;
-    while i < input.len() {
-        if input[i] == b'\n' {
-            return i;
-        }
-        i += 1;
-    }
-    i
-}
-
-// A list that is lent, and as many entries. Only the lengths are known, so that no proof goes through them.
-pub fn list_room() -> [u64; 65536]
-    ensures { 65536 ≡ length result }
-{
-    [170; 65536]
-}
-
-pub fn entry_room() -> [i64; 65536]
-    ensures { 65536 ≡ length result }
-{
-    [0; 65536]
-}
-
-// The numbers of a list as entries, so that they are told alike. Those of a list are small, and stay what they are.
-pub fn as_entries(list: &[u64], entries: &mut [i64])
-    requires { length entries.old ≡ length list.now }
-{
-    let mut i = 0;
-    while i < list.len() {
-        entries[i] = signed(list[i]);
-        i += 1;
-    }
+    asked.min(len as u64) as usize
 }

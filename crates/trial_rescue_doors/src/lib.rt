@@ -4,72 +4,37 @@
 
 #![tactic(auto)]
 
-ghost use Rattle.std.specs.Prelude.{◌≡◌, length};
-
-use trial_lines::{Row, as_entries, room};
+use std::io;
+use trial_lines::room;
+use trial_output::{Bytes, Entries};
 
 // The name of the request, as `trial_lines::name` reads it.
 const RESCUE: u64 = 609848997;
 
-// A list that is lent, and as many entries.
-fn numbers() -> [u64; 65536]
-    ensures { 65536 ≡ length result }
-{
-    trial_lines::list_room()
-}
-
-fn blank() -> [i64; 65536]
-    ensures { 65536 ≡ length result }
-{
-    trial_lines::entry_room()
-}
-
-// The list is told by way of as many entries.
-fn rescue(entries: &mut [i64], bytes: &[u8], out: &mut [u8], list: &mut [u64], told: &mut [i64])
-    requires { length told.old ≡ length list.old }
-{
-    let a = bonvedrick::bv_rescue(bytes, out, list, entries);
-    as_entries(list, told);
-    trial_output::numbers(&[a.code, a.kept, a.stretches]);
-    trial_output::hex(out);
-    trial_output::two(told, entries);
-}
-
-// Into as much of the space and of the list as is lent.
-fn rescue_in(
-    asked: Row,
+// A request by its name; tells whether it is this one. A rescue goes into as much of the space and of the list as is
+// lent.
+pub fn ask(
+    rt: &HostRuntime,
+    name: u64,
+    asked: [u64; 4],
     entries: &mut [i64],
     bytes: &[u8],
     space: &mut [u8],
     list: &mut [u64],
-    told: &mut [i64],
-)
-    requires { length told.old ≡ length list.old }
-{
-    let v = asked.bits;
-    let k = room(v[0], space.len());
-    let s = room(v[1], list.len());
-    rescue(
-        entries,
-        bytes,
-        &mut space[..k],
-        &mut list[..s],
-        &mut told[..s],
-    );
-}
-
-fn rescued(asked: Row, entries: &mut [i64], bytes: &[u8]) {
-    let mut space = trial_lines::filled();
-    let mut list = numbers();
-    let mut told = blank();
-    rescue_in(asked, entries, bytes, &mut space, &mut list, &mut told);
-}
-
-// A request by its name; tells whether it is this one.
-pub fn ask(name: u64, asked: Row, entries: &mut [i64], bytes: &[u8]) -> bool {
+) -> io::Result<bool> {
     if name != RESCUE {
-        return false;
+        return Ok(false);
     }
-    rescued(asked, entries, bytes);
-    true
+    let lent = room(asked[0], space.len());
+    let slots = room(asked[1], list.len());
+    let out = &mut space[..lent];
+    let list = &mut list[..slots];
+    out.fill(170);
+    list.fill(170);
+    let a = bonvedrick::bv_rescue(bytes, out, list, entries);
+    let out = Bytes(out);
+    let list = Entries(list);
+    let entries = Entries(entries);
+    println!(rt; "{} {} {}{out}{list}{entries}", a.code, a.kept, a.stretches)?;
+    Ok(true)
 }

@@ -5,7 +5,7 @@
 #![tactic(auto)]
 
 use response::Point;
-use trial_lines::Row;
+use std::io;
 
 // The name of the request, as `trial_lines::name` reads it.
 const RESPONSE: u64 = 624498817637;
@@ -26,21 +26,16 @@ fn pattern(x: f64) -> u64 {
     f64::to_bits(x)
 }
 
-fn response(asked: Row, entries: &[i64]) {
-    let v = asked.bits;
+// A request by its name; tells whether it is this one.
+pub fn ask(rt: &HostRuntime, name: u64, asked: [u64; 4], entries: &[i64]) -> io::Result<bool> {
+    if name != RESPONSE {
+        return Ok(false);
+    }
     let at = Point {
-        real: float(v[0]),
-        imag: float(v[1]),
+        real: float(asked[0]),
+        imag: float(asked[1]),
     };
     let a = bonvedrick::bv_response(entries, at);
-    trial_output::line(&[a.code, pattern(a.real), pattern(a.imag)]);
-}
-
-// A request by its name; tells whether it is this one.
-pub fn ask(name: u64, asked: Row, entries: &[i64]) -> bool {
-    if name != RESPONSE {
-        return false;
-    }
-    response(asked, entries);
-    true
+    println!(rt; "{} {} {}", a.code, pattern(a.real), pattern(a.imag))?;
+    Ok(true)
 }

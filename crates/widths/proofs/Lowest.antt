@@ -38,7 +38,7 @@ over→lowest (c ∷ cs) fits t = go (ltb largest (nat_abs c)) refl (over→lowe
         let h = more (omega (arith, ltb-false largest (nat_abs c) e)) in
         (suc h.0, omega (arith, h.1), h.2)
 
-entry_height : (cs : List ℤ) (i : ℕ) → nat_abs (get_or cs i (pos 0)) ≤ height_of cs
+pub entry_height : (cs : List ℤ) (i : ℕ) → nat_abs (get_or cs i (pos 0)) ≤ height_of cs
 unfolding height_of
 entry_height [] i = omega arith
 entry_height (c ∷ cs) zero = omega arith

@@ -13,6 +13,7 @@ fn fours_down(a: &mut [i64], d: usize) -> usize
     ensures { DownTo d a.old a.new result }
 {
     let mut t = a.len();
+    // Stays a while: it goes down by fours, and answers where they end.
     while 4 <= t - d {
         let k = t - 4;
         step_four(Sort::Comb, a, k, d);
@@ -26,9 +27,7 @@ fn ones_down(a: &mut [i64], d: usize, from: usize)
     requires { Downward d a.old from }
     ensures { (l : List ℤ) → DownTo d l a.old from → a.new ≡ wrapped_list comb d l }
 {
-    let mut t = from;
-    while d < t {
-        t -= 1;
+    for t in (d..from).rev() {
         step_one(Sort::Comb, a, t, d);
     }
 }

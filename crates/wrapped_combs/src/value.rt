@@ -6,7 +6,7 @@ ghost use Rattle.entry_steps.specs.Passes.{new_value, set_four};
 ghost use Rattle.wrapped_sums.specs.Wrapped.{wrap};
 ghost use Rattle.wrapped_combs.specs.Wrapped.{wrap_entry};
 
-use entry_steps::{Sort, put, put_four};
+use entry_steps::{Sort, put_four};
 use wrapped_sums::{minus, plus};
 
 // What a step makes of an entry x and the one y that stands d before it.
@@ -19,20 +19,12 @@ pub fn wrapped_value(sort: Sort, x: i64, y: i64) -> i64
     }
 }
 
-fn wrapped_entry(sort: Sort, a: &[i64], i: usize, d: usize) -> i64
-    requires { (d ≤ i) × (i < length a.now) }
-    ensures { result ≡ wrap_entry (sort_means sort) d a.now i }
-{
-    wrapped_value(sort, a[i], a[i - d])
-}
-
 // The step at one place.
 pub fn step_one(sort: Sort, a: &mut [i64], i: usize, d: usize)
     requires { (d ≤ i) × (i < length a.old) }
     ensures { a.new ≡ set a.old i (wrap_entry (sort_means sort) d a.old i) }
 {
-    let v = wrapped_entry(sort, a, i, d);
-    put(a, i, v);
+    a[i] = wrapped_value(sort, a[i], a[i - d]);
 }
 
 // The step at the four places from k on: all four entries are read before one is written, so that the compiler can
@@ -41,12 +33,9 @@ pub fn step_four(sort: Sort, a: &mut [i64], k: usize, d: usize)
     requires { (d ≤ k) × (k + 4 ≤ length a.old) }
     ensures { a.new ≡ set_four a.old k (wrap_entry (sort_means sort) d a.old) }
 {
-    let k1 = k + 1;
-    let k2 = k + 2;
-    let k3 = k + 3;
-    let v0 = wrapped_entry(sort, a, k, d);
-    let v1 = wrapped_entry(sort, a, k1, d);
-    let v2 = wrapped_entry(sort, a, k2, d);
-    let v3 = wrapped_entry(sort, a, k3, d);
+    let v0 = wrapped_value(sort, a[k], a[k - d]);
+    let v1 = wrapped_value(sort, a[k + 1], a[k + 1 - d]);
+    let v2 = wrapped_value(sort, a[k + 2], a[k + 2 - d]);
+    let v3 = wrapped_value(sort, a[k + 3], a[k + 3 - d]);
     put_four(a, k, v0, v1, v2, v3);
 }

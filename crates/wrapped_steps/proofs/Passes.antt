@@ -1,6 +1,6 @@
 -- An accumulate modulo 2^64 that has got up to some place: where it starts, that what is put at the next place is the
 -- step's value, and where it ends.
-use mathlib.Core.Path.{◌≡◌, refl, sym, ◌∙◌, ap, ap₂, subst}
+use mathlib.Core.Path.{◌≡◌, refl, sym, ◌∙◌, ap, ap₂}
 use mathlib.Core.List.{List}
 use Prim.Native.Nat.{ℕ, ◌+◌, ◌-◌, ◌<◌, ◌≤◌}
 use native.Mathlib.Omega.{arith}
@@ -62,7 +62,3 @@ module _ {d : ℕ} {l m : List ℤ} {i : ℕ} (p : UpTo d l m i) (one : 1 ≤ d)
   pub ended_up : length l ≤ i → m ≡ wrapped_list accumulate d l
   unfolding wrapped_list
   ended_up h = all_firsts (all_below p.split h)
-
--- the same, the size written otherwise
-pub sized : {d d' i : ℕ} {l m : List ℤ} → d ≡ d' → UpTo d l m i → UpTo d' l m i
-sized {i = i} {l} {m} e p = subst (λ x. UpTo x l m i) e p

@@ -1,4 +1,4 @@
--- An accumulate by rows: an entry further, and a row further.
+-- An accumulate by rows: the first row, and an entry further.
 use mathlib.Core.Path.{◌≡◌, sym, ◌∙◌, ap}
 use mathlib.Core.List.{List}
 use Prim.Native.Nat.{ℕ, ◌+◌, ◌-◌, ◌<◌, ◌≤◌}
@@ -27,15 +27,6 @@ carried_first {d} {s} {a} room begun =
     }
 
 module _ {d k q : ℕ} {s a : List ℤ} (p : Carried d k q s a) where
-  -- a whole row
-  pub carried_row : d ≤ q → Carried d (k + d) 0 s a
-  carried_row e =
-      record {
-        room = p.room;
-        here = λ j h. absurd (not-suc-le-zero h);
-        before = λ j h b. p.here j (omega arith) ∙ ap (λ x. get_or a x 0ℤ) (omega arith);
-      }
-
   -- one entry more
   module _ (b : q < d) (from : d ≤ k) (in' : k + q < length a) where
     abbrev v : ℤ

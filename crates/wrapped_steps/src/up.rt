@@ -15,6 +15,7 @@ fn fours_up(a: &mut [i64], d: usize) -> usize
     ensures { UpTo d a.old a.new result }
 {
     let mut k = d;
+    // Stays a while: it goes up by fours, and answers where they end.
     while 4 <= a.len() - k {
         step_four(Sort::Accumulate, a, k, d);
         k += 4;
@@ -27,10 +28,8 @@ fn ones_up(a: &mut [i64], d: usize, from: usize)
     requires { (1 ≤ d) × Upward d a.old from }
     ensures { (l : List ℤ) → UpTo d l a.old from → a.new ≡ wrapped_list accumulate d l }
 {
-    let mut i = from;
-    while i < a.len() {
+    for i in from..a.len() {
         step_one(Sort::Accumulate, a, i, d);
-        i += 1;
     }
 }
 
@@ -41,21 +40,21 @@ fn most_up(a: &mut [i64], d: usize) -> usize
     ensures { UpTo d a.old a.new result }
 {
     match d {
-        15 => known_rows(a, 15),
-        14 => known_rows(a, 14),
-        13 => known_rows(a, 13),
-        12 => known_rows(a, 12),
-        11 => known_rows(a, 11),
-        10 => known_rows(a, 10),
-        9 => known_rows(a, 9),
-        8 => known_rows(a, 8),
-        7 => known_rows(a, 7),
-        6 => known_rows(a, 6),
-        5 => known_rows(a, 5),
-        4 => known_rows(a, 4),
-        3 => known_rows(a, 3),
-        2 => known_rows(a, 2),
-        1 => known_rows(a, 1),
+        15 => known_rows::<15>(a),
+        14 => known_rows::<14>(a),
+        13 => known_rows::<13>(a),
+        12 => known_rows::<12>(a),
+        11 => known_rows::<11>(a),
+        10 => known_rows::<10>(a),
+        9 => known_rows::<9>(a),
+        8 => known_rows::<8>(a),
+        7 => known_rows::<7>(a),
+        6 => known_rows::<6>(a),
+        5 => known_rows::<5>(a),
+        4 => known_rows::<4>(a),
+        3 => known_rows::<3>(a),
+        2 => known_rows::<2>(a),
+        1 => known_rows::<1>(a),
         _ => fours_up(a, d),
     }
 }

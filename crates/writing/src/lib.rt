@@ -3,18 +3,33 @@
 
 #![tactic(auto)]
 
-ghost use Rattle.std.specs.Prelude.{◌≡◌, ◌<◌, ◌≤◌, true, ◌++◌, length, drop};
+ghost use Rattle.std.specs.Prelude.{◌≡◌, ◌+◌, ◌<◌, ◌≤◌, true, ◌++◌, length, drop};
+ghost use Rattle.std.proofs.lemmas.List.Edits.{sets};
 ghost use Rattle.definitions.specs.Answer.{height_of};
 ghost use Rattle.definitions.specs.Steps.{largest};
 ghost use Rattle.definitions.specs.Requests.{known_kind, good_index};
-ghost use Rattle.widths.specs.Numbers.{width};
+ghost use Rattle.widths.specs.Numbers.{top, body, widths, one_of, width};
 ghost use Rattle.forms.specs.Format.{record_of, size, uneven_for, write_answer, write_leaves};
 
-use answers::negates;
+use answers::{Refusal, negates};
 use forms::{Form, Written, mark_of, stored_of};
 use index::degree_of;
 use record::{put_body, put_header};
 use widths::least_width;
+
+// The coefficients that are stored, behind the header, with a loop of its own for each width.
+fn put_stored(coeffs: &[i64], w: usize, bytes: &mut [u8])
+    requires { (one_of widths w ≡ true) × (height_of coeffs.now ≤ top w)
+        × (10 + length (body w coeffs.now) ≤ length bytes.old) }
+    ensures { bytes.new ≡ sets bytes.old 10 (body w coeffs.now) }
+{
+    match w {
+        1 => put_body::<1>(coeffs, bytes),
+        2 => put_body::<2>(coeffs, bytes),
+        4 => put_body::<4>(coeffs, bytes),
+        _ => put_body::<8>(coeffs, bytes),
+    }
+}
 
 // The record, in bytes of which there are enough.
 fn store(kind: u64, n: u64, w: usize, form: Form, coeffs: &[i64], bytes: &mut [u8])
@@ -32,7 +47,7 @@ fn store(kind: u64, n: u64, w: usize, form: Form, coeffs: &[i64], bytes: &mut [u
         n,
         coeffs.len() as u64,
     );
-    put_body(&coeffs[..k], w, bytes);
+    put_stored(&coeffs[..k], w, bytes);
 }
 
 // Are there coefficients that the form does not take?
@@ -55,19 +70,19 @@ fn write_with(kind: u64, n: u64, form: Form, coeffs: &[i64], bytes: &mut [u8]) -
     let degree = degree_of(kind, n);
     let count = coeffs.len();
     if count as u64 != degree + 1 {
-        return Written::refused(answers::RCOUNT, 0, 6);
+        return Written::refused(Refusal::RecordCount, 0, 6);
     }
     let top = heights::peak(coeffs);
     let w = least_width(top.height);
     if w == 0 {
-        return Written::refused(answers::OVER, degree, 0);
+        return Written::refused(Refusal::Over, degree, 0);
     }
     if uneven_for(kind, n, form, coeffs) {
-        return Written::refused(answers::UNEVEN, 0, 0);
+        return Written::refused(Refusal::Uneven, 0, 0);
     }
     let size = 10 + stored_of(form, count) * w;
     if bytes.len() < size {
-        return Written::refused(answers::SHORT, degree, 0);
+        return Written::refused(Refusal::Short, degree, 0);
     }
     store(kind, n, w, form, coeffs, bytes);
     Written {
@@ -84,10 +99,10 @@ pub fn write(kind: u64, n: u64, form: Form, coeffs: &[i64], bytes: &mut [u8]) ->
     ensures leaves { bytes.new ≡ write_leaves form kind n coeffs.now bytes.old }
 {
     if !answers::known_kind(kind) {
-        return Written::refused(answers::KIND, 0, 0);
+        return Written::refused(Refusal::Kind, 0, 0);
     }
     if !answers::good_index(n) {
-        return Written::refused(answers::INDEX, 0, 0);
+        return Written::refused(Refusal::Index, 0, 0);
     }
     write_with(kind, n, form, coeffs, bytes)
 }

@@ -6,7 +6,7 @@ use Rattle.chains.specs.Tested.{Tested}
 use Rattle.accumulates.proofs.chains_or_undo.Given as goal
 
 abbrev pub invariant-loop-c : goal.invariant-loop-c
-invariant-loop-c l = (l.c ≤ l.to) × Tested l.w l.d 0 l.c (length l.initial.a) l.initial.a l.a
+invariant-loop-c g l = (l.c ≤ l.to) × Tested l.w l.d 0 l.c (length l.initial.a) l.initial.a l.a
 
 abbrev pub decreases-loop-c : goal.decreases-loop-c
-decreases-loop-c l = l.to - l.c
+decreases-loop-c g l = l.to - l.c

@@ -1,14 +1,8 @@
 -- `take_wide` meets its contract: what the step tells (Tested).
-use native.Mathlib.Omega.{arith}
-use Rattle.bounded_steps.proofs.Tested.{either}
+use native.Mathlib.Nat.{le_refl}
+use Rattle.bounded_steps.proofs.Tested.{done}
 use Rattle.bounded_steps.proofs.take_wide.Goals as goal
 
-pub step_or_undo-done-requires : goal.step_or_undo-done-requires
-step_or_undo-done-requires c =
-    let p = c.requires in (p.0, omega (arith, p.1), p.3, tt)
-
-pub returns : goal.returns
-returns c =
-    let p = c in
-    rw c.larger.ensures
-    (either c.step_or_undo-done.result c.step_or_undo-done.ensures p.requires.2)
+pub returns-then-step_or_undo : goal.returns-then-step_or_undo
+returns-then-step_or_undo c =
+    rw c.max.ensures (done c.step_or_undo.ensures c.if-step_or_undo.true (le_refl _) c.requires.2)

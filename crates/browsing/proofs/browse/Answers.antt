@@ -4,4 +4,4 @@ use Rattle.browsing.specs.Browse.{told}
 use Rattle.browsing.proofs.browse.Goals as goal
 
 pub returns : goal.returns
-returns c = c.numbers_of.ensures ∙ ap told c.shown_at.ensures
+returns c = c.from.ensures ∙ ap told c.shown_at.ensures

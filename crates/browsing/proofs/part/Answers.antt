@@ -1,26 +1,20 @@
--- `part`: by where it starts and ends (Stretches).
-use mathlib.Core.Path.{sym}
-use native.Mathlib.Omega.{arith}
+-- `part`: from the smaller of the place and the length on, as many as there are.
+use Rattle.std.proofs.Common.{◌∙◌, ap, take, drop, length}
+use Rattle.std.proofs.lemmas.List.{take_min, drop_min}
 use Rattle.shelf.proofs.Alone.{tail}
-use Rattle.browsing.proofs.Stretches.{enough-left, part_past, part_end, part_within}
+use Rattle.browsing.specs.Browse.{part_of, lies}
 use Rattle.browsing.proofs.part.Goals as goal
 
-pub returns-then-shelf-start : goal.returns-then-shelf-start
-returns-then-shelf-start c = let told =
-    let a = c.args in
-    part_past a.shelf a.start a.length (omega arith) in record { part = told.0; lies = told.1 }
+pub returns-clause-part : goal.returns-clause-part
+unfolding part_of
+returns-clause-part c =
+    let shelf = c.args.shelf.now in
+    let rest = tail shelf c.min-from.result in
+    ap (take c.min-size.result) rest
+    ∙ ap (λ n. take n (drop c.min-from.result shelf)) (rw rest at c.min-size.ensures)
+    ∙ take_min c.args.length (drop c.min-from.result shelf)
+    ∙ ap (take c.args.length) (ap (λ n. drop n shelf) c.min-from.ensures ∙ drop_min c.args.start shelf)
 
-pub returns-then-rest-length : goal.returns-then-rest-length
-returns-then-rest-length c = let told =
-    let a = c.args in
-    part_end a.shelf a.start a.length (omega arith) (omega arith) in record { part = told.0; lies = told.1 }
-
-pub slice_bounds-result-end-2 : goal.slice_bounds-result-end-2
-slice_bounds-result-end-2 c =
-    let a = c.args in
-    rw (tail a.shelf.now a.start) (sym (enough-left a.shelf.now a.start a.length (omega arith)))
-
-pub returns : goal.returns
-returns c = let told =
-    let a = c.args in
-    part_within a.shelf a.start a.length (omega arith) in record { part = told.0; lies = told.1 }
+pub returns-clause-lies : goal.returns-clause-lies
+unfolding lies
+returns-clause-lies c = rw c.min-from.ensures

@@ -1,15 +1,15 @@
 -- `cascade` meets its contract: each test's code (Answering), and then `answer_in`'s. What the tests showed is named
 -- once.
 use mathlib.Core.Path.{◌≡◌, sym, ◌∙◌, ap, ap₂}
-use mathlib.Core.Bool.{true, false, ◌||◌, or-true}
+use mathlib.Core.Bool.{false, ◌||◌, or-true}
 use native.Mathlib.Omega.{arith}
-use borrow.Author.Tests.{not-true, not-false, eq-eqb, ne_eqb, le-ltb, lt-ltb}
+use borrow.Author.Tests.{eq-eqb, ne_eqb, le-ltb, lt-ltb}
 use lib.Dec.{eqb, ltb}
 use lib.ListN.{length}
 use Prim.Native.Nat.{ℕ, ◌≤◌}
 use mathlib.Core.List.{List}
-use Rattle.definitions.specs.Cascades.{total_degree, all_good}
-use Rattle.cascade.specs.Asked.{SizesAre}
+use Rattle.definitions.specs.Cascades.{total_degree}
+use Rattle.cascade.specs.Asked.{SizesOf}
 use Rattle.cascade.specs.declared.asked.Sizes.{Sizes}
 use Rattle.step_laws.specs.Machine.{below_one_lem}
 use Rattle.step_laws.specs.WorkingLimit.{read_limit}
@@ -20,14 +20,9 @@ use Rattle.cascade.proofs.cascade.Goals as goal
 few : (k : ℕ) → (k ≡ 0 → ⊥) → k ≤ 8 → (eqb k 0 || ltb 8 k) ≡ false
 few k n m = ap₂ ◌||◌ (ne_eqb k 0 n) (le-ltb 8 k m)
 
--- all of them good
-module _ {ns : List ℕ} {s : Sizes} (is : SizesAre ns s) where
-  all_good_lem : s.good ≡ true → all_good ns ≡ true
-  all_good_lem g = sym is.good ∙ g
-
-  -- the product not too long
-  short : s.good ≡ true → s.total ≤ 65535 → ltb 65535 (total_degree ns) ≡ false
-  short g m = le-ltb 65535 (total_degree ns) (omega (arith, is.total g))
+-- the product not too long
+short : {ns : List ℕ} {s : Sizes} → SizesOf ns s → s.total ≤ 65535 → ltb 65535 (total_degree ns) ≡ false
+short {ns} is m = le-ltb 65535 (total_degree ns) (omega (arith, is.total))
 
 pub returns-then-indices-eq0 : goal.returns-then-indices-eq0
 returns-then-indices-eq0 c =
@@ -48,49 +43,44 @@ returns-then-indices-gt8 c =
     ∙ or-true (eqb (length p.indices.now) 0))) in
     record { value = told.0; buf_after = told.1.0; scratch_after = told.1.1 }
 
-pub returns-then-not-sizes : goal.returns-then-not-sizes
-returns-then-not-sizes c =
-    let p = c.args in
-    let told = at_index _ _ p.buf.now p.scratch.now c.refused-then-not-sizes.ensures
-    (ask_index _ _ _ _ (few (length p.indices.now) c.if-indices-eq0.false c.if-indices-gt8.false)
-    (sym c.sizes_of-sizes.ensures.good ∙ not-true _ c.if-not-sizes.true)) in
+pub returns-in_default : goal.returns-in_default
+returns-in_default c =
+    let told = at_index _ _ c.args.buf.now c.args.scratch.now c.refused-in_default.ensures
+    (ask_index _ _ _ _ (few (length c.args.indices.now) c.if-indices-eq0.false c.if-indices-gt8.false)
+    (sym c.in_default.ensures.good)) in
     record { value = told.0; buf_after = told.1.0; scratch_after = told.1.1 }
 
 pub returns-then-sizes-gt65535 : goal.returns-then-sizes-gt65535
 returns-then-sizes-gt65535 c =
-    let p = c.args in
-    let is = c.sizes_of-sizes.ensures in
-    let g = not-false _ c.if-not-sizes.false in
-    let told = at_list _ _ p.buf.now p.scratch.now c.refused-then-sizes-gt65535.ensures
-    (ask_long _ _ _ _ (few (length p.indices.now) c.if-indices-eq0.false c.if-indices-gt8.false) (all_good_lem is g)
-    (lt-ltb 65535 (total_degree p.indices.now) (omega (arith, is.total g, c.if-sizes-gt65535.true)))) in
+    let ns = c.args.indices.now in
+    let is = c.in-Some.ensures in
+    let told = at_list _ _ c.args.buf.now c.args.scratch.now c.refused-then-sizes-gt65535.ensures
+    (ask_long _ _ _ _ (few (length ns) c.if-indices-eq0.false c.if-indices-gt8.false) (sym is.good)
+    (lt-ltb 65535 (total_degree ns) (omega (arith, is.sizes.total, c.if-sizes-gt65535.true)))) in
     record { value = told.0; buf_after = told.1.0; scratch_after = told.1.1 }
 
 pub returns-then-h-lt1 : goal.returns-then-h-lt1
 returns-then-h-lt1 c =
-    let p = c.args in
-    let is = c.sizes_of-sizes.ensures in
-    let g = not-false _ c.if-not-sizes.false in
-    let told = at_limit _ _ p.buf.now p.scratch.now c.refused-then-h-lt1.ensures
-    (ask_limit _ _ _ _ (few (length p.indices.now) c.if-indices-eq0.false c.if-indices-gt8.false) (all_good_lem is g)
-    (short is g c.if-sizes-gt65535.false) (below_one_lem p.h c.ranges.h c.if-h-lt1.true)) in
+    let ns = c.args.indices.now in
+    let is = c.in-Some.ensures in
+    let told = at_limit _ _ c.args.buf.now c.args.scratch.now c.refused-then-h-lt1.ensures
+    (ask_limit _ _ _ _ (few (length ns) c.if-indices-eq0.false c.if-indices-gt8.false) (sym is.good)
+    (short is.sizes c.if-sizes-gt65535.false) (below_one_lem c.args.h c.ranges.h c.if-h-lt1.true)) in
     record { value = told.0; buf_after = told.1.0; scratch_after = told.1.1 }
 
 pub answer_in-requires : goal.answer_in-requires
 answer_in-requires c =
-    let p = c.args in
-    let is = c.sizes_of-sizes.ensures in
-    let g = not-false _ c.if-not-sizes.false in (
-      is,
+    let is = c.in-Some.ensures in (
+      is.sizes,
       record {
-        few = few (length p.indices.now) c.if-indices-eq0.false c.if-indices-gt8.false;
-        good = all_good_lem is g;
-        short = short is g c.if-sizes-gt65535.false;
-        limit = (read_limit p.h c.ranges.h (below_one_lem p.h c.ranges.h c.if-h-lt1.false) c.magnitude.ensures).2.0;
+        few = few (length c.args.indices.now) c.if-indices-eq0.false c.if-indices-gt8.false;
+        good = sym is.good;
+        short = short is.sizes c.if-sizes-gt65535.false;
+        limit = (read_limit c.args.h c.ranges.h (below_one_lem c.args.h c.ranges.h c.if-h-lt1.false) c.unsigned_abs.ensures.value).2.0;
       },
     )
 
 pub returns : goal.returns
 returns c =
-    let h = read_limit c.args.h c.ranges.h (below_one_lem c.args.h c.ranges.h c.if-h-lt1.false) c.magnitude.ensures in
+    let h = read_limit c.args.h c.ranges.h (below_one_lem c.args.h c.ranges.h c.if-h-lt1.false) c.unsigned_abs.ensures.value in
     rw h.1 at c.answer_in.ensures

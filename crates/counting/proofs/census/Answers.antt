@@ -27,10 +27,6 @@ returns-then-work-lt-USED c =
     let r = too_short a.a a.b a.rows.now a.work.now (good e) (omega arith) in
     record { answer = c.refused-then-work-lt-USED.ensures ∙ sym r.0; leaves = sym r.1; clears = sym r.2 }
 
-pub slice_bounds-census_in-end-2 : goal.slice_bounds-census_in-end-2
-slice_bounds-census_in-end-2 c =
-    sym (length-take-le 4096 c.args.work.now (omega arith))
-
 pub census_in-requires : goal.census_in-requires
 census_in-requires c =
     let e = (goal.at.census_in-requires c).Else-not-good_range in

@@ -1,50 +1,12 @@
 -- `census_in`: the heights of all indices stand in their entries, the rows are laid out from them, and all is cleared
 -- (Codes).
-use mathlib.Core.Path.{◌≡◌, sym, ◌∙◌, ap}
-use native.Mathlib.Omega.{arith}
-use lib.ListN.{length}
-use borrow.Author.Tests.{not-true, not-false}
+use Rattle.std.proofs.Common.{◌≡◌, ◌+◌, ◌-◌, length, take, drop, sym, ◌∙◌, ap}
 use Rattle.definitions.specs.Codes.{DONE}
-use Rattle.definitions.specs.Requests.{zeros}
 use Rattle.counting.specs.declared.Counted.{Counted}
-use Rattle.counting.specs.Census.{census}
-use Rattle.counting.specs.Passes.{LaidIs}
+use Rattle.counting.specs.Census.{census, rows_of, indices}
 use Rattle.counting.proofs.Codes.{range_good, heights_are, rows_are, not_fit, fits_all}
-use borrow.Author.Rules.{rules}
 use Rattle.counting.proofs.census_in.Goals as goal
-use Rattle.counting.proofs.census_in.Goals.{After-fill-additions, After-lay_rows-laid, Start}
-
-pub fill-additions-requires : goal.fill-additions-requires
-fill-additions-requires c =
-    let s = c in
-    let g = range_good _ _ s.requires.0 in
-    (g.0, g.1, g.2, omega (arith, g.2, s.requires.1))
-
-pub overflow_add-b : goal.overflow_add-b
-overflow_add-b c =
-    let s = c in
-    record { fits = omega (arith, (range_good _ _ s.requires.0).2) }
-
-pub offset_bounds-work-a : goal.offset_bounds-work-a
-offset_bounds-work-a c =
-    let s = c in
-    let g = range_good _ _ s.requires.0 in
-    record { fits = omega (arith, g.1, g.2) }
-
-pub slice_bounds-lay_rows-count : goal.slice_bounds-lay_rows-count
-slice_bounds-lay_rows-count c =
-    let s = c in
-    omega (arith, (range_good _ _ s.requires.0).1)
-
-pub slice_bounds-lay_rows-start : goal.slice_bounds-lay_rows-start
-slice_bounds-lay_rows-start c =
-    let g = range_good _ _ c.requires.0 in
-    search (rules, g.0, g.1, g.2, c.requires.1, c.fill-additions.ensures.work_len_unchanged)
-
-pub slice_bounds-lay_rows-end : goal.slice_bounds-lay_rows-end
-slice_bounds-lay_rows-end c =
-    let g = range_good _ _ c.requires.0 in
-    search (rules, g.0, g.1, g.2, c.requires.1, c.fill-additions.ensures.work_len_unchanged)
+use Rattle.counting.proofs.census_in.Goals.{After-fill-additions}
 
 pub lay_rows-laid-requires : goal.lay_rows-laid-requires
 lay_rows-laid-requires c =
@@ -52,28 +14,32 @@ lay_rows-laid-requires c =
     heights_are _ _ _ g.0 g.1 g.2 (c.fill-additions.ensures.work_len_unchanged ∙ c.requires.1)
     c.fill-additions.ensures.work_after
 
--- the rows, as they were laid out
-module _ (y : After-lay_rows-laid) where
-  laid : LaidIs (census y.args.a y.args.b) y.args.rows.now y.lay_rows-laid.new.rows y.lay_rows-laid.result
-  laid =
-      let g = range_good _ _ y.requires.0 in
-      let e = rows_are y.args.a y.args.b y.fill-additions.new.work g.0 g.1 g.2
-      (y.fill-additions.ensures.work_len_unchanged ∙ y.requires.1) in
-      rw e at y.lay_rows-laid.ensures
+-- the rows of the entries from a to b are the census
+rows : (c : After-fill-additions) → rows_of (indices c.args.a (length (take (c.args.b + 1 - c.args.a)
+    (drop c.args.a c.fill-additions.new.work)))) ≡ census c.args.a c.args.b
+rows c =
+    let g = range_good _ _ c.requires.0 in
+    rows_are c.args.a c.args.b c.fill-additions.new.work g.0 g.1 g.2
+    (c.fill-additions.ensures.work_len_unchanged ∙ c.requires.1)
 
-  zeroed : zeros (length y.fill-additions.new.work) ≡ zeros 4096
-  zeroed = ap zeros (y.fill-additions.ensures.work_len_unchanged ∙ y.requires.1)
+pub returns-in_default-clause-value : goal.returns-in_default-clause-value
+returns-in_default-clause-value c =
+    let e = rows (goal.at.returns-in_default-clause-value c).After-fill-additions in
+    c.refused.ensures ∙ sym (not_fit _ _ c.requires.0 _ _ (rw e at c.in_default.ensures)).0
 
-pub returns-then-not-laid : goal.returns-then-not-laid
-returns-then-not-laid c =
-    let y = (goal.at.returns-then-not-laid c).After-lay_rows-laid in
-    let r = not_fit _ _ c.requires.0 _ _ _ (laid y) (not-true c.lay_rows-laid.result.fit c.if-not-laid.true) in
-    record { value = c.refused.ensures ∙ sym r.0; rows_after = r.1; work_after = c.clear.ensures ∙ zeroed y }
+pub returns-in_default-clause-rows_after : goal.returns-in_default-clause-rows_after
+returns-in_default-clause-rows_after c =
+    let e = rows (goal.at.returns-in_default-clause-rows_after c).After-fill-additions in
+    (not_fit _ _ c.requires.0 _ _ (rw e at c.in_default.ensures)).1
 
-pub returns : goal.returns
-returns c =
-    let y = (goal.at.returns c).After-lay_rows-laid in
-    let r = fits_all _ _ c.requires.0 _ _ _ (laid y) (not-false c.lay_rows-laid.result.fit c.if-not-laid.false) in
-    let told = ap {B = Counted} (λ n. record { code = DONE; rows = c.lay_rows-laid.result.count; additions = n })
+pub returns-clause-value : goal.returns-clause-value
+returns-clause-value c =
+    let e = rows (goal.at.returns-clause-value c).After-fill-additions in
+    let told = ap {B = Counted} (λ n. record { code = DONE; rows = c.in-Some.count; additions = n })
     c.fill-additions.ensures.value in
-    record { value = told ∙ sym r.0; rows_after = r.1; work_after = c.clear.ensures ∙ zeroed y }
+    told ∙ sym (fits_all _ _ c.requires.0 _ _ c.in-Some.count (rw e at c.in-Some.ensures)).0
+
+pub returns-clause-rows_after : goal.returns-clause-rows_after
+returns-clause-rows_after c =
+    let e = rows (goal.at.returns-clause-rows_after c).After-fill-additions in
+    (fits_all _ _ c.requires.0 _ _ c.in-Some.count (rw e at c.in-Some.ensures)).1

@@ -17,12 +17,7 @@ use Rattle.digit_sums.proofs.place_sum.Goals as goal
 use Rattle.digit_sums.proofs.place_sum.Goals.{After-digit_sum, At-loop-a}
 
 pub loop-a-init : goal.loop-a-init
-loop-a-init c =
-    let a = c.args in
-    (omega arith, sym (place_none (entries a.f.now) (entries a.b.now) a.i a.k), omega arith)
-
-pub digit_sum-requires : goal.digit_sum-requires
-digit_sum-requires c = (c.requires.0, c.requires.1)
+loop-a-init c = (sym (place_none (entries c.args.f.now) (entries c.args.b.now) c.args.i c.args.k), omega arith)
 
 -- one sum more
 module _ (c : After-digit_sum) where
@@ -41,31 +36,35 @@ module _ (c : After-digit_sum) where
   one_seen = handed (small_fits one (omega (arith, one_small))) c.digit_sum.ensures.0
 
   both_small : nat_abs (to_z w64 at.loop-a.s-bits ⊕ one) ≤ (at.loop-a.a + 1) * 1152921504606846976
-  both_small = omega (arith, abs_⊕ (to_z w64 at.loop-a.s-bits) one, at.loop-a.invariant.2, one_small)
+  both_small = omega (arith, abs_⊕ (to_z w64 at.loop-a.s-bits) one, at.loop-a.invariant.1, one_small)
 
   next : SFits w64 (to_z w64 at.loop-a.s-bits ⊕ one)
   next = small_fits _ (omega (arith, both_small, at.requires.2, c.loop-a-test.true))
+
+  sum-more :
+      {s : ℤ} → s ≡ to_z w64 at.loop-a.s-bits ⊕ seen c.digit_sum.result
+      → (seen s ≡ place_to (entries at.args.f.now) (entries at.args.b.now) at.args.i at.args.k (at.loop-a.a + 1))
+      × (nat_abs (seen s) ≤ (at.loop-a.a + 1) * 1152921504606846976)
+  sum-more e =
+      let a = at.args in
+      let is = handed next (e ∙ ap (λ n. to_z w64 at.loop-a.s-bits ⊕ n) one_seen) in (
+        is ∙ ap (λ n. n ⊕ one) at.loop-a.invariant.0
+            ∙ sym (place_more (entries a.f.now) (entries a.b.now) a.i a.k at.loop-a.a),
+        rw is both_small,
+      )
 
 pub plus-s-requires : goal.plus-s-requires
 plus-s-requires c = rw (one_seen (goal.at.plus-s-requires c).After-digit_sum) (next (goal.at.plus-s-requires c).After-digit_sum)
 
 pub loop-a-preserved : goal.loop-a-preserved
-loop-a-preserved c =
-    let q = (goal.at.loop-a-preserved c).After-digit_sum in
-    let a = (at q).args in
-    let is : seen c.plus-s.result ≡ to_z w64 (at q).loop-a.s-bits ⊕ one q =
-    handed (next q) (c.plus-s.ensures ∙ ap (λ n. to_z w64 (at q).loop-a.s-bits ⊕ n) (one_seen q)) in (
-      omega arith,
-      is ∙ ap (λ n. n ⊕ one q) (at q).loop-a.invariant.1
-          ∙ sym (place_more (entries a.f.now) (entries a.b.now) a.i a.k (at q).loop-a.a),
-      rw is (both_small q),
-    )
+loop-a-preserved c = sum-more (goal.at.loop-a-preserved c).After-digit_sum c.plus-s.ensures
 
-pub returns : goal.returns
-returns c =
+pub returns-2 : goal.returns-2
+returns-2 c =
     let l = c.loop-a in
-    let a = c.args in
-    let same : l.a ≡ a.k + 1 = omega arith in (
-      l.invariant.1 ∙ ap (place_to (entries a.f.now) (entries a.b.now) a.i a.k) (same ∙ add-one a.k),
-      omega (arith, l.invariant.2, c.requires.2),
+    let (is, small) = sum-more (goal.at.returns-2 c).After-digit_sum c.plus-s.ensures in
+    let last : l.a ≡ c.args.k = omega arith in (
+      is ∙ ap (place_to (entries c.args.f.now) (entries c.args.b.now) c.args.i c.args.k)
+          (ap (λ n. n + 1) last ∙ add-one c.args.k),
+      omega (arith, small, last, c.requires.2),
     )

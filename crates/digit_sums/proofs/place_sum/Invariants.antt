@@ -1,5 +1,5 @@
 -- `place_sum`: the sums of products of the digits a and k - a, one after the other.
-use Prim.Native.Nat.{◌+◌, ◌*◌, ◌-◌, ◌≤◌}
+use Prim.Native.Nat.{◌*◌, ◌≤◌}
 use mathlib.Core.Path.{◌≡◌}
 use lib.IntN.{nat_abs}
 use Rattle.definitions.specs.Steps.{entries}
@@ -8,7 +8,4 @@ use Rattle.digit_sums.proofs.place_sum.Given as goal
 
 abbrev pub invariant-loop-a : goal.invariant-loop-a
 invariant-loop-a l =
-    (l.a ≤ l.k + 1) × (l.s ≡ place_to (entries l.f) (entries l.b) l.i l.k l.a) × (nat_abs l.s ≤ l.a * 1152921504606846976)
-
-abbrev pub decreases-loop-a : goal.decreases-loop-a
-decreases-loop-a l = l.k + 1 - l.a
+    (l.s ≡ place_to (entries l.f) (entries l.b) l.i l.k l.a) × (nat_abs l.s ≤ l.a * 1152921504606846976)

@@ -1,34 +1,19 @@
--- `digits::digits_at` meets its contract. The loop's invariant: the digits at `place` are those passed and those
--- at i.
-use mathlib.Core.Path.{sym, ◌∙◌}
-use native.Mathlib.Omega.{arith}
-use Rattle.digits.proofs.Digits.{none_past, none_here, one_here}
+-- `digits::digits_at` meets its contract: the digits that a text starts with are counted.
+use Rattle.std.proofs.Common.{◌∙◌, drop, rules, tests}
+use Rattle.std.proofs.lemmas.Iterator.{YieldsList-from_slice}
+use Rattle.std.proofs.lemmas.Iterator.Consumers.{count_from_yields_List}
+use Rattle.std.proofs.lemmas.Iterator.Search.{YieldsList-from_take_while}
+use Rattle.std.proofs.lemmas.List.Folds.{length-prefix_len}
+use Rattle.std.specs.Char.{is_ascii_digit}
+use Rattle.digits.specs.Digits.{digits_at}
+use Rattle.digits.proofs.Digits.{counted}
 use Rattle.digits.proofs.digits_at.Goals as goal
 
-pub returns-then-line-place : goal.returns-then-line-place
-returns-then-line-place c = sym (none_past _ _ c.if-line-place.true)
-
-pub loop-i-init : goal.loop-i-init
-loop-i-init c = (omega arith, omega arith, omega arith)
-
-pub returns-then-not-is_digit : goal.returns-then-not-is_digit
-returns-then-not-is_digit c =
-    let t = c in
-    omega (
-      arith,
-      none_here t.args.line.now t.loop-i.i
-          c.loop-i-test.true (sym c.is_digit.ensures
-          ∙ c.if-not-is_digit.true),
-    )
-
-pub loop-i-preserved : goal.loop-i-preserved
-loop-i-preserved c =
-    let t = c in
-    let e = one_here t.args.line.now t.loop-i.i
-    c.loop-i-test.true (sym c.is_digit.ensures
-    ∙ c.if-not-is_digit.false) in
-    (omega arith, omega arith, omega arith)
-
 pub returns : goal.returns
+unfolding digits_at
 returns c =
-    omega (arith, none_past c.args.line.now c.loop-i.i (omega arith))
+    let text = c.from_place.result.now in
+    count_from_yields_List c.take_while.result _ c.count.ensures.ran
+    (YieldsList-from_take_while _ is_ascii_digit (YieldsList-from_slice text (cc)) c.take_while.ensures.closure
+    c.take_while.ensures.done (λ x b q k. search (rules, tests)))
+    ∙ length-prefix_len is_ascii_digit text ∙ rw c.from_place.ensures (counted (drop c.args.place c.args.line.now))

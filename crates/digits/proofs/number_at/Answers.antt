@@ -1,73 +1,68 @@
--- `digits::number_at` meets its contract. The loop's invariant: the number is v followed by the digits that are
--- left, and v has i digits.
-use mathlib.Core.Path.{◌≡◌, refl, sym, ◌∙◌}
-use native.Mathlib.Nat.{add-zero}
-use Prim.Native.Nat.{◌+◌, ◌<◌, ◌≤◌}
-use native.Mathlib.Omega.{arith}
-use lib.ListN.{get_or}
-use Rattle.digits.specs.Digits.{number_at, value_of, digits_at}
-use Rattle.digits.proofs.Digits.{value-one, value_none, inside, is_digit_here, one_here, digit_range, small}
-use Rattle.digits.proofs.Digits.{digit_more}
+-- `digits::number_at` meets its contract: each turn takes one digit more.
+use Rattle.std.proofs.Common.{◌≡◌, ℕ, List, ◌≤◌, ◌<◌, length, get_or, take, drop, refl, sym, ◌∙◌, ap, arith, add-one, take_all}
+use Rattle.std.proofs.Math.Seq.{take-suc}
+use native.Mathlib.Nat.{pow-suc}
+use Rattle.digits.specs.Digits.{digits, digits_at, number_at, value_of, value_from}
+use Rattle.digits.proofs.Digits.{front, digit_range, value-more, small}
 use Rattle.digits.proofs.number_at.Goals as goal
-use Rattle.digits.proofs.number_at.Goals.{In-loop-i}
+use Rattle.digits.proofs.number_at.Goals.{In-loop-b}
 
--- a digit stands at place + i
-here : (c : In-loop-i)
-    → 0 < digits_at c.args.line.now (c.args.place + c.loop-i.i)
-here c = omega arith
+-- what is gone through are the digits at the place
+passed_over : (line text : List ℕ) (place count : ℕ) → text ≡ drop place line → count ≡ digits_at line place
+    → (take count text ≡ digits (drop place line)) × (count ≡ length (take count text))
+unfolding digits_at
+passed_over line text place count e k = let all : take count text ≡ digits (drop place line) = rw (e, k) (front (drop place line)) in
+    (all, k ∙ sym (ap length all))
 
-range : (c : In-loop-i)
-    → (48 ≤ get_or c.args.line.now (c.args.place + c.loop-i.i) 0)
-    × (get_or c.args.line.now (c.args.place + c.loop-i.i) 0 ≤ 57)
-range c = digit_range _
-    (is_digit_here c.args.line.now (c.args.place + c.loop-i.i) (here c))
+pub slice_bounds-b-items-end : goal.slice_bounds-b-items-end
+slice_bounds-b-items-end c = (passed_over _ _ _ _ c.from_place.ensures c.requires.0).1
 
-below : (c : In-loop-i) → c.loop-i.v < 100000000
-below c = small c.loop-i.v c.loop-i.i 8 c.loop-i.invariant.2
-    (omega (arith, c.requires.1))
+pub loop-b-init : goal.loop-b-init
+unfolding value_of value_from
+loop-b-init c = (refl, omega arith)
 
-pub loop-i-init : goal.loop-i-init
-unfolding number_at value_of
-loop-i-init c = rw (add-zero c.args.place) (refl, omega (arith, c.requires.0), omega arith)
+-- the next byte is a digit, and v has at most eight
+module _ (c : In-loop-b) where
+  byte : ℕ
+  byte = get_or (take c.args.count c.from_place.result.now) c.loop-b.b-index 0
+
+  digit : (48 ≤ byte) × (byte ≤ 57)
+  unfolding byte
+  digit =
+      let all = (passed_over _ _ _ _ c.from_place.ensures c.requires.0).0 in
+      rw all (digit_range (drop c.args.place c.args.line.now) c.loop-b.b-index (rw all at c.loop-b-test.true))
+
+  below : c.loop-b.v < 100000000
+  below = small c.loop-b.v c.loop-b.b-index 8 c.loop-b.invariant.1 (omega (arith, c.requires.1, (passed_over _ _ _ _ c.from_place.ensures c.requires.0).1))
 
 pub overflow_mul-v : goal.overflow_mul-v
-overflow_mul-v c = omega (arith, below (goal.at.overflow_mul-v c).In-loop-i)
+overflow_mul-v c = omega (arith, below c)
+
+pub overflow_sub-b : goal.overflow_sub-b
+unfolding byte
+overflow_sub-b c = (digit (goal.at.overflow_sub-b c).In-loop-b).0
 
 pub overflow_add-v : goal.overflow_add-v
-overflow_add-v c = omega (
-  arith,
-  inside c.args.line.now (c.args.place + c.loop-i.i) (here (goal.at.overflow_add-v c).In-loop-i),
-)
+unfolding byte
+overflow_add-v c =
+    let t = (goal.at.overflow_add-v c).In-loop-b in
+    omega (arith, (digit t).1, below t, c.from.ensures)
 
-pub bounds-line-place : goal.bounds-line-place
-bounds-line-place c = inside _ _ (here (goal.at.bounds-line-place c).In-loop-i)
-
-pub overflow_sub-v : goal.overflow_sub-v
-overflow_sub-v c = (range (goal.at.overflow_sub-v c).In-loop-i).0
-
-pub overflow_cast-v : goal.overflow_cast-v
-overflow_cast-v c = omega (arith, (range (goal.at.overflow_cast-v c).In-loop-i).1)
-
-pub overflow_add-v-in-loop-i : goal.overflow_add-v-in-loop-i
-overflow_add-v-in-loop-i c = omega (arith, (range (goal.at.overflow_add-v-in-loop-i c).In-loop-i).1, below (goal.at.overflow_add-v-in-loop-i c).In-loop-i)
-
-pub loop-i-preserved : goal.loop-i-preserved
-loop-i-preserved c =
-    let t = c in
-    let l = t.args.line.now in
-    let k = t.args.place + t.loop-i.i in
-    let next : t.args.place + (t.loop-i.i + 1) ≡ k + 1 = omega arith in
-    let e = one_here l k (inside l k (here (goal.at.loop-i-preserved c).In-loop-i)) (is_digit_here l k (here (goal.at.loop-i-preserved c).In-loop-i)) in
-    rw next (
-      t.loop-i.invariant.0 ∙ value-one l k t.loop-i.v (here (goal.at.loop-i-preserved c).In-loop-i),
-      omega arith,
-      digit_more t.loop-i.v t.loop-i.i _ t.loop-i.invariant.2 (omega (arith, (range (goal.at.loop-i-preserved c).In-loop-i).1)),
+pub loop-b-preserved : goal.loop-b-preserved
+unfolding value_of byte
+loop-b-preserved c =
+    let t = (goal.at.loop-b-preserved c).In-loop-b in
+    let ds = take c.args.count c.from_place.result.now in
+    let i = c.loop-b.b-index in
+    let h : i < length ds = c.loop-b-test.true in (
+      rw (c.from.ensures, add-one, take-suc ds i 0, value-more 0 (take i ds) (get_or ds i 0), ← c.loop-b.invariant.0),
+      rw add-one (omega (arith, pow-suc 10 i, (digit t).1, c.from.ensures, c.loop-b.invariant.1)),
     )
 
 pub returns : goal.returns
+unfolding number_at
 returns c =
-    let t = c in (
-      sym (t.loop-i.invariant.0 ∙ value_none t.args.line.now (t.args.place + t.loop-i.i) t.loop-i.v
-          (omega arith)),
-      small t.loop-i.v t.loop-i.i 9 t.loop-i.invariant.2 (omega (arith, t.requires.1)),
+    let (all, long) = passed_over _ _ _ _ c.from_place.ensures c.requires.0 in (
+      c.loop-b.invariant.0 ∙ ap value_of (take_all c.loop-b.b-index _ c.loop-b-test.false ∙ all),
+      small c.loop-b.v c.loop-b.b-index 9 c.loop-b.invariant.1 (omega (arith, c.requires.1, long)),
     )

@@ -4,6 +4,3 @@ use Rattle.exact_products.proofs.multiply.Given as goal
 
 abbrev pub invariant-loop-i : goal.invariant-loop-i
 invariant-loop-i l = Made l.f l.initial.b l.b l.i
-
-abbrev pub decreases-loop-i : goal.decreases-loop-i
-decreases-loop-i l = l.i

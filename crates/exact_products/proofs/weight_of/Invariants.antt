@@ -1,13 +1,9 @@
--- `weight_of`: the weight of the entries passed is below 2^63, or it stops.
-use Prim.Native.Nat.{◌-◌, ◌≤◌, ◌<◌}
+-- `weight_of`: the weight of the entries passed, or the largest machine number.
+use Prim.Native.Nat.{◌-◌, ◌^◌, min}
 use mathlib.Core.Path.{◌≡◌}
-use lib.ListN.{length}
 use Rattle.definitions.specs.Steps.{entries}
 use Rattle.light_sums.specs.Weight.{weight_to}
 use Rattle.exact_products.proofs.weight_of.Given as goal
 
-abbrev pub invariant-loop-i : goal.invariant-loop-i
-invariant-loop-i l = (l.i ≤ length l.f) × (l.w ≡ weight_to (entries l.f) l.i) × (l.w < 9223372036854775808)
-
-abbrev pub decreases-loop-i : goal.decreases-loop-i
-decreases-loop-i l = length l.f - l.i
+abbrev pub invariant-loop-x : goal.invariant-loop-x
+invariant-loop-x l = l.w ≡ min (weight_to (entries l.f) l.x-index) (2 ^ 64 - 1)

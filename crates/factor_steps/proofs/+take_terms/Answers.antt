@@ -6,30 +6,26 @@ use Rattle.factor_steps.specs.Multiplied.{step_multiplies, both_multiply, multip
 use Rattle.factor_steps.proofs.Recursion.{terms-none, terms_more, due_larger, larger_small, due_same}
 use Rattle.factor_steps.proofs.+take_terms.Goals as goal
 
-pub returns-then-k-eq0 : goal.returns-then-k-eq0
-returns-then-k-eq0 t c =
+pub returns-in_default : goal.returns-in_default
+returns-in_default t c =
     let q = c.args in
-    multiplied_as (terms-none q.primes q.k q.s (sort_means q.sort) c.if-k-eq0.true)
+    multiplied_as (terms-none q.primes.now q.s (sort_means q.sort) c.in_default.ensures.cases)
     (step_multiplies (sort_means q.sort) q.s c.requires.size _ _ c.wrapped_step.ensures)
 
-pub overflow_mul-larger : goal.overflow_mul-larger
-overflow_mul-larger t c =
-    let q = c.args in
-    let small = larger_small q.primes q.k q.s c.if-k-eq0.false c.requires in
-    omega arith
+pub overflow_mul-s : goal.overflow_mul-s
+overflow_mul-s t c = omega (arith, larger_small _ _ _ c.args.s c.in-Some.ensures.cases c.requires)
 
 pub take_terms-requires : goal.take_terms-requires
 take_terms-requires t c =
-    let q = c.args in
-    (omega (arith, c.decreases), due_larger q.primes q.k q.s c.if-k-eq0.false c.requires)
+    let cut = c.in-Some.ensures.cases in
+    (omega (arith, c.decreases, cut.1), due_larger _ _ _ c.args.s cut c.requires)
 
 pub take_terms-requires-2 : goal.take_terms-requires-2
 take_terms-requires-2 t c =
-    let q = c.args in
-    (omega (arith, c.decreases), due_same q.primes q.k q.s c.if-k-eq0.false c.requires)
+    let cut = c.in-Some.ensures.cases in
+    (omega (arith, c.decreases, cut.1), due_same _ _ _ c.args.s cut c.requires)
 
 pub returns : goal.returns
 returns t c =
-    let q = c.args in
-    multiplied_as (terms_more q.primes q.k q.s (sort_means q.sort) c.if-k-eq0.false)
+    multiplied_as (terms_more _ _ _ c.args.s c.in-Some.ensures.cases (sort_means c.args.sort))
     (both_multiply c.take_terms.ensures (rw c.turned.ensures at c.take_terms-2.ensures))

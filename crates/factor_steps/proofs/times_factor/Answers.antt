@@ -1,42 +1,42 @@
 -- `factor_steps::times_factor` meets its contract: the terms that are taken make F(n).
 use native.Mathlib.Omega.{arith}
+use mathlib.Core.Path.{◌∙◌, ap₂}
+use Rattle.definitions.specs.Series.{◌·◌}
 use Rattle.factor_steps.specs.Multiplied.{both_multiply, multiplied_as, due_small}
-use Rattle.factor_steps.proofs.OfParts.{even_larger, even_same, even_terms, odd_same, odd_terms}
+use Rattle.factor_steps.proofs.OfParts.{count_few, even_larger, even_same, even_terms, odd_same, odd_terms}
+use Rattle.factor_steps.proofs.Recursion.{due_front, terms-front}
 use Rattle.factor_steps.proofs.times_factor.Goals as goal
 
-pub overflow_mul-t : goal.overflow_mul-t
-overflow_mul-t c =
-    let q = c in
-    let d = even_larger q.args.parts q.args.n q.requires.0 q.requires.1 c.if-n-eq0.true in
-    omega (arith, due_small _ _ _ d)
+pub shared_ref_as_front-primes : goal.shared_ref_as_front-primes
+shared_ref_as_front-primes c = let few = count_few c.args.parts c.args.n c.requires.0 c.requires.1 in omega arith
+
+pub overflow_mul-parts : goal.overflow_mul-parts
+overflow_mul-parts c = omega (arith, due_small _ _ _ (even_larger c.args.parts c.args.n c.requires.0 c.requires.1 c.if-n-eq0.true))
 
 pub take_terms-requires : goal.take_terms-requires
 take_terms-requires c =
-    let q = c in
-    even_larger q.args.parts q.args.n q.requires.0 q.requires.1 c.if-n-eq0.true
+    let few = count_few c.args.parts c.args.n c.requires.0 c.requires.1 in
+    due_front _ _ _ (omega arith) (even_larger c.args.parts c.args.n c.requires.0 c.requires.1 c.if-n-eq0.true)
 
 pub take_terms-requires-then-n-eq0 : goal.take_terms-requires-then-n-eq0
 take_terms-requires-then-n-eq0 c =
-    let e = c in
-    let q = c in
-    even_same q.args.parts q.args.n q.requires.0 q.requires.1 e.if-n-eq0.true
+    let few = count_few c.args.parts c.args.n c.requires.0 c.requires.1 in
+    due_front _ _ _ (omega arith) (even_same c.args.parts c.args.n c.requires.0 c.requires.1 c.if-n-eq0.true)
 
 pub returns-then-n-eq0 : goal.returns-then-n-eq0
 returns-then-n-eq0 c =
-    let first = c in
-    let e = c in
-    let q = c in
-    multiplied_as (even_terms q.args.parts q.args.n q.requires.0 q.requires.1 e.if-n-eq0.true)
-    (both_multiply first.take_terms.ensures c.take_terms-then-n-eq0.ensures)
+    let few = count_few c.args.parts c.args.n c.requires.0 c.requires.1 in
+    multiplied_as (ap₂ ◌·◌ (terms-front _ _ _ (omega arith) _) (terms-front _ _ _ (omega arith) _)
+    ∙ even_terms c.args.parts c.args.n c.requires.0 c.requires.1 c.if-n-eq0.true)
+    (both_multiply c.take_terms.ensures c.take_terms-then-n-eq0.ensures)
 
 pub take_terms-requires-2 : goal.take_terms-requires-2
 take_terms-requires-2 c =
-    let q = c in
-    odd_same q.args.parts q.args.n q.requires.0 q.requires.1 c.if-n-eq0.false
+    let few = count_few c.args.parts c.args.n c.requires.0 c.requires.1 in
+    due_front _ _ _ (omega arith) (odd_same c.args.parts c.args.n c.requires.0 c.requires.1 c.if-n-eq0.false)
 
 pub returns : goal.returns
 returns c =
-    let e = c in
-    let q = c in
-    multiplied_as (odd_terms q.args.parts q.args.n q.requires.0 q.requires.1 e.if-n-eq0.false q.requires.2)
+    let few = count_few c.args.parts c.args.n c.requires.0 c.requires.1 in
+    multiplied_as (terms-front _ _ _ (omega arith) _ ∙ odd_terms c.args.parts c.args.n c.requires.0 c.requires.1 c.if-n-eq0.false c.requires.2)
     c.take_terms-2.ensures

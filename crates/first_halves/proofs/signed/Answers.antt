@@ -1,10 +1,7 @@
--- `signed`: as they are, or alternated.
-use mathlib.Core.Path.{sym}
+-- `signed`: as they are, where the index is odd.
+use Rattle.std.proofs.Common.{sym}
 use Rattle.step_laws.specs.Firsts.{firsts-entries}
 use Rattle.first_halves.proofs.signed.Goals as goal
 
-pub returns-then-even : goal.returns-then-even
-returns-then-even c = rw c.if-even.true c.alternate.ensures
-
-pub returns : goal.returns
-returns c = rw c.if-even.false (sym (firsts-entries c.args.a.now))
+pub returns-else-even : goal.returns-else-even
+returns-else-even c = rw c.if-even.false (sym (firsts-entries c.args.a.now))

@@ -1,44 +1,37 @@
 -- `image_of`: each arm by its own width, the last by the only one left (Least), and what is not negated is as it was.
-use Rattle.std.proofs.Common.{◌≡◌, ℕ, ◌+◌, ◌*◌, ◌^◌, ◌<◌, true, sym, arith}
+use Rattle.std.proofs.Common.{◌≡◌, ℕ, ◌+◌, ◌*◌, ◌^◌, ◌<◌, Bool, true, sym, arith}
 use Rattle.definitions.specs.Halves.{image}
 use Rattle.widths.specs.Numbers.{twos, signed_of}
 use Rattle.widths.proofs.Digits.{twos-signed}
 use Rattle.widths.proofs.Least.{width_last}
 use Rattle.half_passes.proofs.Images.{negated_is}
 use Rattle.half_passes.proofs.image_of.Goals as goal
-use Rattle.half_passes.proofs.image_of.Goals.{Start}
 
 -- negated, at the width u
-module _ (start : Start) (u r : ℕ) (at : start.args.w ≡ u) (negated : start.args.negate ≡ true) where
-  negative : (start.args.v < 2 ^ (8 * u)
-      → (start.args.v ≡ 0 → r ≡ 0) × (0 < start.args.v → r + start.args.v ≡ 2 ^ (8 * u)))
-      → r ≡ twos start.args.w (image start.args.negate (signed_of start.args.w start.args.v))
-  negative adds =
-      let small : start.args.v < 2 ^ (8 * u) = rw at at start.requires.1 in
-      rw (negated, at) (negated_is u start.args.v r small (adds small).0 (adds small).1)
+negative : (w u v r : ℕ) (negate : Bool) → w ≡ u → negate ≡ true → v < 2 ^ (8 * w)
+    → (v < 2 ^ (8 * u) → (v ≡ 0 → r ≡ 0) × (0 < v → r + v ≡ 2 ^ (8 * u)))
+    → r ≡ twos w (image negate (signed_of w v))
+negative w u v r negate at on small adds =
+    let less : v < 2 ^ (8 * u) = rw at at small in
+    rw (on, at) (negated_is u v r less (adds less).0 (adds less).1)
+
+pub returns-then-not-negate : goal.returns-then-not-negate
+returns-then-not-negate g c = rw c.if-not-negate.true (sym (twos-signed g.row.W c.args.v c.requires.1))
 
 pub returns-in-1 : goal.returns-in-1
-returns-in-1 c =
-    negative (goal.at.returns-in-1 c).Start 1 _ c.in-1.is c.if-negate.true
-    (λ small. (λ z. omega arith, λ p. omega arith))
+returns-in-1 g c =
+    negative g.row.W 1 _ _ _ c.in-1.is c.if-not-negate.false c.requires.1 (λ small. (λ z. omega arith, λ p. omega arith))
 
 pub returns-in-2 : goal.returns-in-2
-returns-in-2 c =
-    negative (goal.at.returns-in-2 c).Start 2 _ c.in-2.is c.if-negate.true
-    (λ small. (λ z. omega arith, λ p. omega arith))
+returns-in-2 g c =
+    negative g.row.W 2 _ _ _ c.in-2.is c.if-not-negate.false c.requires.1 (λ small. (λ z. omega arith, λ p. omega arith))
 
 pub returns-in-4 : goal.returns-in-4
-returns-in-4 c =
-    negative (goal.at.returns-in-4 c).Start 4 _ c.in-4.is c.if-negate.true
-    (λ small. (λ z. omega arith, λ p. omega arith))
+returns-in-4 g c =
+    negative g.row.W 4 _ _ _ c.in-4.is c.if-not-negate.false c.requires.1 (λ small. (λ z. omega arith, λ p. omega arith))
 
 pub returns-in_default : goal.returns-in_default
-returns-in_default c =
-    let start = (goal.at.returns-in_default c).Start in
+returns-in_default g c =
     let r = c.in_default.in_default-own.rest in
-    negative start 8 _ (width_last start.args.w start.requires.0 r.0.0.1 r.0.1 r.1)
-    c.if-negate.true
+    negative g.row.W 8 _ _ _ (width_last g.row.W c.requires.0 r.0.0.1 r.0.1 r.1) c.if-not-negate.false c.requires.1
     (λ small. (λ z. omega arith, λ p. omega arith))
-
-pub returns-else-negate : goal.returns-else-negate
-returns-else-negate c = rw c.if-negate.false (sym (twos-signed c.args.w c.args.v c.requires.1))

@@ -1,7 +1,7 @@
 -- `number_of`: entry i stands from 10 + i * w on (Places).
 use Rattle.std.proofs.Common.{◌+◌, ◌*◌, ◌≤◌, ap, ◌∙◌, arith}
 use Rattle.widths.specs.Numbers.{signed_of}
-use Rattle.half_passes.proofs.Places.{room, entry_at}
+use Rattle.record.proofs.Passes.{room, entry_at}
 use Rattle.half_passes.proofs.number_of.Goals as goal
 use Rattle.half_passes.proofs.number_of.Goals.{Start}
 

@@ -1,82 +1,54 @@
 -- `lay_out` meets its contract: the height and the peak are those of the lower half, and by them the outcome.
-use Prim.Native.Nat.{◌+◌, ◌*◌, ◌≤◌}
-use mathlib.Core.Path.{◌≡◌, sym, ◌∙◌, ap}
-use native.Mathlib.Omega.{arith}
-use borrow.Author.Tests.{lt-ltb, le-ltb}
-use lib.Dec.{ltb}
-use lib.ListN.{length, take}
+use Rattle.std.proofs.Common.{◌≡◌, ◌+◌, ◌*◌, ◌≤◌, length, arith, sym, ◌∙◌, ap, ap₂}
+use Rattle.std.proofs.Math.Numerals.{add-one}
 use Rattle.definitions.specs.Numbers.{r_of}
+use Rattle.definitions.specs.Polynomials.{degree}
 use Rattle.definitions.specs.KeptHalf.{half_degree}
+use Rattle.definitions.specs.Requests.{zeros}
 use Rattle.definitions.specs.Answer.{height, peak}
 use Rattle.index.proofs.Laws.{parts_half}
-use Rattle.laying_out.proofs.Ending.{peak-room, half_room, part_length, top_is, laid_tall, laid_done}
+use Rattle.laying_out.specs.declared.Laid.{Laid}
+use Rattle.laying_out.proofs.Ending.{peak-room, half_room, part_length, top_is}
 use Rattle.laying_out.proofs.lay_out.Goals as goal
-use Rattle.laying_out.proofs.lay_out.Goals.{After-half_degree-half, After-peak_within-top, Start}
+use Rattle.laying_out.proofs.lay_out.Goals.{After-half_degree-half, After-peak_within-top}
 
-module _ (q : After-half_degree-half) where
-  abbrev start : Start
-  start = q.before
+module _ (c : After-half_degree-half) where
+  half_is : c.half_degree-half.result ≡ half_degree c.args.kind (r_of c.args.n)
+  half_is = parts_half c.args.n c.args.parts c.requires.0.parts c.args.kind _ c.half_degree-half.ensures
 
-  d_is : q.half_degree-half.result ≡ half_degree start.args.kind (r_of start.args.n)
-  d_is = parts_half start.args.n start.args.parts start.requires.0.parts start.args.kind _
-      q.half_degree-half.ensures
-
-  room : q.half_degree-half.result + 1 ≤ length start.args.b.now
-  room = half_room _ _ _ _ start.requires.0 _ d_is
-
-  part : length (take (q.half_degree-half.result + 1) start.args.b.now) ≡ q.half_degree-half.result + 1
-  part = part_length _ _ _ _ start.requires.0 _ d_is
+  room : c.half_degree-half.result + 1 ≤ length c.args.b.now
+  room = half_room _ _ _ _ c.requires.0 _ half_is
 
 -- after the height
-module _ (t : After-peak_within-top) where
-  abbrev at_half : After-half_degree-half
-  at_half = t.before
-
-  abbrev begin : Start
-  begin = t.before.before
-
-  high : (t.peak_within-top.result.height ≡ height begin.args.kind begin.args.n)
-      × (t.peak_within-top.result.place * begin.args.parts.t ≡ peak begin.args.kind begin.args.n)
-  high = top_is _ _ _ _ begin.requires.0 _ (d_is at_half) begin.requires.1 _ t.peak_within-top.ensures
-
-  told : ltb begin.args.h t.peak_within-top.result.height
-      ≡ ltb begin.args.h (height begin.args.kind begin.args.n)
-  told = ap (ltb begin.args.h) high.0
-
-pub overflow_add-half : goal.overflow_add-half
-overflow_add-half c = omega (arith, room (goal.at.overflow_add-half c).After-half_degree-half)
+told : (c : After-peak_within-top) → (c.peak_within-top.result.height ≡ height c.args.kind c.args.n)
+    × (c.peak_within-top.result.place * c.args.parts.t ≡ peak c.args.kind c.args.n)
+told c = top_is _ _ _ _ c.requires.0 _ (half_is c.before) c.requires.1 _ c.peak_within-top.ensures
 
 pub slice_bounds-peak_within-end : goal.slice_bounds-peak_within-end
 slice_bounds-peak_within-end c = room (goal.at.slice_bounds-peak_within-end c).After-half_degree-half
 
 pub slice_bounds-peak_within-end-2 : goal.slice_bounds-peak_within-end-2
-slice_bounds-peak_within-end-2 c = sym (part (goal.at.slice_bounds-peak_within-end-2 c).After-half_degree-half)
+slice_bounds-peak_within-end-2 c =
+    let h = (goal.at.slice_bounds-peak_within-end-2 c).After-half_degree-half in
+    sym (part_length _ _ _ _ c.requires.0 _ (half_is h))
 
 pub peak_within-top-requires : goal.peak_within-top-requires
 peak_within-top-requires c =
-    let q = (goal.at.peak_within-top-requires c).After-half_degree-half in
-    rw (d_is q) q.requires.2
+    rw (half_is (goal.at.peak_within-top-requires c).After-half_degree-half) c.requires.2
 
 pub returns-then-h-height : goal.returns-then-h-height
 returns-then-h-height c =
-    let t = (goal.at.returns-then-h-height c).After-peak_within-top in
-    let s = begin t in
-    laid_tall s.args.kind s.args.n s.args.parts s.args.b.now s.requires.0 _ _
-    (sym (told t) ∙ lt-ltb _ _ c.if-h-height.true) c.clear.ensures
-
-pub from_lower_half-requires : goal.from_lower_half-requires
-from_lower_half-requires c = let s = begin (goal.at.from_lower_half-requires c).After-peak_within-top in (s.requires.0, s.requires.1)
+    let t = told (goal.at.returns-then-h-height c).After-peak_within-top in
+    (omega (arith, t.0), c.clear.ensures ∙ ap zeros (c.requires.0.room ∙ add-one (degree c.args.kind c.args.n)))
 
 pub overflow_mul-peak : goal.overflow_mul-peak
 overflow_mul-peak c =
-    let t = (goal.at.overflow_mul-peak c).After-peak_within-top in
-    omega (arith, (high t).1, peak-room _ _ _ _ (begin t).requires.0)
+    omega (arith, (told (goal.at.overflow_mul-peak c).After-peak_within-top).1, peak-room _ _ _ _ c.requires.0)
 
 pub returns : goal.returns
 returns c =
-    let t = (goal.at.returns c).After-peak_within-top in
-    let s = begin t in
-    laid_done s.args.kind s.args.n s.args.parts s.args.b.now s.requires.0 _ _ _ _
-    (sym (told t) ∙ le-ltb _ _ c.if-h-height.false)
-    c.from_lower_half.ensures
-    (high t).0 (high t).1
+    let t = told (goal.at.returns c).After-peak_within-top in (
+      omega (arith, t.0),
+      c.from_lower_half.ensures,
+      ap₂ {C = Laid} (λ y z. record { height = y; peak = z }) t.0 t.1,
+    )

@@ -18,4 +18,4 @@ returns c =
     let p = c in
     let made = c.polynomial-made in
     first-is p.args.n p.requires.0 p.args.b.now p.requires.1 p.requires.2 made.ensures.value made.ensures.buf_after
-    c.magnitude.ensures
+    c.unsigned_abs.ensures.value

@@ -8,5 +8,5 @@ returns c =
     let p = c in
     record {
       degree = parts_phi p.args.n p.args.parts p.requires.1;
-      gain = seen-gain p.args.n p.requires.0 c.gain_of.ensures.0 c.magnitude.ensures;
+      gain = seen-gain p.args.n p.requires.0 c.gain_of.ensures.0 c.unsigned_abs.ensures.value;
     }

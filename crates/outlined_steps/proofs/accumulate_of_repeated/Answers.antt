@@ -20,10 +20,10 @@ module _ (c : Then-stays_within) where
   p = c.before.before.before
 
   abbrev all : List ℤ
-  all = outlined p.args.o p.args.a.now
+  all = outlined p.args.at.outline p.args.a.now
 
   abbrev most : ℕ
-  most = p.args.bound * c.times_added-times.result + p.args.bound
+  most = p.args.at.bound * c.times_added-times.result + p.args.at.bound
 
   inside : most ≤ p.args.w
   inside = c.stays_within.ensures c.if-stays_within.true
@@ -31,30 +31,21 @@ module _ (c : Then-stays_within) where
   none : (w : ℕ) → most ≤ w → (step_over w accumulate p.args.d all ≡ false)
       × Bounded most (entries (step_list accumulate p.args.d all))
   none =
-      grown accumulate p.args.d p.args.bound p.requires.0.size all p.requires.0.bounded
-      (ap (λ n. growth accumulate p.args.d n p.args.bound) (outlined-length p.args.o p.args.a.now)
-      ∙ c.times_added-times.ensures.1 p.args.bound)
+      grown accumulate p.args.d p.args.at.bound p.requires.0.size all p.requires.0.bounded
+      (ap (λ n. growth accumulate p.args.d n p.args.at.bound) (outlined-length p.args.at.outline p.args.a.now)
+      ∙ c.times_added-times.ensures.1 p.args.at.bound)
 
-pub overflow_mul-grown : goal.overflow_mul-grown
-overflow_mul-grown c = omega (arith, inside (goal.at.overflow_mul-grown c).Then-stays_within, (p (goal.at.overflow_mul-grown c).Then-stays_within).requires.0.good.1)
-
-pub overflow_add-grown : goal.overflow_add-grown
-overflow_add-grown c = omega (arith, inside (goal.at.overflow_add-grown c).Then-stays_within, (p (goal.at.overflow_add-grown c).Then-stays_within).requires.0.good.1)
-
-pub accumulate_repeated-requires : goal.accumulate_repeated-requires
-accumulate_repeated-requires c = let q = (goal.at.accumulate_repeated-requires c).Then-stays_within in
-    let p = p q in record {
-      le_t = (p.requires.0.told.some, p.requires.3, omega arith);
-      a_value = rw (repeats_all p.args.o p.args.a.now p.requires.1)
-          (none q largest (omega (arith, inside q, p.requires.0.good.1))).0;
-    }
+pub accumulate_repeated-requires-clause-a_value : goal.accumulate_repeated-requires-clause-a_value
+accumulate_repeated-requires-clause-a_value c =
+    let q = (goal.at.accumulate_repeated-requires-clause-a_value c).Then-stays_within in
+    rw (repeats_all c.args.at.outline c.args.a.now c.requires.1)
+    (none q largest (omega (arith, inside q, c.requires.0.good.1))).0
 
 pub returns-then-stays_within : goal.returns-then-stays_within
 returns-then-stays_within c =
     let q = (goal.at.returns-then-stays_within c).Then-stays_within in
-    let p = p q in
-    whole-step p.requires.0
-    (under p.args.w accumulate p.args.d p.args.bound (all q) (none q p.args.w (inside q))
+    whole-step c.requires.0
+    (under c.args.w accumulate c.args.d c.args.at.bound (all q) (none q c.args.w (inside q))
     (c.accumulate_repeated.ensures
-    ∙ ap (step_list accumulate p.args.d) (repeats_all p.args.o p.args.a.now p.requires.1)) (λ _. inside q))
+    ∙ ap (step_list accumulate c.args.d) (repeats_all c.args.at.outline c.args.a.now c.requires.1)) (λ _. inside q))
     refl

@@ -1,7 +1,6 @@
 -- `partial` meets its contract: each test's code (Stopping), and then `stop_at`'s. What each test showed is named once.
 use mathlib.Core.Path.{◌≡◌, sym, ◌∙◌}
 use mathlib.Core.Bool.{true}
-use mir.Facts.{to_z-of_z}
 use Rattle.definitions.specs.Requests.{known_kind, good_index}
 use Rattle.index.specs.Parts.{parts_of}
 use Rattle.index.proofs.Laws.{taken_good, parts_r}
@@ -62,9 +61,3 @@ stop_at-requires c =
       good = good t;
       above = λ e. c.if-parts-eq1.false (parts_r _ _ (apart t) ∙ e);
     }
-
-pub returns : goal.returns
-returns c = record {
-  value = rw (to_z-of_z c.ranges.w) at c.stop_at.ensures.value;
-  buf_after = rw (to_z-of_z c.ranges.w) at c.stop_at.ensures.buf_after;
-}

@@ -1,8 +1,9 @@
 -- `next_above`: nothing is above the bound; and the blocks that were passed over have no magnitude above h.
-use native.Mathlib.Nat.{le_trans}
-use native.Mathlib.Omega.{arith}
+use Rattle.std.proofs.Common.{arith}
+use Rattle.std.proofs.Math.Nat.{le_trans}
 use Rattle.definitions.specs.Steps.{entries}
-use Rattle.heights.proofs.Looks.{none_join, next_later}
+use Rattle.heights.proofs.Looks.{none_join}
+use Rattle.peaks.proofs.Blocks.{block_bounded, block_passed}
 use Rattle.peaks.proofs.next_above.Goals as goal
 
 pub returns-then-h-bound : goal.returns-then-h-bound
@@ -14,19 +15,16 @@ returns-then-h-bound c = record {
   larger = λ l. omega arith;
 }
 
-pub loop-i-init : goal.loop-i-init
-loop-i-init c = (omega arith, omega arith, record { low = λ k a b. omega arith })
-
 pub none_in_block-requires : goal.none_in_block-requires
 none_in_block-requires c =
-    let pre = c.requires in
-    (omega arith, omega arith, λ k. le_trans (pre.bounded k) pre.from_in_bounds.2)
+    let cut = c.as_chunks.ensures in
+    let low = block_bounded c.args.coeffs.now c.args.from _ _ cut.front c.loop-k.k (omega arith) c.args.bound
+    c.requires.bounded in
+    (omega arith, λ i. le_trans (low i) c.requires.from_in_bounds.2)
 
-pub loop-i-preserved : goal.loop-i-preserved
-loop-i-preserved c =
-    let loop = c.loop-i in
-    (omega arith, omega arith, none_join loop.invariant.2 (c.none_in_block.ensures c.if-none_in_block.true))
-
-pub returns : goal.returns
-returns c =
-    let loop = c.loop-i in next_later loop.invariant.0 loop.invariant.2 c.above.ensures
+pub loop-k-preserved : goal.loop-k-preserved
+loop-k-preserved c =
+    let cut = c.as_chunks.ensures in
+    none_join c.loop-k.invariant
+    (block_passed c.args.coeffs.now c.args.from _ _ cut.front c.loop-k.k (omega arith) c.args.h
+    (c.none_in_block.ensures c.if-not-none_in_block.false))

@@ -1,11 +1,7 @@
--- `next_above`: nothing is above the bound; and the blocks that were passed over have no magnitude above h.
-use Prim.Native.Nat.{◌≤◌, ◌-◌}
-use lib.ListN.{length}
+-- `next_above`: the blocks that were passed over have no magnitude above h.
+use Rattle.std.proofs.Common.{◌+◌, ◌*◌}
 use Rattle.heights.specs.Above.{NoneAbove}
 use Rattle.peaks.proofs.next_above.Given as goal
 
-abbrev pub invariant-loop-i : goal.invariant-loop-i
-invariant-loop-i l = (l.from ≤ l.i) × (l.i ≤ length l.coeffs) × NoneAbove l.h l.coeffs l.from l.i
-
-abbrev pub decreases-loop-i : goal.decreases-loop-i
-decreases-loop-i l = length l.coeffs - l.i
+abbrev pub invariant-loop-k : goal.invariant-loop-k
+invariant-loop-k l = NoneAbove l.h l.coeffs l.from (l.from + l.k * 16)

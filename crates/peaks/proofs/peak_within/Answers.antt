@@ -1,52 +1,26 @@
 -- `peak_within`: as `peak`; each magnitude that is found is an entry's, so it is within the bound.
-use mathlib.Core.Path.{◌≡◌, ap, ◌∙◌}
-use native.Mathlib.Omega.{arith}
-use lib.ListN.{get_or}
-use lib.IntN.{ℤ, nat_abs}
-use Rattle.definitions.specs.Integers.{0ℤ}
+use Rattle.std.proofs.Common.{◌≡◌, get_or, pos, nat_abs, arith, rules}
 use Rattle.definitions.specs.Steps.{entries}
 use Rattle.heights.proofs.Looks.{reached_first, reached_next, reached_end}
-use Rattle.heights.proofs.Signs.{passed}
 use Rattle.peaks.proofs.peak_within.Goals as goal
-use Rattle.peaks.proofs.peak_within.Goals.{After-magnitude-h, At-loop-i, Start}
+use Rattle.peaks.proofs.peak_within.Goals.{After-unsigned_abs-h}
 
-pub returns-then-bound-gt-ADDABLE : goal.returns-then-bound-gt-ADDABLE
-returns-then-bound-gt-ADDABLE c = c.peak.ensures
-
-pub next_above-i-requires : goal.next_above-i-requires
-next_above-i-requires c = record {
-  from_in_bounds = (omega arith, omega arith, omega arith);
-  bounded = c.requires;
-}
+measured : (c : After-unsigned_abs-h) → c.unsigned_abs-h.result ≡ nat_abs (get_or c.args.coeffs.now c.loop-i.i (pos 0))
+measured c = search rules
 
 pub loop-i-init : goal.loop-i-init
 loop-i-init c = reached_first c.next_above-i.ensures
 
--- the magnitude that was found is the entry's
-module _ (c : After-magnitude-h) where
-  abbrev at : At-loop-i
-  at = c.before.before.before
-
-  abbrev p : Start
-  p = c.before.before.before.before.before.before
-
-  abbrev x : ℤ
-  x = get_or p.args.coeffs.now at.loop-i.i 0ℤ
-
-  found : c.magnitude-h.result ≡ nat_abs x
-  found = c.magnitude-h.ensures ∙ ap nat_abs (passed x c.magnitude-arg-1.given)
-
-pub next_above-i-requires-in-loop-i : goal.next_above-i-requires-in-loop-i
+pub next_above-i-requires-in-loop-i-clause-from_in_bounds : goal.next_above-i-requires-in-loop-i-clause-from_in_bounds
 unfolding entries
-next_above-i-requires-in-loop-i c = record {
-  from_in_bounds = (omega arith, omega (arith, found (goal.at.next_above-i-requires-in-loop-i c).After-magnitude-h, (p (goal.at.next_above-i-requires-in-loop-i c).After-magnitude-h).requires (at (goal.at.next_above-i-requires-in-loop-i c).After-magnitude-h).loop-i.i), omega arith);
-  bounded = (p (goal.at.next_above-i-requires-in-loop-i c).After-magnitude-h).requires;
-}
+next_above-i-requires-in-loop-i-clause-from_in_bounds c =
+    let m = measured (goal.at.next_above-i-requires-in-loop-i-clause-from_in_bounds c).After-unsigned_abs-h in
+    (omega arith, omega (arith, m, c.requires c.loop-i.i), omega arith)
 
 pub loop-i-preserved : goal.loop-i-preserved
 loop-i-preserved c =
-    reached_next (at (goal.at.loop-i-preserved c).After-magnitude-h).loop-i.invariant c.loop-i-test.true (found (goal.at.loop-i-preserved c).After-magnitude-h)
-    c.next_above-i-in-loop-i.ensures
+    let m = measured (goal.at.loop-i-preserved c).After-unsigned_abs-h in
+    reached_next c.loop-i.invariant (omega arith) m c.next_above-i-in-loop-i.ensures
 
 pub returns : goal.returns
-returns c = reached_end c.loop-i.invariant c.loop-i-test.false
+returns c = reached_end c.loop-i.invariant (omega arith)

@@ -8,4 +8,4 @@ pub returns : goal.returns
 returns c =
     let known = c in
     let bs = known.args.bytes.now in
-    c.code_of.ensures ∙ look_room _ bs (bytes_each bs (λ i. (known.type_inv.bytes i).fits))
+    c.check.ensures ∙ look_room _ bs (bytes_each bs (λ i. (known.type_inv.bytes i).fits))

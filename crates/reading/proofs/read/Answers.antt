@@ -1,28 +1,26 @@
 -- `read`: what was looked at decides what is told and stored (Reading).
-use mathlib.Core.Path.{sym, ◌∙◌}
+use Rattle.std.proofs.Common.{◌∙◌, sym}
 use Rattle.definitions.specs.Codes.{DONE}
-use Rattle.forms.proofs.Told.{told}
+use Rattle.record.proofs.Refused.{not_done}
+use Rattle.forms.proofs.Done.{read_right}
 use Rattle.forms.proofs.Reading.{by_code, refused}
 use Rattle.reading.proofs.read.Goals as goal
 
+pub returns-in-Err : goal.returns-in-Err
+returns-in-Err c =
+    let a = c.args in
+    let p = refused a.form a.bytes.now a.coeffs.now _ (sym c.in-Err.ensures) (not_done _) in record {
+      answer = c.refused.ensures ∙ p.0;
+      leaves = p.1;
+    }
+
 pub told-requires : goal.told-requires
-told-requires c = (_, sym c.code_of-code.ensures)
-
-pub returns-then-code-ne-DONE : goal.returns-then-code-ne-DONE
-returns-then-code-ne-DONE c = let told =
-    let start = c in
-    told c.told.ensures
-    (refused start.args.form start.args.bytes.now start.args.coeffs.now _
-    (sym c.code_of-code.ensures) c.if-code-ne-DONE.true) in record { answer = told.0; leaves = told.1 }
-
-pub told-requires-2 : goal.told-requires-2
-told-requires-2 c = (_, sym c.code_of-code.ensures)
+told-requires c = (read_right _ _ _ (sym c.in_default.ensures)).header
 
 pub returns : goal.returns
-returns c = let tested = c in
-    let start = c in
-    let code = sym tested.code_of-code.ensures ∙ tested.if-code-ne-DONE.false in
-    let p = by_code start.args.form start.args.bytes.now start.args.coeffs.now DONE code in record {
-      answer = c.told-2.ensures ∙ rw tested.if-code-ne-DONE.false p.0;
+returns c =
+    let a = c.args in
+    let p = by_code a.form a.bytes.now a.coeffs.now DONE (sym c.in_default.ensures) in record {
+      answer = c.told.ensures ∙ p.0;
       leaves = c.deliver.ensures ∙ p.1;
     }

@@ -1,8 +1,7 @@
 -- `copy_up` meets its contract. The loop's invariant: the entries below i are f's, whichever f comes again at d and
 -- begins as they did.
-use Prim.Native.Nat.{ℕ, ◌-◌, ◌<◌, ◌≤◌}
+use Prim.Native.Nat.{ℕ, ◌<◌}
 use mathlib.Core.Path.{◌≡◌}
-use lib.ListN.{length}
 use Rattle.definitions.specs.Series.{Series}
 use Rattle.definitions.specs.Steps.{entries}
 use Rattle.repeats.specs.Repeats.{Again}
@@ -10,8 +9,4 @@ use Rattle.repeats.proofs.copy_up.Given as goal
 
 abbrev pub invariant-loop-i : goal.invariant-loop-i
 invariant-loop-i l =
-    (1 ≤ l.d) × (l.d ≤ l.i) × (l.i ≤ length l.initial.a) × (length l.a ≡ length l.initial.a)
-    × ((f : Series) → Again l.d f → ((k : ℕ) → k < l.d → entries l.initial.a k ≡ f k) → (k : ℕ) → k < l.i → entries l.a k ≡ f k)
-
-abbrev pub decreases-loop-i : goal.decreases-loop-i
-decreases-loop-i l = length l.initial.a - l.i
+    (f : Series) → Again l.d f → ((k : ℕ) → k < l.d → entries l.initial.a k ≡ f k) → (k : ℕ) → k < l.i → entries l.a k ≡ f k

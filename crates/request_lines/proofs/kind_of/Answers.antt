@@ -1,16 +1,21 @@
 -- `request_lines::kind_of` meets its contract, letter by letter.
-use borrow.Author.Tests.{eq-eqb, ne_eqb}
+use Rattle.std.proofs.Common.{◌≡◌, ℕ, false, refl, rules}
+use borrow.Author.Tests.{ne_eqb}
+use Rattle.definitions.specs.Requests.{known_kind}
 use Rattle.request_lines.specs.Request.{kind_of}
 use Rattle.request_lines.proofs.kind_of.Goals as goal
 
-pub returns-then-letter-eq70 : goal.returns-then-letter-eq70
-unfolding kind_of
-returns-then-letter-eq70 c = simp (eq-eqb _ _ c.if-letter-eq70.true)
+pub returns-in-70 : goal.returns-in-70
+unfolding kind_of known_kind
+returns-in-70 c = rw c.in-70.is (refl, refl)
 
-pub returns-then-letter-eq73 : goal.returns-then-letter-eq73
-unfolding kind_of
-returns-then-letter-eq73 c = simp (ne_eqb _ _ c.if-letter-eq70.false, eq-eqb _ _ c.if-letter-eq73.true)
+pub returns-in-73 : goal.returns-in-73
+unfolding kind_of known_kind
+returns-in-73 c = rw c.in-73.is (refl, refl)
 
-pub returns : goal.returns
-unfolding kind_of
-returns c = simp (ne_eqb _ _ c.if-letter-eq70.false, ne_eqb _ _ c.if-letter-eq73.false)
+unknown : (letter : ℕ) → (letter ≡ 70 → ⊥) → (letter ≡ 73 → ⊥) → known_kind (kind_of letter) ≡ false
+unfolding kind_of known_kind
+unknown letter f i = simp (ne_eqb letter 70 f, ne_eqb letter 73 i)
+
+pub returns-in_default : goal.returns-in_default
+returns-in_default c = unknown _ (search rules) (search rules)

@@ -1,50 +1,43 @@
--- `request_lines::read_line` meets its contract: the numbers of digits that it counts are those of the definition
--- (`Reading`).
-use mathlib.Core.Path.{◌≡◌, sym, ◌∙◌, ap}
-use lib.Dec.{lit<}
-use Rattle.request_lines.specs.Request.{kind_of, is_good}
-use Rattle.request_lines.proofs.Reading.{most_nine, good_as, too_many_good, limit, reads_good, reads_wrong}
+-- `request_lines::read_line` meets its contract, part by part (`Reading`).
+use Rattle.std.proofs.Common.{sym, arith}
+use borrow.Author.Tests.{eq-eqb, ne_eqb}
+use Rattle.digits.proofs.Digits.{nine_range}
+use Rattle.request_lines.proofs.Reading.{no_kind, no_space, no_index, no_gap, no_limit, reads_all}
 use Rattle.request_lines.proofs.read_line.Goals as goal
-use Rattle.request_lines.proofs.read_line.Goals.{After-is_good_with}
 
-pub is_good_with-requires : goal.is_good_with-requires
-is_good_with-requires c = c.kind_of-kind.ensures
-    ∙ ap kind_of c.byte_at.ensures
+pub returns-in_err-kind : goal.returns-in_err-kind
+returns-in_err-kind c =
+    rw c.from_residual.ensures (sym (no_kind _ (rw c.byte_at.ensures at c.in_err-kind.ensures)), tt)
 
-pub number_at-requires-then-is_good_with : goal.number_at-requires-then-is_good_with
-number_at-requires-then-is_good_with c = (
-  c.digits_at-b.ensures,
-  most_nine c.args.line.now
-      c.digits_at-a.result c.digits_at-b.result
-      (sym c.is_good_with.ensures ∙ c.if-is_good_with.true),
-)
+pub returns-then-byte_at-ne32 : goal.returns-then-byte_at-ne32
+returns-then-byte_at-ne32 c =
+    (sym (no_space _ (rw c.byte_at-2.ensures at (ne_eqb _ _ c.if-byte_at-ne32.true))), tt)
 
--- the test's answer is whether the line is good
-as_good : (c : After-is_good_with) → c.is_good_with.result
-    ≡ is_good c.args.line.now
-as_good c = c.is_good_with.ensures
-    ∙ good_as c.args.line.now
-    c.digits_at-a.result c.digits_at-b.result
-    c.digits_at-a.ensures c.digits_at-b.ensures
+pub returns-in_err-a : goal.returns-in_err-a
+returns-in_err-a c = rw c.from_residual-in_err-a.ensures (sym (no_index _ c.in_err-a.ensures), tt)
 
-pub returns-then-is_good_with : goal.returns-then-is_good_with
-returns-then-is_good_with c =
-    let l = c.args.line.now in
-    let a = c.digits_at-a in (
-      reads_good l _ _ _ (sym (as_good (goal.at.returns-then-is_good_with c).After-is_good_with) ∙ c.if-is_good_with.true)
-          (c.kind_of-kind.ensures
-          ∙ ap kind_of c.byte_at.ensures)
-          c.number_at.ensures.0 (c.number_at-then-is_good_with.ensures.0 ∙ limit l a.result a.ensures),
-      c.number_at-then-is_good_with.ensures.1,
-    )
+pub overflow_add-a : goal.overflow_add-a
+overflow_add-a c =
+    let a = c.in_ok-a.ensures in
+    omega (arith, nine_range _ a.0, a.1)
 
-pub returns-else-is_good_with : goal.returns-else-is_good_with
-returns-else-is_good_with c = (reads_wrong _ (sym (as_good (goal.at.returns-else-is_good_with c).After-is_good_with) ∙ c.if-is_good_with.false), lit< tt)
+pub returns-then-byte_at-ne32-2 : goal.returns-then-byte_at-ne32-2
+returns-then-byte_at-ne32-2 c =
+    let gap = ne_eqb _ _ c.if-byte_at-ne32-2.true in
+    (sym (no_gap _ (rw (c.byte_at-3.ensures, c.in_ok-a.ensures.1) at gap)), tt)
 
-pub returns-else-a-lt10 : goal.returns-else-a-lt10
-returns-else-a-lt10 c = (
-  reads_wrong _
-      (too_many_good c.args.line.now c.digits_at-a.result
-      c.digits_at-a.ensures c.if-a-lt10.false),
-  lit< tt,
-)
+pub returns-in_err-b : goal.returns-in_err-b
+returns-in_err-b c =
+    rw c.from_residual-in_err-b.ensures (sym (no_limit _ (rw c.in_ok-a.ensures.1 at c.in_err-b.ensures)), tt)
+
+pub overflow_add-whole-2 : goal.overflow_add-whole-2
+overflow_add-whole-2 c =
+    let a = c.in_ok-a.ensures in
+    let b = c.in_ok-b.ensures in
+    omega (arith, nine_range _ a.0, a.1, nine_range _ b.0, b.1)
+
+pub returns : goal.returns
+returns c =
+    reads_all _ _ _ _ _ _ _ (rw c.byte_at.ensures at c.in_ok-kind.ensures)
+    (rw c.byte_at-2.ensures at (eq-eqb _ _ c.if-byte_at-ne32.false)) c.in_ok-a.ensures
+    (rw c.byte_at-3.ensures at (eq-eqb _ _ c.if-byte_at-ne32-2.false)) c.in_ok-b.ensures c.then_some.ensures

@@ -1,14 +1,10 @@
--- `rescue::read_all` meets its contract. The loop's invariant: what was read lies in the buffer. It ends, for each read
--- but the last gives something.
-use Prim.Native.Nat.{◌-◌, ◌≤◌}
-use mathlib.Core.Path.{◌≡◌, refl, sym, ◌∙◌}
-use native.Mathlib.Omega.{arith}
-use lib.ListN.{length}
-use lib.Seq.{length-take-le}
+-- `rescue::read_all` meets its contract. The loop's invariant: what was read lies in the buffer. It ends, for
+-- each read but the last gives something.
+use Rattle.std.proofs.Common.{◌-◌, ◌≤◌, length}
 use Rattle.rescue.proofs.read_all.Given as goal
 
 abbrev pub invariant-loop-at : goal.invariant-loop-at
-invariant-loop-at l = (l.at ≤ length l.shelf) × (length l.shelf ≡ length l.initial.shelf)
+invariant-loop-at l = l.at ≤ length l.shelf
 
 abbrev pub decreases-loop-at : goal.decreases-loop-at
 decreases-loop-at l = length l.shelf - l.at

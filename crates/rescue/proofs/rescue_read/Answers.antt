@@ -4,7 +4,6 @@ use Prim.Native.Nat.{ℕ, ◌*◌, ◌≤◌}
 use mathlib.Core.Path.{◌≡◌, refl, ap, ◌∙◌}
 use mathlib.Core.List.{List, ◌++◌}
 use native.Mathlib.Omega.{arith}
-use borrow.Author.Rules.{rules}
 use lib.ListN.{length, take, length-append}
 use lib.Seq.{take_at, length-take-le}
 use Rattle.definitions.specs.Codes.{DONE}
@@ -46,9 +45,9 @@ all : (c : After-rescue-rescued) →
 all c =
     let known = c in
     let shelf = known.args.shelf.now in
-    let out = c.byte_room-out in
-    let list = c.list_room-list in
-    let coeffs = c.coefficient_room-coeffs in
+    let out = c.room-out in
+    let list = c.room-list in
+    let coeffs = c.room-coeffs in
     let done = roomy_done shelf (bytes_each shelf (λ i. (known.type_inv.shelf i).fits))
     (length out.result) (length list.result) (length coeffs.result)
     (omega (arith, known.requires, out.ensures)) (omega (arith, coeffs.ensures))

@@ -25,7 +25,7 @@ returns-then-is_short c =
     let r = refused a.shelf.now a.out.now a.list.now (length a.coeffs.now)
     (sym c.if-is_short.true ∙ asked.is_short.ensures.value) in
     record {
-      answer = r.0;
+      answer = rw c.from.ensures r.0;
       leaves = r.1;
       lists = r.2;
       clears = c.clear.ensures ∙ ap zeros asked.is_short.ensures.coeffs_len_unchanged;

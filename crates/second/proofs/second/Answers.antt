@@ -1,7 +1,5 @@
--- `second` meets its contract: each test's code (Answering), and then `answer_in`'s. What each test showed is named
--- once.
-use mathlib.Core.Path.{◌≡◌, sym, ◌∙◌}
-use mathlib.Core.Bool.{true, false}
+-- `second` meets its contract: each test's code (Answering), and then `answer_in`'s.
+use Rattle.std.proofs.Common.{◌≡◌, true, false, sym, ◌∙◌}
 use Rattle.definitions.specs.Steps.{below_one}
 use Rattle.definitions.specs.Requests.{known_kind, good_index}
 use Rattle.index.proofs.Laws.{taken_good}
@@ -9,62 +7,48 @@ use Rattle.step_laws.specs.Machine.{below_one_lem}
 use Rattle.step_laws.specs.WorkingLimit.{read_limit}
 use Rattle.second.proofs.Answering.{ask_kind, ask_index, ask_limit, at_kind, at_index, at_limit}
 use Rattle.second.proofs.second.Goals as goal
-use Rattle.second.proofs.second.Goals.{Else-h-lt1, Else-not-good_index, Else-not-known_kind, Start}
+use Rattle.second.proofs.second.Goals.{Else-h-lt1, Else-not-good_index, Else-not-known_kind}
 
 known : (c : Else-not-known_kind) → known_kind c.args.kind ≡ true
 known c = sym c.known_kind.ensures ∙ c.if-not-known_kind.false
 
-module _ (c : Else-not-good_index) where
-  abbrev start : Start
-  start = c.before.before.before.before
+good : (c : Else-not-good_index) → good_index c.args.n ≡ true
+good c = sym c.good_index.ensures ∙ c.if-not-good_index.false
 
-  kind_known : known_kind start.args.kind ≡ true
-  kind_known = known c.before.before
-
-  good : good_index start.args.n ≡ true
-  good = sym c.good_index.ensures ∙ c.if-not-good_index.false
+good_h : (c : Else-h-lt1) → below_one c.args.h ≡ false
+good_h c = below_one_lem c.args.h c.ranges.h c.if-h-lt1.false
 
 pub returns-then-not-known_kind : goal.returns-then-not-known_kind
 returns-then-not-known_kind c =
-    let p = c in
-    let k = sym c.known_kind.ensures ∙ c.if-not-known_kind.true in
-    let s = at_kind p.args.kind p.args.n p.args.h p.args.buf.now p.args.scratch.now
-    (ask_kind _ _ _ _ _ k) in
+    let s = at_kind c.args.kind c.args.n c.args.h c.args.buf.now c.args.scratch.now
+    (ask_kind _ _ _ _ _ (sym c.known_kind.ensures ∙ c.if-not-known_kind.true)) in
     record { value = c.refused.ensures ∙ s.0; buf_after = s.1.0; scratch_after = s.1.1 }
 
 pub returns-then-not-good_index : goal.returns-then-not-good_index
 returns-then-not-good_index c =
-    let p = c in
-    let g = sym c.good_index.ensures ∙ c.if-not-good_index.true in
-    let s = at_index p.args.kind p.args.n p.args.h p.args.buf.now p.args.scratch.now
-    (ask_index _ _ _ _ _ (known (goal.at.returns-then-not-good_index c).Else-not-known_kind) g) in
+    let s = at_index c.args.kind c.args.n c.args.h c.args.buf.now c.args.scratch.now
+    (ask_index _ _ _ _ _ (known (goal.at.returns-then-not-good_index c).Else-not-known_kind)
+    (sym c.good_index.ensures ∙ c.if-not-good_index.true)) in
     record { value = c.refused-then-not-good_index.ensures ∙ s.0; buf_after = s.1.0; scratch_after = s.1.1 }
 
 pub returns-then-h-lt1 : goal.returns-then-h-lt1
 returns-then-h-lt1 c =
-    let t = (goal.at.returns-then-h-lt1 c).Else-not-good_index in
-    let p = start t in
-    let s = at_limit p.args.kind p.args.n p.args.h p.args.buf.now p.args.scratch.now
-    (ask_limit _ _ _ _ _ (kind_known t) (good t) (below_one_lem p.args.h p.ranges.h c.if-h-lt1.true)) in
+    let at = goal.at.returns-then-h-lt1 c in
+    let s = at_limit c.args.kind c.args.n c.args.h c.args.buf.now c.args.scratch.now
+    (ask_limit _ _ _ _ _ (known at.Else-not-known_kind) (good at.Else-not-good_index)
+    (below_one_lem c.args.h c.ranges.h c.if-h-lt1.true)) in
     record { value = c.refused-then-h-lt1.ensures ∙ s.0; buf_after = s.1.0; scratch_after = s.1.1 }
-
--- the limit is good
-good_h : (c : Else-h-lt1) → below_one (start c.before).args.h ≡ false
-good_h c = let p = start c.before in below_one_lem p.args.h p.ranges.h c.if-h-lt1.false
 
 pub answer_in-requires : goal.answer_in-requires
 answer_in-requires c =
-    let e = (goal.at.answer_in-requires c).Else-h-lt1 in
-    let p = start (goal.at.answer_in-requires c).Else-not-good_index in (
-      c.take_apart-parts.ensures ∙ taken_good _ (good (goal.at.answer_in-requires c).Else-not-good_index),
-      kind_known (goal.at.answer_in-requires c).Else-not-good_index,
-      good (goal.at.answer_in-requires c).Else-not-good_index,
-      (read_limit p.args.h p.ranges.h (good_h e) c.magnitude.ensures).2.0,
+    let at = goal.at.answer_in-requires c in (
+      c.take_apart-parts.ensures ∙ taken_good _ (good at.Else-not-good_index),
+      known at.Else-not-known_kind,
+      good at.Else-not-good_index,
+      (read_limit c.args.h c.ranges.h (good_h at.Else-h-lt1) c.unsigned_abs.ensures.value).2.0,
     )
 
 pub returns : goal.returns
 returns c =
-    let e = (goal.at.returns c).Else-h-lt1 in
-    let p = start (goal.at.returns c).Else-not-good_index in
-    rw (read_limit p.args.h p.ranges.h (good_h e)
-    c.magnitude.ensures).1 at c.answer_in.ensures
+    rw (read_limit c.args.h c.ranges.h (good_h (goal.at.returns c).Else-h-lt1) c.unsigned_abs.ensures.value).1
+    at c.answer_in.ensures

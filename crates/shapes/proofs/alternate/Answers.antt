@@ -1,41 +1,44 @@
--- `alternate` meets its contract. The loop's invariant: i is odd, the entries below it are the alternated ones, the
--- rest the old.
-use mathlib.Core.Path.{◌≡◌}
+-- `alternate` meets its contract: an entry at an odd place is negated, and the next is left.
+use Prim.Native.Nat.{ℕ, ◌+◌, ◌%◌, ◌<◌, ◌≤◌, ◌^◌}
+use mathlib.Core.Path.{◌≡◌, refl, ap}
+use mathlib.Core.List.{List}
 use native.Mathlib.Omega.{arith}
-use Rattle.definitions.specs.Steps.{entries}
+use lib.ListN.{get_or, set}
+use lib.IntN.{ℤ, pos, nat_abs, ◌-ℤ◌}
+use lib.Signed.{mag}
+use Rattle.definitions.specs.Integers.{0ℤ}
+use Rattle.definitions.specs.Series.{Series, alternate}
+use Rattle.definitions.specs.Steps.{entries, largest}
 use Rattle.series.specs.Maps.{alternate_even}
+use Rattle.step_laws.specs.Machine.{seen}
+use Rattle.entry_steps.specs.Passes.{Split}
 use Rattle.entry_steps.proofs.Split.{all_below, all_firsts}
+use Rattle.shapes.proofs.Negation.{stored_minus}
 use Rattle.shapes.proofs.Shaping.{starts, alternate_read, alternate-turn}
 use Rattle.shapes.proofs.alternate.Goals as goal
 
 pub loop-i-init : goal.loop-i-init
 loop-i-init c = (
-  omega arith,
-  omega arith,
-  starts c.args.a.now 1 (λ k h. let e : k ≡ 0 = omega arith in
-      alternate_even k (entries c.args.a.now) (omega arith)),
+  starts c.args.a.now 1 (λ k h. let e : k ≡ 0 = omega arith in alternate_even k (entries c.args.a.now) (omega arith)),
+  refl,
 )
 
-pub negate_to-requires : goal.negate_to-requires
-negate_to-requires c =
-    let q = c in (
-      omega arith,
-      omega arith,
-      rw (alternate_read (entries q.args.a.now) q.loop-i.invariant.2 q.loop-i.invariant.1 (omega arith))
-          (q.requires _ (omega arith)),
-    )
+module _ {n i : ℕ} {l : List ℤ} {e : Series} (s : Split l n i (alternate e) e) (odd : i % 2 ≡ 1) (b : i < n)
+    (fits : mag (get_or l i 0ℤ) < 2 ^ 63) (small : nat_abs (e i) ≤ largest) where
+  turned : Split (set l i (seen (pos 0 -ℤ seen (get_or l i 0ℤ)))) n (i + 2) (alternate e) e
+  unfolding entries
+  turned = alternate-turn e s odd b (ap (set l i) (stored_minus _ fits (rw (alternate_read e s odd b) small)))
 
 pub loop-i-preserved : goal.loop-i-preserved
 loop-i-preserved c =
-    let q = c in (
-      omega arith,
-      omega arith,
-      alternate-turn (entries q.args.a.now) q.loop-i.invariant.2 q.loop-i.invariant.1
-          (omega arith) c.negate_to.ensures,
-    )
-
-pub shape_of-a : goal.shape_of-a
-shape_of-a c = c.loop-i.invariant.2.len
+    let (s, odd) = c.loop-i.invariant in
+    (turned s odd c.loop-i-test.true (omega arith) (c.requires _ c.loop-i-test.true), omega arith)
 
 pub returns : goal.returns
-returns c = all_firsts (all_below c.loop-i.invariant.2 (omega arith))
+returns c = all_firsts (all_below c.loop-i.invariant.0 (omega arith))
+
+-- after the last odd place
+pub returns-2 : goal.returns-2
+returns-2 c =
+    let (s, odd) = c.loop-i.invariant in
+    all_firsts (all_below (turned s odd c.loop-i-test.true (omega arith) (c.requires _ c.loop-i-test.true)) (omega arith))

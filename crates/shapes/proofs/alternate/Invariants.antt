@@ -1,5 +1,4 @@
--- `alternate` meets its contract. The loop's invariant: i is odd, the entries below it are the alternated ones, the
--- rest the old.
+-- `alternate` meets its contract. The loop's invariant: the entries below i alternate, the others are old.
 use Prim.Native.Nat.{◌-◌, ◌%◌}
 use mathlib.Core.Path.{◌≡◌}
 use lib.ListN.{length}
@@ -9,7 +8,8 @@ use Rattle.entry_steps.specs.Passes.{Split}
 use Rattle.shapes.proofs.alternate.Given as goal
 
 abbrev pub invariant-loop-i : goal.invariant-loop-i
-invariant-loop-i l = (l.n ≡ length l.initial.a) × (l.i % 2 ≡ 1) × Split l.a (length l.initial.a) l.i (alternate (entries l.initial.a)) (entries l.initial.a)
+invariant-loop-i l =
+    Split l.a (length l.initial.a) l.i (alternate (entries l.initial.a)) (entries l.initial.a) × (l.i % 2 ≡ 1)
 
 abbrev pub decreases-loop-i : goal.decreases-loop-i
-decreases-loop-i l = l.n - l.i
+decreases-loop-i l = length l.initial.a - l.i

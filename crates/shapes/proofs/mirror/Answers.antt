@@ -1,42 +1,43 @@
--- `mirror` meets its contract: from where the fours got to, one by one. The loop's invariant: of whatever list the
--- mirror got up to where the loop began, it got up to i.
-use mathlib.Core.Path.{◌≡◌, sym, ◌∙◌}
+-- `mirror` meets its contract: what is read lies in the lower half, and is old.
+use Prim.Native.Nat.{◌-◌, ◌<◌, ◌≤◌}
+use mathlib.Core.Path.{◌∙◌}
 use native.Mathlib.Omega.{arith}
-use lib.ListN.{length}
-use Rattle.shapes.specs.Shapes.{MirroredTo}
-use Rattle.shapes.proofs.Shaping.{mirror_range, mirror-next, mirror-end}
+use lib.ListN.{get_or, length}
+use lib.IntN.{nat_abs}
+use mir.Syntax.{w64}
+use mir.Facts.{to_z-of_z}
+use Rattle.definitions.specs.Integers.{0ℤ}
+use Rattle.definitions.specs.Steps.{entries, largest}
+use Rattle.entry_steps.proofs.Split.{all_below, all_firsts}
+use Rattle.shapes.proofs.Negation.{minus_fits, stored_minus}
+use Rattle.shapes.proofs.Shaping.{starts, mirrored_low, mirror_read, mirror_turn}
 use Rattle.shapes.proofs.mirror.Goals as goal
-use Rattle.shapes.proofs.mirror.Goals.{At-loop-i}
-
-pub mirror_fours-i-requires : goal.mirror_fours-i-requires
-mirror_fours-i-requires c = c.requires
+use Rattle.shapes.proofs.mirror.Goals.{At-loop-i, then-negate, else-negate}
 
 pub loop-i-init : goal.loop-i-init
-loop-i-init c = λ l p. p
+loop-i-init c = let l = c.args.a.now in starts l _ (λ k h. mirrored_low c.args.negate _ (entries l) k h)
 
--- of the list at entry
-known : (c : At-loop-i)
-    → MirroredTo c.args.negate c.args.a.now
-    c.loop-i.a c.loop-i.i
-known c = c.loop-i.invariant c.args.a.now c.mirror_fours-i.ensures
+-- what is read can be negated
+small : (c : At-loop-i) → c.loop-i.i < length c.args.a.now
+    → nat_abs (entries c.loop-i.a (length c.args.a.now - 1 - c.loop-i.i)) ≤ largest
+small c b =
+    rw (mirror_read c.args.negate c.args.a.now c.loop-i.invariant c.loop-i.auto.i b) (c.requires _ (omega arith))
 
-pub put_signed-requires : goal.put_signed-requires
-put_signed-requires c =
-    let q = (goal.at.put_signed-requires c).At-loop-i in
-    let p = known q in
-    let len = p.split.len in
-    let from = p.from in
-    (omega arith, omega arith, mirror_range p q.requires _ (omega arith))
+pub overflow_sub-a : goal.overflow_sub-a
+unfolding entries
+overflow_sub-a c =
+    let x = get_or c.loop-i.a (length c.args.a.now - 1 - c.loop-i.i) 0ℤ in
+    minus_fits x (omega arith) (small (goal.at.overflow_sub-a c).At-loop-i c.loop-i-test.true)
 
 pub loop-i-preserved : goal.loop-i-preserved
-loop-i-preserved c = λ l p.
-    let q = c in
-    let here = q.mirror_fours-i.ensures.split.len in
-    let same : length l ≡ length q.args.a.now = sym p.split.len ∙ here in
-    mirror-next (q.loop-i.invariant l p) _ (omega arith) (omega arith) c.put_signed.ensures
-
-pub shape_of-a : goal.shape_of-a
-shape_of-a c = (known (goal.at.shape_of-a c).At-loop-i).split.len
+unfolding entries
+loop-i-preserved c =
+    let at = (goal.at.loop-i-preserved c).At-loop-i in
+    mirror_turn c.args.negate c.args.a.now c.loop-i.invariant c.loop-i.auto.i c.loop-i-test.true _
+    (elim c.if-negate.branch [
+      | then-negate w ↦ rw w.if-negate.true (w.a-is ∙ stored_minus _ (omega arith) (small at c.loop-i-test.true))
+      | else-negate w ↦ rw w.if-negate.false (w.a-is ∙ to_z-of_z {w = w64} (record { sfits = omega arith }))
+    ])
 
 pub returns : goal.returns
-returns c = mirror-end (known (goal.at.returns c).At-loop-i) c.loop-i-test.false
+returns c = all_firsts (all_below c.loop-i.invariant (omega arith))

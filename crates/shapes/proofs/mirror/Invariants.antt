@@ -1,13 +1,8 @@
--- `mirror` meets its contract: from where the fours got to, one by one. The loop's invariant: of whatever list the
--- mirror got up to where the loop began, it got up to i.
-use Prim.Native.Nat.{◌-◌}
-use mathlib.Core.List.{List}
-use lib.IntN.{ℤ}
-use Rattle.shapes.specs.Shapes.{MirroredTo}
+-- `mirror` meets its contract. The loop's invariant: the entries below i are the mirror's, the others old.
+use Rattle.definitions.specs.Halves.{mirrored_up}
+use Rattle.definitions.specs.Steps.{entries}
+use Rattle.entry_steps.specs.Passes.{Split}
 use Rattle.shapes.proofs.mirror.Given as goal
 
 abbrev pub invariant-loop-i : goal.invariant-loop-i
-invariant-loop-i v = (l : List ℤ) → MirroredTo v.negate l v.initial.a v.initial.i → MirroredTo v.negate l v.a v.i
-
-abbrev pub decreases-loop-i : goal.decreases-loop-i
-decreases-loop-i l = l.n - l.i
+invariant-loop-i l = Split l.a l.n l.i (mirrored_up l.negate l.n (entries l.initial.a)) (entries l.initial.a)

@@ -1,6 +1,5 @@
 -- `walk`: what is left of the walk is how it comes out (Walking).
-use mathlib.Core.Path.{sym, ◌∙◌}
-use native.Mathlib.Omega.{arith}
+use Rattle.std.proofs.Common.{sym, ◌∙◌, arith}
 use Rattle.shelves.proofs.Walking.{begun, ended, stopped, nothing, matched, bounds, passed}
 use Rattle.shelves.proofs.walk.Goals as goal
 
@@ -9,47 +8,24 @@ loop-at-init c = begun _ _ _
 
 pub returns-then-is_asked : goal.returns-then-is_asked
 returns-then-is_asked c =
-    let asked = c in
-    let shown = c in
-    let look = c in
-    let loop = c in
-    matched _ _ _ loop.loop-at.at look.loop-at-test.true loop.loop-at.invariant _ _ _ _ _
-    (sym shown.in-Record.is ∙ look.shown_at-shown.ensures)
-    (sym asked.is_asked.ensures ∙ c.if-is_asked.true)
+    matched _ _ _ c.loop-at.at c.loop-at-test.true c.loop-at.invariant _ _ _ _ _ c.in-Record.ensures
+    (sym c.is_asked.ensures ∙ c.if-is_asked.true)
 
 pub loop-at-smaller : goal.loop-at-smaller
 loop-at-smaller c =
-    let shown = c in
-    let look = c in
-    let loop = c in
-    let b = bounds _ _ _ loop.loop-at.at look.loop-at-test.true loop.loop-at.invariant _ _ _ _ _
-    (sym shown.in-Record.is ∙ look.shown_at-shown.ensures) in
+    let b = bounds _ _ _ c.loop-at.at c.loop-at-test.true c.loop-at.invariant _ _ _ _ _ c.in-Record.ensures in
     omega (arith, b.0, b.1)
 
 pub loop-at-preserved : goal.loop-at-preserved
 loop-at-preserved c =
-    let asked = c in
-    let shown = c in
-    let look = c in
-    let loop = c in
-    passed _ _ _ loop.loop-at.at look.loop-at-test.true loop.loop-at.invariant _ _ _ _ _
-    (sym shown.in-Record.is ∙ look.shown_at-shown.ensures)
-    (sym asked.is_asked.ensures ∙ c.if-is_asked.false)
+    passed _ _ _ c.loop-at.at c.loop-at-test.true c.loop-at.invariant _ _ _ _ _ c.in-Record.ensures
+    (sym c.is_asked.ensures ∙ c.if-is_asked.false)
 
 pub returns-in-Refused : goal.returns-in-Refused
-returns-in-Refused c =
-    let shown = c in
-    let look = c in
-    let loop = c in
-    stopped _ _ _ loop.loop-at.at look.loop-at-test.true loop.loop-at.invariant _ _
-    (sym shown.in-Refused.is ∙ look.shown_at-shown.ensures)
+returns-in-Refused c = stopped _ _ _ c.loop-at.at c.loop-at-test.true c.loop-at.invariant _ _ c.in-Refused.ensures
 
 pub returns-in-End : goal.returns-in-End
-returns-in-End c =
-    let look = c in
-    let loop = c in
-    nothing _ _ _ loop.loop-at.at look.loop-at-test.true loop.loop-at.invariant _
-    (sym c.in-End.is ∙ look.shown_at-shown.ensures)
+returns-in-End c = nothing _ _ _ c.loop-at.at c.loop-at-test.true c.loop-at.invariant _ c.in-End.ensures
 
 pub returns : goal.returns
 returns c = ended _ _ _ c.loop-at.at c.loop-at-test.false c.loop-at.invariant

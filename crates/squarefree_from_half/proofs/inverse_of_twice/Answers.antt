@@ -1,15 +1,9 @@
 -- `inverse_of_twice` meets its contract: the first copy in the first entries, and then the second (Growing).
-use Prim.Native.Nat.{◌*◌}
-use mathlib.Core.Path.{sym, ◌∙◌, ap}
+use mathlib.Core.Path.{◌∙◌}
 use native.Mathlib.Omega.{arith}
 use lib.Seq.{length-take-le}
-use Rattle.definitions.specs.Series.{firsts}
-use Rattle.definitions.specs.Polynomials.{I}
 use Rattle.squarefree_from_half.proofs.Growing.{lower-front, copy-front}
 use Rattle.squarefree_from_half.proofs.inverse_of_twice.Goals as goal
-
-pub slice_bounds-alternated-end-2 : goal.slice_bounds-alternated-end-2
-slice_bounds-alternated-end-2 c = let p = c in sym (length-take-le p.args.top p.args.a.now (omega arith))
 
 pub alternated-requires : goal.alternated-requires
 alternated-requires c =
@@ -23,12 +17,3 @@ second_copy-requires c =
     let p = c in
     copy-front p.args.r p.args.top p.args.a.now _ p.requires.0 p.requires.1 p.requires.2
     c.alternated.ensures
-
-pub returns : goal.returns
-returns c =
-    let q = c in
-    let p = c in
-    c.second_copy.ensures
-    ∙ ap (λ k. firsts k (I (2 * p.args.r)))
-    ((copy-front p.args.r p.args.top p.args.a.now _ p.requires.0 p.requires.1 p.requires.2
-    q.alternated.ensures).len ∙ sym p.requires.2)

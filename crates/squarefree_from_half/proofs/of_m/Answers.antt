@@ -2,23 +2,9 @@
 use native.Mathlib.Omega.{arith}
 use Rattle.numbers.specs.Phi.{phi-le}
 use Rattle.numbers.specs.Tests.{kind_two}
-use Rattle.squarefree_from_half.proofs.Even.{odd_length, odd_grown, F-length}
+use Rattle.squarefree_from_half.proofs.Even.{F-length}
 use Rattle.squarefree_from_half.proofs.Even.{F_grown, I-length, I_grown, top-I}
 use Rattle.squarefree_from_half.proofs.of_m.Goals as goal
-
-pub mirrored-requires : goal.mirrored-requires
-mirrored-requires c =
-    let p = c in (
-      p.requires.0,
-      odd_length p.args.kind p.args.r p.args.even p.args.a.now p.requires.4
-          (c.if-not-even.true),
-    )
-
-pub returns-then-not-even : goal.returns-then-not-even
-returns-then-not-even c =
-    let p = c in
-    odd_grown p.args.kind p.args.r p.args.even p.args.a.now p.requires.4
-    (c.if-not-even.true) _ c.mirrored.ensures
 
 pub alternated-requires : goal.alternated-requires
 alternated-requires c =

@@ -1,13 +1,7 @@
 -- `of_one_or_two` meets its contract: the first and the last coefficient are all (Even).
 use mathlib.Core.Path.{◌∙◌, ap}
-use native.Mathlib.Omega.{arith}
-use lib.ListN.{length-set}
 use Rattle.squarefree_from_half.proofs.Even.{tiny-whole, first-seen}
 use Rattle.squarefree_from_half.proofs.of_one_or_two.Goals as goal
-
-pub slice_set_of-a : goal.slice_set_of-a
-slice_set_of-a c =
-    omega (arith, length-set c.args.a.now 0 (Rattle.step_laws.specs.Machine.seen c.first_of-first.result))
 
 pub returns : goal.returns
 returns c =

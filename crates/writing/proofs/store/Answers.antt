@@ -31,20 +31,19 @@ cut : (c : After-stored_of-k) → length (take c.stored_of-k.result c.args.coeff
     ≡ c.stored_of-k.result
 cut c = length-take-le c.stored_of-k.result c.args.coeffs.now c.stored_of-k.ensures.1
 
-pub slice_bounds-put_body-end : goal.slice_bounds-put_body-end
-slice_bounds-put_body-end c = sym (cut (goal.at.slice_bounds-put_body-end c).After-stored_of-k)
+pub slice_bounds-put_stored-end : goal.slice_bounds-put_stored-end
+slice_bounds-put_stored-end c = sym (cut (goal.at.slice_bounds-put_stored-end c).After-stored_of-k)
 
-pub put_body-requires : goal.put_body-requires
-put_body-requires c =
+pub put_stored-requires : goal.put_stored-requires
+put_stored-requires c =
     let header = c in
-    let stored = (goal.at.put_body-requires c).After-stored_of-k in
+    let stored = (goal.at.put_stored-requires c).After-stored_of-k in
     let start = stored in
     let cs = start.args.coeffs.now in
     let w = start.args.w in
     let k = stored.stored_of-k.result in
     let f = width_fits cs w start.requires.1 start.requires.2 in (
-      f.low,
-      f.high,
+      f.one,
       omega (arith, f.takes, height-take k cs),
       omega (
         arith,
@@ -66,4 +65,4 @@ returns c =
     (header.put_header.ensures
     ∙ ap (λ (m : ℕ). sets a.bytes.now 0 (header_of m a.kind a.w a.n (length a.coeffs.now)))
     header.mark_of.ensures)
-    c.put_body.ensures
+    c.put_stored.ensures

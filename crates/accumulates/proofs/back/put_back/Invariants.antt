@@ -5,7 +5,4 @@ use Rattle.accumulates.specs.Stopped.{PutBack}
 use Rattle.accumulates.proofs.back.put_back.Given as goal
 
 abbrev pub invariant-loop-x : goal.invariant-loop-x
-invariant-loop-x l = (l.from ≤ l.x) × (l.x ≤ l.to) × PutBack l.d l.x l.to l.initial.a l.a
-
-abbrev pub decreases-loop-x : goal.decreases-loop-x
-decreases-loop-x l = l.x
+invariant-loop-x l = (l.from ≤ l.x) × PutBack l.d l.x l.to l.initial.a l.a

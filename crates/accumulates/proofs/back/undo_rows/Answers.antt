@@ -3,7 +3,7 @@
 use Prim.Native.Nat.{ℕ, ◌+◌, ◌-◌, ◌/◌, ◌*◌, ◌%◌, ◌≤◌, ◌<◌, min}
 use mathlib.Core.Path.{◌≡◌, refl, sym, ◌∙◌, ap, ap₂, subst}
 use mathlib.Core.Bool.{true, false}
-use native.Mathlib.Nat.{mod-lt, mod-le, mod-eq_of_lt, mod-eq-sub-mod, mul-mod_left, div-add-mod'}
+use native.Mathlib.Nat.{mod-lt, mod-eq_of_lt, mod-eq-sub-mod, mul-mod_left, div-add-mod'}
 use native.Mathlib.Omega.{arith}
 use lib.ListN.{length}
 use Rattle.definitions.specs.Steps.{entries}
@@ -11,13 +11,7 @@ use Rattle.entry_steps.specs.Passes.{Split}
 use Rattle.accumulates.specs.Stopped.{is_taken, taken_in_row}
 use Rattle.accumulates.proofs.PutBack.{none_back, taken_back, range_back, all_back, row-most, row-taken}
 use Rattle.accumulates.proofs.back.undo_rows.Goals as goal
-use Rattle.accumulates.proofs.back.undo_rows.Goals.{After-smaller-end, After-taken_in_row, At-loop-k, Start}
-
-pub nonzero_rem-k : goal.nonzero_rem-k
-nonzero_rem-k c = c.requires.0
-
-pub overflow_sub-k : goal.overflow_sub-k
-overflow_sub-k c = mod-le (length c.args.a.now) c.args.d
+use Rattle.accumulates.proofs.back.undo_rows.Goals.{After-min-end, After-taken_in_row, At-loop-k, Start}
 
 -- the last row begins at a multiple of d
 last_row : (n d : ℕ) → (n - n % d) % d ≡ 0
@@ -34,9 +28,6 @@ loop-k-init c =
       λ l s. none_back a (entries l) (omega (arith, mod-lt (length a) c.requires.0)),
     )
 
-pub taken_in_row-requires : goal.taken_in_row-requires
-taken_in_row-requires c = let p = c.requires in (p.1, omega (arith, p.2, c.loop-k.invariant.0))
-
 -- at most d of a row are taken
 most : (c : After-taken_in_row) → c.taken_in_row.result ≤ c.args.d
 most c =
@@ -50,7 +41,7 @@ pub overflow_add-k : goal.overflow_add-k
 overflow_add-k c = omega (arith, most (goal.at.overflow_add-k c).After-taken_in_row, c.loop-k.invariant.0)
 
 -- the row from k on, and how much of it was taken
-module _ (c : After-smaller-end) where
+module _ (c : After-min-end) where
   abbrev at : At-loop-k
   at = c.before.before.before
 
@@ -61,14 +52,14 @@ module _ (c : After-smaller-end) where
   k = at.loop-k.k
 
   abbrev end : ℕ
-  end = c.smaller-end.result
+  end = c.min-end.result
 
   abbrev count : ℕ
   count = taken_in_row p.args.full p.args.to p.args.stop k
 
   end_is : end ≡ min (k + count) (length p.args.a.now)
   end_is =
-      c.smaller-end.ensures
+      c.min-end.ensures
       ∙ ap₂ (λ x y. min (k + x) y) c.taken_in_row.ensures at.loop-k.invariant.2
 
   in_row : count ≤ p.args.d
@@ -88,24 +79,17 @@ module _ (c : After-smaller-end) where
       → is_taken p.args.d p.args.full p.args.to p.args.stop y ≡ false
   kept y low high top b = (here y low top).1 (omega (arith, end_is))
 
-pub put_back-requires : goal.put_back-requires
-put_back-requires c = let m = (goal.at.put_back-requires c).After-smaller-end in
-    let g = at m in
-    let q = (p m).requires in
-    let s = q.3.stopped in record {
-      le_d = (q.0, omega arith, omega (arith, end_is m, g.loop-k.invariant.0), omega (arith, end_is m, g.loop-k.invariant.2));
-      by_index = λ y low high.
-          rw (taken_back s (k m + (p m).args.d) y (g.loop-k.invariant.3 q.3.before s) (omega (arith, end_is m, in_row m))
-          (omega arith) (omega (arith, end_is m)) (taken m y low high))
-          (s.fit y (omega arith) (omega (arith, end_is m, s.len)) (taken m y low high));
-    }
-
-pub loop-k-smaller : goal.loop-k-smaller
-loop-k-smaller c = let g = c in omega (arith, g.requires.0)
+pub put_back-requires-clause-by_index : goal.put_back-requires-clause-by_index
+put_back-requires-clause-by_index c = λ y low high.
+    let m = (goal.at.put_back-requires-clause-by_index c).After-min-end in
+    let s = c.requires.3.stopped in
+    rw (taken_back s (k m + c.args.d) y (c.loop-k.invariant.3 c.requires.3.before s) (omega (arith, end_is m, in_row m))
+    (omega arith) (omega (arith, end_is m)) (taken m y low high))
+    (s.fit y (omega arith) (omega (arith, end_is m, s.len)) (taken m y low high))
 
 pub loop-k-preserved : goal.loop-k-preserved
 loop-k-preserved c =
-    let m = (goal.at.loop-k-preserved c).After-smaller-end in
+    let m = (goal.at.loop-k-preserved c).After-min-end in
     let g = at m in
     let q = p m in
     let e : k m ≡ k m - q.args.d + q.args.d = omega arith in (
@@ -121,9 +105,6 @@ loop-k-preserved c =
           (omega (arith, end_is m, g.loop-k.invariant.0)) (omega (arith, end_is m, in_row m))
           (λ y low high _. taken m y low high) (kept m)),
     )
-
-pub shape_of-a : goal.shape_of-a
-shape_of-a c = c.loop-k.invariant.2
 
 pub returns : goal.returns
 returns c = λ l s.

@@ -1,11 +1,6 @@
--- `sizes_of` meets its contract: an invariant of the first i indices (Sizing).
-use Prim.Native.Nat.{◌-◌}
-use lib.ListN.{length}
+-- `sizes_of` meets its contract: an invariant of the indices passed (Sizing).
 use Rattle.cascade.proofs.Sizing.{Sized}
 use Rattle.cascade.proofs.asked.sizes_of.Given as goal
 
-abbrev pub invariant-loop-i : goal.invariant-loop-i
-invariant-loop-i l = Sized l.indices l.total l.longest l.i
-
-abbrev pub decreases-loop-i : goal.decreases-loop-i
-decreases-loop-i l = length l.indices - l.i
+abbrev pub invariant-loop-n : goal.invariant-loop-n
+invariant-loop-n l = Sized l.indices l.total l.longest l.n-index

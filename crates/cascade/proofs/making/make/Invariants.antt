@@ -1,13 +1,6 @@
 -- `make` meets its contract: an invariant of the first i factors (Underway).
-use Prim.Native.Nat.{◌-◌}
-use mathlib.Core.Path.{◌≡◌}
-use lib.ListN.{length}
 use Rattle.cascade.proofs.Underway.{Underway}
 use Rattle.cascade.proofs.making.make.Given as goal
 
 abbrev pub invariant-loop-i : goal.invariant-loop-i
-invariant-loop-i l =
-    Underway l.indices l.b l.scratch l.so l.i × (length l.scratch ≡ length l.initial.scratch)
-
-abbrev pub decreases-loop-i : goal.decreases-loop-i
-decreases-loop-i l = length l.indices - l.i
+invariant-loop-i l = Underway l.indices l.b l.scratch l.so l.i

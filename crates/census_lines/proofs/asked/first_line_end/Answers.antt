@@ -1,24 +1,20 @@
--- `census_lines::asked::first_line_end` meets its contract. The loop's invariant: no newline has been passed.
-use native.Mathlib.Omega.{arith}
-use Rattle.census_lines.proofs.FirstLine.{passed_none, passes, at_newline, at_end}
+-- `census_lines::asked::first_line_end` meets its contract: the bytes before the newline are counted.
+use Rattle.std.proofs.Common.{◌≡◌, ◌∙◌, length, not, rules, tests}
+use Rattle.std.proofs.lemmas.Iterator.{YieldsList-from_slice}
+use Rattle.std.proofs.lemmas.Iterator.Consumers.{count_from_yields_List}
+use Rattle.std.proofs.lemmas.Iterator.Search.{YieldsList-from_take_while}
+use Rattle.std.proofs.lemmas.List.Folds.{length-prefix_len}
+use Rattle.std.proofs.Math.Dec.{eqb}
+use Rattle.census_lines.specs.Asked.{first_line}
+use Rattle.census_lines.proofs.FirstLine.{counted, front, within}
 use Rattle.census_lines.proofs.asked.first_line_end.Goals as goal
 
-pub loop-i-init : goal.loop-i-init
-loop-i-init c = (omega arith, passed_none _)
-
-pub returns-then-input-i-eq10 : goal.returns-then-input-i-eq10
-returns-then-input-i-eq10 c = let t = c in record {
-  upper_bound = t.loop-i.invariant.0;
-  input_value = at_newline t.loop-i.invariant.1 c.loop-i-test.true c.if-input-i-eq10.true;
-}
-
-pub loop-i-preserved : goal.loop-i-preserved
-loop-i-preserved c =
-    let t = c in
-    (omega arith, passes t.loop-i.invariant.1 c.loop-i-test.true c.if-input-i-eq10.false)
-
 pub returns : goal.returns
-returns c = record {
-  upper_bound = c.loop-i.invariant.0;
-  input_value = at_end c.loop-i.invariant.1 c.loop-i-test.false;
-}
+returns c =
+    let input = c.args.input.now in
+    let is : c.count.result ≡ length (first_line input) =
+    count_from_yields_List c.take_while.result _ c.count.ensures.ran
+    (YieldsList-from_take_while _ (λ x. not (eqb x 10)) (YieldsList-from_slice input (cc)) c.take_while.ensures.closure
+    c.take_while.ensures.done (λ x b q k. search (rules, tests)))
+    ∙ length-prefix_len (λ x. not (eqb x 10)) input ∙ counted input in
+    rw is (record { upper_bound = within input; input_value = front input })

@@ -1,38 +1,29 @@
--- `census_lines::asked::read_bounds` meets its contract: the numbers of digits that it counts are those of the
--- definition (`Reading`).
-use mathlib.Core.Path.{◌≡◌, sym, ◌∙◌}
-use Rattle.census_lines.specs.Asked.{is_good, no_bounds}
-use Rattle.census_lines.proofs.Reading.{counted, good_as, too_many_good, second, reads_good, reads_wrong}
+-- `census_lines::asked::read_bounds` meets its contract, part by part (`Reading`).
+use Rattle.std.proofs.Common.{sym, arith}
+use borrow.Author.Tests.{eq-eqb, ne_eqb}
+use Rattle.digits.proofs.Digits.{nine_range}
+use Rattle.census_lines.proofs.Reading.{no_first, no_space, no_second, reads_all}
 use Rattle.census_lines.proofs.asked.read_bounds.Goals as goal
-use Rattle.census_lines.proofs.asked.read_bounds.Goals.{After-is_good_with}
 
-pub number_at-requires-then-is_good_with : goal.number_at-requires-then-is_good_with
-number_at-requires-then-is_good_with c =
-    let tested = c in (
-      tested.digits_at-q.ensures,
-      (counted _ tested.digits_at-p.result tested.digits_at-q.result
-          (sym tested.is_good_with.ensures ∙ c.if-is_good_with.true)).1,
-    )
+pub returns-in_err-p : goal.returns-in_err-p
+returns-in_err-p c = rw c.from_residual.ensures (sym (no_first _ c.in_err-p.ensures))
 
--- the test's answer is whether the line is good
-as_good : (c : After-is_good_with) → c.is_good_with.result
-    ≡ is_good c.args.line.now
-as_good c = c.is_good_with.ensures
-    ∙ good_as _ _ _ c.digits_at-p.ensures c.digits_at-q.ensures
+pub returns-then-byte_at-ne32 : goal.returns-then-byte_at-ne32
+returns-then-byte_at-ne32 c =
+    let gap = ne_eqb _ _ c.if-byte_at-ne32.true in
+    sym (no_space _ (rw (c.byte_at.ensures, c.in_ok-p.ensures.1) at gap))
 
-pub returns-then-is_good_with : goal.returns-then-is_good_with
-returns-then-is_good_with c =
-    let tested = (goal.at.returns-then-is_good_with c).After-is_good_with in
-    let first = tested.digits_at-p in
-    reads_good _ _ _ (sym (as_good tested) ∙ c.if-is_good_with.true) c.number_at.ensures.0
-    (c.number_at-then-is_good_with.ensures.0 ∙ second _ first.result first.ensures)
+pub returns-in_err-q : goal.returns-in_err-q
+returns-in_err-q c =
+    rw c.from_residual-in_err-q.ensures (sym (no_second _ (rw c.in_ok-p.ensures.1 at c.in_err-q.ensures)))
 
-pub returns-else-is_good_with : goal.returns-else-is_good_with
-unfolding no_bounds
-returns-else-is_good_with c = sym (reads_wrong _ (sym (as_good (goal.at.returns-else-is_good_with c).After-is_good_with) ∙ c.if-is_good_with.false))
+pub overflow_add-whole-2 : goal.overflow_add-whole-2
+overflow_add-whole-2 c =
+    let p = c.in_ok-p.ensures in
+    let q = c.in_ok-q.ensures in
+    omega (arith, nine_range _ p.0, p.1, nine_range _ q.0, q.1)
 
-pub returns-else-p-lt10 : goal.returns-else-p-lt10
-unfolding no_bounds
-returns-else-p-lt10 c =
-    let first = c.digits_at-p in
-    sym (reads_wrong _ (too_many_good _ first.result first.ensures c.if-p-lt10.false))
+pub returns : goal.returns
+returns c =
+    reads_all _ _ _ _ _ _ c.in_ok-p.ensures (rw c.byte_at.ensures at (eq-eqb _ _ c.if-byte_at-ne32.false))
+    c.in_ok-q.ensures c.then_some.ensures

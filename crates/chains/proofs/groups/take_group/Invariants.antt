@@ -6,7 +6,7 @@ use Rattle.chains.proofs.Group.{GroupAt}
 use Rattle.chains.proofs.groups.take_group.Given as goal
 
 abbrev pub invariant-loop-k : goal.invariant-loop-k
-invariant-loop-k l = GroupAt l.w l.d l.c (length l.initial.s) l.k l.initial.a l.a l.s
+invariant-loop-k g l = GroupAt l.w l.d l.c g.row.N l.k l.initial.a l.a l.s
 
 abbrev pub decreases-loop-k : goal.decreases-loop-k
-decreases-loop-k l = length l.initial.a + l.d - l.k
+decreases-loop-k g l = length l.initial.a + l.d - l.k

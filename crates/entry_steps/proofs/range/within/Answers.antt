@@ -10,12 +10,6 @@ use Rattle.step_laws.specs.Machine.{seen, limit_fits, negative, negative_fits}
 use Rattle.entry_steps.proofs.range.within.Goals as goal
 use Rattle.entry_steps.proofs.range.within.Goals.{Start}
 
-pub overflow_cast-most : goal.overflow_cast-most
-overflow_cast-most c = limit_fits c.args.w c.requires.1
-
-pub overflow_sub-least : goal.overflow_sub-least
-overflow_sub-least c = negative_fits c.args.w c.requires.1
-
 -- the two tests, as the machine sees them
 module _ (p : Start) where
   upper : le_z (seen p.args.v) (to_z w64 p.args.w) ≡ le_z p.args.v (pos p.args.w)

@@ -1,27 +1,16 @@
--- `past_sixteens`: none starts from the first place to `at` (Searching).
-use Prim.Native.Nat.{◌+◌}
-use native.Mathlib.Omega.{arith}
-use Rattle.keeping.proofs.Searching.{unmarked_none, unmarked_more}
+-- `past_sixteens`: one more of them, with none (Searching).
+use Rattle.std.proofs.Common.{◌≡◌, ◌+◌, ◌-◌, drop, length-drop, arith}
+use Rattle.keeping.proofs.Searching.{unmarked_more, unmarked_behind, unmarked_front}
 use Rattle.keeping.proofs.marks.past_sixteens.Goals as goal
-
-pub loop-at-init : goal.loop-at-init
-loop-at-init c = (omega arith, c.requires, unmarked_none c.args.shelf.now c.args.from)
-
-pub overflow_sub-shelf : goal.overflow_sub-shelf
-overflow_sub-shelf c = c.loop-at.invariant.1
-
-pub returns-then-marked_ahead : goal.returns-then-marked_ahead
-returns-then-marked_ahead c = c.loop-at.invariant
 
 pub loop-at-preserved : goal.loop-at-preserved
 loop-at-preserved c =
-    let loop = c in
-    let a = loop.args in (
-      omega (arith, loop.loop-at.invariant.0),
+    let shelf = c.args.shelf.now in
+    let at = c.loop-at.at in
+    let sixteen : at + 16 - at ≡ 16 = omega arith in
+    let none = rw sixteen at c.is_marked.ensures c.if-not-is_marked.true in (
+      omega (arith, c.loop-at.invariant.0),
       omega arith,
-      unmarked_more a.shelf.now a.from loop.loop-at.at (loop.loop-at.at + 16) loop.loop-at.invariant.2
-          (c.marked_ahead.ensures c.if-marked_ahead.false),
+      unmarked_more shelf c.args.from at (at + 16) c.loop-at.invariant.2
+          (unmarked_behind shelf at 16 (unmarked_front (drop at shelf) 16 (omega (arith, length-drop at shelf)) none)),
     )
-
-pub returns : goal.returns
-returns c = c.loop-at.invariant

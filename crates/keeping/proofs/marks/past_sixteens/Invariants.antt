@@ -1,6 +1,5 @@
--- `past_sixteens`: none starts from the first place to `at` (Searching).
-use Prim.Native.Nat.{◌-◌, ◌≤◌}
-use lib.ListN.{length}
+-- `past_sixteens`: none starts in the sixteens before.
+use Rattle.std.proofs.Common.{◌≤◌, ◌-◌, length}
 use Rattle.keeping.specs.Trying.{Unmarked}
 use Rattle.keeping.proofs.marks.past_sixteens.Given as goal
 

@@ -1,8 +1,14 @@
--- `differ_in`: one loop, by its width.
+-- `differ_in`: the last width is 8.
+use Rattle.std.proofs.Common.{arith}
+use Rattle.widths.proofs.Least.{width_last}
 use Rattle.keeping.proofs.same.differ_in.Goals as goal
 
-pub differ_at-requires : goal.differ_at-requires
-differ_at-requires c = rw c.if-w-eq1.true at c.requires
+pub differ_at-requires-in_default : goal.differ_at-requires-in_default
+differ_at-requires-in_default c =
+    let last = width_last c.args.w c.requires.0 (λ e. omega arith) (λ e. omega arith) (λ e. omega arith) in
+    rw last at c.requires
 
-pub returns-then-w-eq1 : goal.returns-then-w-eq1
-returns-then-w-eq1 c = rw c.if-w-eq1.true c.differ_at.ensures
+pub returns-in_default : goal.returns-in_default
+returns-in_default c =
+    let last = width_last c.args.w c.requires.0 (λ e. omega arith) (λ e. omega arith) (λ e. omega arith) in
+    rw last c.differ_at-in_default.ensures

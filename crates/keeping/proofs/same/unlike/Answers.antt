@@ -1,11 +1,8 @@
--- `unlike`: two numbers as they stand in w bytes differ where what they stand for does (half_passes, Images).
-use Prim.Native.Nat.{◌≤◌, ◌<◌, ◌^◌}
-use mathlib.Core.Path.{◌≡◌, ◌∙◌, ap}
-use native.Mathlib.Omega.{arith}
-use lib.IntN.{nat_abs}
-use lib.ListN.{get_or}
+-- `unlike`: two numbers as they stand in W bytes differ where what they stand for does (half_passes, Images).
+use Rattle.std.proofs.Common.{◌≡◌, ℕ, ◌<◌, ◌≤◌, ◌^◌, ◌∙◌, ap, get_or, List, length, ℤ, nat_abs, arith}
 use lib.Signed.{mag}
 use Rattle.definitions.specs.Integers.{0ℤ}
+use Rattle.definitions.specs.Answer.{height_of}
 use Rattle.definitions.specs.Steps.{entries}
 use Rattle.heights.proofs.Signs.{passed}
 use Rattle.step_laws.specs.Machine.{seen}
@@ -14,28 +11,24 @@ use Rattle.widths.specs.Numbers.{top, twos}
 use Rattle.widths.proofs.Least.{width_bounds}
 use Rattle.half_passes.proofs.Images.{numbers_differ}
 use Rattle.keeping.proofs.same.unlike.Goals as goal
-use Rattle.keeping.proofs.same.unlike.Goals.{Start}
 
 -- the entry that was read
-read : (start : Start) → mag (get_or start.args.coeffs.now start.args.i 0ℤ) < 2 ^ 63
-    → seen (get_or start.args.coeffs.now start.args.i 0ℤ) ≡ entries start.args.coeffs.now start.args.i
+read : (coeffs : List ℤ) (i : ℕ) → mag (get_or coeffs i 0ℤ) < 2 ^ 63 → seen (get_or coeffs i 0ℤ) ≡ entries coeffs i
 unfolding entries
-read start fits = passed (get_or start.args.coeffs.now start.args.i 0ℤ) fits
+read coeffs i fits = passed (get_or coeffs i 0ℤ) fits
 
-within : (start : Start) → nat_abs (entries start.args.coeffs.now start.args.i) ≤ top start.args.w
-within start =
-    omega (arith, entry_within start.args.coeffs.now start.args.i start.requires.3, start.requires.2)
+within : (coeffs : List ℤ) (i w : ℕ) → i < length coeffs → height_of coeffs ≤ top w → nat_abs (entries coeffs i) ≤ top w
+within coeffs i w l h = omega (arith, entry_within coeffs i l, h)
 
 pub standing-requires : goal.standing-requires
-standing-requires c =
-    let start = (goal.at.standing-requires c).Start in
-    (start.requires.0, rw (read start c.standing-arg-1.given) (within start))
+standing-requires g c =
+    let small : mag (get_or c.args.coeffs.now c.args.i 0ℤ) < 2 ^ 63 = omega arith in
+    (c.requires.0, rw (read c.args.coeffs.now c.args.i small) (within _ _ g.row.W c.requires.3 c.requires.2))
 
 pub returns : goal.returns
-returns c =
-    let start = (goal.at.returns c).Start in
-    let a = start.args in
-    numbers_differ a.w _ _ (entries a.coeffs.now a.i) _ (width_bounds a.w start.requires.0).0
-    (within start)
-    (c.standing.ensures ∙ ap (twos a.w) (read start c.standing-arg-1.given))
+returns g c =
+    let small : mag (get_or c.args.coeffs.now c.args.i 0ℤ) < 2 ^ 63 = omega arith in
+    numbers_differ g.row.W _ _ (entries c.args.coeffs.now c.args.i) _ (width_bounds g.row.W c.requires.0).0
+    (within _ _ g.row.W c.requires.3 c.requires.2)
+    (c.standing.ensures ∙ ap (twos g.row.W) (read c.args.coeffs.now c.args.i small))
     c.number_of.ensures.1 c.number_of.ensures.0

@@ -1,92 +1,94 @@
 -- `take_divisors` meets its contract. The loop's invariant is where a run stands after i divisors (Running).
-use Prim.Native.Nat.{◌+◌}
-use mathlib.Core.Path.{◌≡◌, ◌∙◌, sym, ap}
+use Prim.Native.Nat.{ℕ, ◌-◌, ◌+◌, ◌<◌, ◌≤◌}
+use mathlib.Core.Path.{◌≡◌, ◌∙◌, ap}
+use mathlib.Core.List.{[], ◌∷◌}
 use native.Mathlib.Omega.{arith}
-use lib.ListN.{length}
-use Rattle.kept_half.proofs.Turning.{kept-length}
-use Rattle.kept_half.proofs.Running.{run_start, stands, more_due, runs_on, turned-length, stops}
-use Rattle.kept_half.proofs.Running.{standing_length, ran, ran_over, sum_small}
+use lib.ListN.{length, length-append}
+use Rattle.std.specs.Iterator.Adapters.{take_source}
+use Rattle.std.proofs.lemmas.Result.{err_from_is_err_and}
+use Rattle.definitions.specs.KeptHalf.{half_degree}
+use Rattle.kept_half.proofs.Running.{Running, run_start, start_due, due_here, runs_on, stops, standing_length}
+use Rattle.kept_half.proofs.Running.{took_all, ran, sum_small}
 use Rattle.kept_half.proofs.run.take_divisors.Goals as goal
+use Rattle.kept_half.proofs.run.take_divisors.Goals.{After-saturating_sub-additions}
 
-pub loop-i-init : goal.loop-i-init
-loop-i-init c = (
-  omega arith,
-  run_start c.args.w c.args.kind c.args.walk.r c.args.walk _ c.args.a.now c.requires.kept_half_at
-      c.requires.walk_value.0,
-)
+pub overflow_sub-due : goal.overflow_sub-due
+overflow_sub-due c = omega (arith, start_due c.args.walk.r c.requires.walk_value.0, c.requires.walk_value.1)
 
-pub take_divisor-outcome-requires : goal.take_divisor-outcome-requires
-take_divisor-outcome-requires c =
-    let q = c in
-    let p = c in (
-      stands p.args.w p.args.kind p.args.walk.r p.requires.kept_half_at.walk.squarefree p.requires.kept_half_at.walk.small
-          p.requires.kept_half_at.above
-          q.loop-i.invariant.1 (omega arith),
-      more_due p.args.w p.args.kind p.args.walk.r p.requires.kept_half_at.walk.squarefree
-          p.requires.kept_half_at.walk.small p.requires.kept_half_at.above q.loop-i.invariant.1 (omega arith),
-    )
+pub loop-divisor-init : goal.loop-divisor-init
+loop-divisor-init c =
+    let same = c.into_iter-divisor-iterator.ensures.into_iter_gives in
+    let from = c.take-divisor-items.ensures in
+    rw same (rw from.source record {
+      can = c.requires.kept_half_at.walk;
+      finite = tt;
+      left = omega (arith, from.count);
+      here = run_start _ _ _ _ _ _ c.requires.kept_half_at c.requires.walk_value.0;
+    })
 
-pub shape_of-a-then-outcome : goal.shape_of-a-then-outcome
-shape_of-a-then-outcome c =
-    let q = c in
-    let p = c in
-    turned-length p.args.w p.args.kind p.args.walk.r p.requires.kept_half_at.walk.squarefree p.requires.kept_half_at.walk.small
-    p.requires.kept_half_at.above q.loop-i.invariant.1 (omega arith) c.take_divisor-outcome.ensures
-    ∙ sym (standing_length p.requires.kept_half_at)
+-- in a turn fewer than j divisors were taken, and more are due
+left : (count more i j : ℕ) {due : ℕ} → more + 1 ≡ count → count + i ≡ j → j ≤ due → (i < j) × (i < due)
+left count more i j e f g = omega arith
 
-pub returns-then-outcome : goal.returns-then-outcome
-returns-then-outcome c =
-    let q = c in
-    let p = c in
-    ran_over p.args.w p.args.kind p.args.walk.r q.loop-i.i p.args.j _ (omega arith)
-    (stops p.args.w p.args.kind p.args.walk.r p.requires.kept_half_at.walk.squarefree p.requires.kept_half_at.walk.small
-    p.requires.kept_half_at.above
-    q.loop-i.invariant.1 (omega arith) c.take_divisor-outcome.ensures c.if-outcome.true)
-    (turned-length p.args.w p.args.kind p.args.walk.r p.requires.kept_half_at.walk.squarefree
-    p.requires.kept_half_at.walk.small
-    p.requires.kept_half_at.above q.loop-i.invariant.1 (omega arith) c.take_divisor-outcome.ensures)
+pub take_outlined-requires : goal.take_outlined-requires
+take_outlined-requires c =
+    let f = c.requires.kept_half_at in
+    due_here c.args.w c.args.kind c.args.walk.r f.walk.squarefree f.walk.small f.above c.loop-divisor.invariant.here
+    (left _ _ _ _ c.in-Some.ensures.steps.1 c.loop-divisor.invariant.left c.requires.walk_value.1).1 _ _ c.in-Some.ensures.steps.0
+
+pub returns-in_err-told : goal.returns-in_err-told
+returns-in_err-told c =
+    let f = c.requires.kept_half_at in
+    let told = err_from_is_err_and c.from_residual.result c.from_residual.ensures.1 in
+    let k = left _ _ _ _ c.in-Some.ensures.steps.1 c.loop-divisor.invariant.left c.requires.walk_value.1 in
+    rw told.1
+    (stops c.args.w c.args.kind c.args.walk.r f.walk.squarefree f.walk.small f.above c.loop-divisor.invariant.here
+    k.1 _ _ c.in-Some.ensures.steps.0 c.sort_for-sort.ensures k.0 c.in_err-told.ensures)
+
+module _ (c : After-saturating_sub-additions) where
+  count_is : c.saturating_sub-additions.result ≡ half_degree c.args.kind c.args.walk.r + 1 - c.in-Some.divisor.size
+  count_is =
+      c.saturating_sub-additions.ensures
+      ∙ ap (λ n. n - c.in-Some.divisor.size) (standing_length c.requires.kept_half_at)
+
+  further : Running c.args.w c.args.kind c.args.walk.r (length c.loop-divisor.yielded + 1)
+      (c.loop-divisor.additions + c.saturating_sub-additions.result) c.in_ok-told.told.bound (take_source c.next.new.self)
+      c.in_ok-told.told.outline c.take_outlined.new.a
+  further =
+      let f = c.requires.kept_half_at in
+      runs_on c.args.w c.args.kind c.args.walk.r f.walk.squarefree f.walk.small f.above c.loop-divisor.invariant.here
+      (left _ _ _ _ c.in-Some.ensures.steps.1 c.loop-divisor.invariant.left c.requires.walk_value.1).1 _ _
+      c.in-Some.ensures.steps.0 c.sort_for-sort.ensures c.in_ok-told.ensures count_is
 
 pub overflow_add-additions : goal.overflow_add-additions
 overflow_add-additions c =
-    let q = c in
-    let p = c in
-    let u = runs_on p.args.w p.args.kind p.args.walk.r p.requires.kept_half_at.walk.squarefree
-    p.requires.kept_half_at.walk.small
-    p.requires.kept_half_at.above q.loop-i.invariant.1 (omega arith) c.take_divisor-outcome.ensures
-    c.if-outcome.false in
+    let f = c.requires.kept_half_at in
+    let u = further (goal.at.overflow_add-additions c).After-saturating_sub-additions in
     omega (
       arith,
       u.sum,
-      sum_small p.args.kind p.args.walk.r p.requires.kept_half_at.walk.squarefree
-          p.requires.kept_half_at.walk.small p.requires.kept_half_at.above (q.loop-i.i + 1),
+      sum_small c.args.kind c.args.walk.r f.walk.squarefree f.walk.small f.above (length c.loop-divisor.yielded + 1),
     )
 
-pub loop-i-preserved : goal.loop-i-preserved
-loop-i-preserved c =
-    let q = c in
-    let p = c in (
-      omega arith,
-      runs_on p.args.w p.args.kind p.args.walk.r p.requires.kept_half_at.walk.squarefree p.requires.kept_half_at.walk.small
-          p.requires.kept_half_at.above q.loop-i.invariant.1 (omega arith)
-          c.take_divisor-outcome.ensures c.if-outcome.false,
-    )
+pub loop-divisor-preserved : goal.loop-divisor-preserved
+loop-divisor-preserved c =
+    let longer = length-append c.loop-divisor.yielded (c.in-Some.divisor ∷ []) in
+    record {
+      can = c.in-Some.ensures.goes.keeps;
+      finite = tt;
+      left = omega (arith, longer, c.in-Some.ensures.steps.1, c.loop-divisor.invariant.left);
+      here = rw longer (further (goal.at.loop-divisor-preserved c).After-saturating_sub-additions);
+    }
 
 pub write_out-requires : goal.write_out-requires
-write_out-requires c = c.loop-i.invariant.1.told
-
-pub shape_of-a : goal.shape_of-a
-shape_of-a c =
-    let q = c in
-    let p = c in
-    ap length (c.write_out.ensures ∙ q.loop-i.invariant.1.half)
-    ∙ kept-length p.args.kind p.args.walk.r q.loop-i.i
-    ∙ sym (standing_length p.requires.kept_half_at)
+write_out-requires c = c.loop-divisor.invariant.here.told
 
 pub returns : goal.returns
 returns c =
-    let q = c in
-    let p = c in
-    let e : q.loop-i.i ≡ p.args.j = omega arith in
-    ran p.args.w p.args.kind p.args.walk.r p.args.j q.loop-i.additions q.loop-i.bound
-    q.loop-i.at q.loop-i.outline q.loop-i.a _
-    (rw e at q.loop-i.invariant.1) c.write_out.ensures
+    let f = c.requires.kept_half_at in
+    let here = c.loop-divisor.invariant.here in
+    let all : length c.loop-divisor.yielded ≡ c.args.j =
+    took_all f.walk.squarefree f.walk.small f.above here c.requires.walk_value.1 _ _ c.loop-divisor.invariant.left
+    c.in-None.ensures.steps in
+    rw (start_due c.args.walk.r c.requires.walk_value.0)
+    (ran c.args.w c.args.kind c.args.walk.r c.args.j _ _ _ _ _ _ (rw all at here) c.write_out.ensures)

@@ -8,7 +8,7 @@ use Rattle.step_laws.specs.Machine.{seen, handed}
 use Rattle.light_sums.specs.Parts.{half, rest, rest_below}
 use Rattle.light_sums.specs.Told.{told}
 use Rattle.light_sums.specs.Terms.{high_half, low_half}
-use Rattle.light_sums.proofs.Joins.{shr_fits, rest_fits, carried, told-handed}
+use Rattle.light_sums.proofs.Joins.{shr_fits, rest_fits, carried}
 use Rattle.light_sums.proofs.halves.whole.Goals as goal
 use Rattle.light_sums.proofs.halves.whole.Goals.{After-high_half, After-low_half}
 
@@ -30,7 +30,17 @@ low c =
 pub joined-requires : goal.joined-requires
 joined-requires c =
     let v = c.args.low in
-    record { size = rest half v; below = rest_below half (omega arith) v; is = low (goal.at.joined-requires c).After-low_half }
+    record {
+      m = half;
+      k = 2147483648;
+      is = refl;
+      whole = refl;
+      rest = record {
+        size = rest half v;
+        below = rest_below half (omega arith) v;
+        is = low (goal.at.joined-requires c).After-low_half;
+      };
+    }
 
 pub returns : goal.returns
 returns c =
@@ -38,7 +48,6 @@ returns c =
     let sum : seen c.plus.result ≡ p.args.high ⊕ high_half p.args.low =
     handed p.requires
     (c.plus.ensures ∙ ap₂ ◌⊕◌ (to_z-of_z p.ranges.high) (above (goal.at.returns c).After-high_half)) in
-    told-handed (p.args.high ⊗ pos half ⊕ p.args.low)
-    (c.joined.ensures
+    c.joined.ensures
     ∙ ap told (ap₂ (λ a b. a ⊗ pos half ⊕ b) sum (low (goal.at.returns c).After-low_half)
-    ∙ carried half 2147483648 refl (omega arith) p.args.high p.args.low))
+    ∙ carried half 2147483648 refl (omega arith) p.args.high p.args.low)

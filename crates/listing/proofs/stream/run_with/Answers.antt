@@ -1,64 +1,30 @@
--- `listing::stream::run_with` meets its contract. The loop's invariant is `Going` of `Streaming`, at the bytes taken.
-use mathlib.Core.Path.{refl, ◌∙◌}
-use native.Mathlib.Omega.{arith}
+-- `listing::stream::run_with` meets its contract, by the steps of `Streaming`.
+use Rattle.std.proofs.Common.{◌≡◌, length, arith}
 use Rattle.listing.proofs.Streaming.{going_start, ends, stops, pushes, closes}
 use Rattle.listing.proofs.stream.run_with.Goals as goal
+use Rattle.listing.proofs.stream.run_with.Goals.{then-b-eq10+else-out-made-lt-MOST, else-b-eq10}
 
 pub loop-i-init : goal.loop-i-init
-loop-i-init c = (
-  going_start c.args.line c.args.piece.now
-      c.args.out.now,
-  refl,
-)
-
-pub overflow_sub-out : goal.overflow_sub-out
-overflow_sub-out c =
-    let g = c.loop-i.invariant.0 in
-    omega (arith, g.fits, g.same)
-
-pub shape_of-out-then-out-made-lt-MOST : goal.shape_of-out-then-out-made-lt-MOST
-shape_of-out-then-out-made-lt-MOST c = c.loop-i.invariant.0.same
-
-pub shape_of-entries-then-out-made-lt-MOST : goal.shape_of-entries-then-out-made-lt-MOST
-shape_of-entries-then-out-made-lt-MOST c = c.loop-i.invariant.1
+loop-i-init c = going_start _ _ _
 
 pub returns-then-out-made-lt-MOST : goal.returns-then-out-made-lt-MOST
-returns-then-out-made-lt-MOST c = stops _ _ _ c.loop-i.invariant.0 c.loop-i-test.true
-    c.if-b-eq10.true (omega arith)
-
-pub put_closing-made-requires : goal.put_closing-made-requires
-put_closing-made-requires c =
-    let g = c.loop-i.invariant.0 in (
-      c.loop-i.invariant.1
-          ∙ c.requires,
-      omega (arith, g.fits, g.same),
-    )
-
-pub loop-i-preserved-then-b-eq10 : goal.loop-i-preserved-then-b-eq10
-loop-i-preserved-then-b-eq10 c =
-    let t = c.loop-i in
-    let p = c.put_closing-made in (
-      rw c.next-s.ensures
-          (closes _ _ _ t.invariant.0
-          c.loop-i-test.true
-          c.if-b-eq10.true
-          (omega arith) p.ensures.puts p.ensures.upper_bound),
-      p.auto.entries ∙ t.invariant.1,
-    )
+returns-then-out-made-lt-MOST c =
+    stops _ _ _ c.loop-i.invariant c.loop-i-test.true c.if-b-eq10.true c.if-out-made-lt-MOST.true
 
 pub loop-i-preserved : goal.loop-i-preserved
 loop-i-preserved c =
-    let t = c.loop-i in (
-      rw c.push-s.ensures
-          (pushes _ _ _ t.invariant.0 c.loop-i-test.true c.if-b-eq10.false),
-      t.invariant.1,
-    )
-
-pub shape_of-out : goal.shape_of-out
-shape_of-out c = c.loop-i.invariant.0.same
-
-pub shape_of-entries : goal.shape_of-entries
-shape_of-entries c = c.loop-i.invariant.1
+    let g = c.loop-i.invariant in
+    let here = c.loop-i-test.true in
+    elim c.if-b-eq10.branch [
+      | then-b-eq10+else-out-made-lt-MOST w ↦
+          let p = w.put_closing-made.ensures in
+          rw (w.out-is, w.line-is, w.next.ensures, w.made-is)
+          (closes _ _ _ g here w.if-b-eq10.true w.if-out-made-lt-MOST.false p.puts p.upper_bound)
+      | else-b-eq10 w ↦ rw (w.out-is, w.line-is, w.push.ensures, w.made-is) (pushes _ _ _ g here w.if-b-eq10.false)
+    ]
 
 pub returns : goal.returns
-returns c = ends _ _ _ c.loop-i.invariant.0 c.loop-i-test.false
+returns c =
+    let g = c.loop-i.invariant in
+    let e : c.loop-i.i ≡ length c.args.piece.now = omega (arith, g.within) in
+    rw (← e) (ends _ _ _ g c.loop-i-test.false)

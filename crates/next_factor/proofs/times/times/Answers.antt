@@ -1,31 +1,25 @@
 -- `times` meets its contract: the lower half, and its mirror (Mirroring).
-use mathlib.Core.Path.{sym}
-use lib.Seq.{length-take-le}
-use Rattle.next_factor.proofs.Mirroring.{half_room, lower-asked, lower-over, mirror_asks, mirror_makes}
+use mathlib.Core.Path.{ap}
+use Rattle.std.specs.Prelude.{is_ok}
+use Rattle.exact_products.proofs.Lost.{not_ok}
+use Rattle.next_factor.proofs.Mirroring.{lower-asked, lower-over, mirror_asks, mirror_makes}
 use Rattle.next_factor.proofs.times.times.Goals as goal
 
-pub slice_bounds-times_lower-end-2 : goal.slice_bounds-times_lower-end-2
-slice_bounds-times_lower-end-2 c =
-    sym (length-take-le _ _ (half_room c.requires.0 c.requires.1))
-
 pub times_lower-requires : goal.times_lower-requires
-times_lower-requires c =
-    let p = c.requires in (lower-asked p.0 p.1, p.2)
+times_lower-requires c = let (asked, turns, room) = c.requires in (lower-asked asked turns, room)
 
-pub returns-then-not-times_lower : goal.returns-then-not-times_lower
-returns-then-not-times_lower c =
-    let p = c in
-    lower-over p.requires.0 p.requires.1 c.times_lower.ensures (c.if-not-times_lower.true)
+pub returns-in_err-times_lower : goal.returns-in_err-times_lower
+returns-in_err-times_lower c =
+    let (asked, turns, _) = c.requires in
+    rw (not_ok c.from_residual.result c.from_residual.ensures.0)
+    (lower-over asked turns c.times_lower.ensures (ap is_ok c.in_err-times_lower.was))
 
 pub mirror-requires : goal.mirror-requires
 mirror-requires c =
-    let p = c in
-    mirror_asks p.requires.0 p.requires.1 c.times_lower.ensures
-    (c.if-not-times_lower.false)
+    let (asked, turns, _) = c.requires in
+    mirror_asks asked turns c.times_lower.ensures (ap is_ok c.in_ok-times_lower.was)
 
 pub returns : goal.returns
 returns c =
-    let t = c in
-    let p = c in
-    mirror_makes p.requires.0 p.requires.1 t.times_lower.ensures (c.if-not-times_lower.false)
-    c.mirror.ensures
+    let (asked, turns, _) = c.requires in
+    mirror_makes asked turns c.times_lower.ensures (ap is_ok c.in_ok-times_lower.was) c.mirror.ensures

@@ -1,7 +1,7 @@
 -- `stop_at` meets its contract: each test's code, and after the steps the kept half or zeros (Stopping). What is known
 -- once the walk is made, and what `Stopping` takes, is named here once.
 use Prim.Native.Nat.{ℕ, ◌+◌, ◌<◌, ◌≤◌}
-use mathlib.Core.Path.{◌≡◌, sym, ◌∙◌, ap}
+use mathlib.Core.Path.{◌≡◌, ◌∙◌, ap}
 use mathlib.Core.Bool.{false}
 use mathlib.Core.List.{List}
 use native.Mathlib.Omega.{arith}
@@ -15,8 +15,9 @@ use Rattle.definitions.specs.Requests.{divisors_due}
 use Rattle.step_laws.specs.Machine.{seen, below_one_lem}
 use Rattle.step_laws.specs.WorkingLimit.{Workable, read_limit}
 use Rattle.index.proofs.Laws.{parts_few}
-use Rattle.kept_half.specs.Halves.{KeptHalfIs}
-use Rattle.kept_half.specs.declared.RunOutcome.{RunOutcome}
+use Rattle.std.specs.Prelude.{Result, Ok, Err}
+use Rattle.kept_half.specs.Halves.{KeptHalfIs, Over}
+use Rattle.kept_half.specs.declared.Ran.{Ran}
 use Rattle.kept_half.proofs.Walked as Walked
 use Rattle.partial.proofs.Stopping as Stopping
 use Rattle.partial.proofs.stop.stop_at.Goals as goal
@@ -52,12 +53,6 @@ module _ (q : After-over-walk) where
     module _ (room : D < length old) where
       part_length : length (lib.ListN.take (D + 1) old) ≡ D + 1
       part_length = length-take-le (D + 1) old (omega arith)
-
--- what the steps came to
-module _ (q : After-over-walk) {m : List ℤ} {h : RunOutcome} where
-  walk_of_r : {limit : ℕ} → KeptHalfIs limit (kind q) q.over-walk.result.r (start q).args.j m h
-      → KeptHalfIs limit (kind q) (r_of (n q)) (start q).args.j m h
-  walk_of_r = Walked.of_r (kind q) (n q) (start q).args.parts (start q).requires q.over-walk.result q.over-walk.ensures _
 
 pub over-walk-requires : goal.over-walk-requires
 over-walk-requires c = let p = c in parts_few p.args.n p.args.parts p.requires.parts p.requires.good
@@ -101,34 +96,33 @@ returns-then-buf-d c = let e = (goal.at.returns-then-buf-d c).Else-w-lt1 in
       buf_after = s.1;
     }
 
-pub slice_bounds-make_kept_half-end-2 : goal.slice_bounds-make_kept_half-end-2
-slice_bounds-make_kept_half-end-2 c =
-    let q = walked (goal.at.slice_bounds-make_kept_half-end-2 c).Else-w-lt1 in sym (part_length q (omega arith) (omega arith))
+pub make_kept_half-requires-clause-walk_at_start : goal.make_kept_half-requires-clause-walk_at_start
+make_kept_half-requires-clause-walk_at_start c =
+    let q = walked (goal.at.make_kept_half-requires-clause-walk_at_start c).Else-w-lt1 in
+    Walked.fresh_half (kind q) (n q) _ (start q).requires q.over-walk.result q.over-walk.ensures _ _
+    (part_length q (omega arith) (omega arith) ∙ ap (λ k. k + 1) (d_is q)) (few_due q (omega arith))
 
-pub make_kept_half-outcome-requires : goal.make_kept_half-outcome-requires
-make_kept_half-outcome-requires c = let e = (goal.at.make_kept_half-outcome-requires c).Else-w-lt1 in
-    let q = walked e in record {
-      walk_at_start = Walked.fresh_half (kind q) (n q) _ (start q).requires q.over-walk.result q.over-walk.ensures _ _
-          (part_length q (omega arith) (omega arith) ∙ ap (λ k. k + 1) (d_is q)) (few_due q (omega arith));
-      workable = (limit e c.magnitude.ensures).2;
-    }
+-- what the steps came to is what n's come to
+of_n : (q : After-over-walk) (limit : ℕ) (m : List ℤ) (h : Result Ran Over)
+    → KeptHalfIs limit (kind q) q.over-walk.result.r (start q).args.j m h
+    → KeptHalfIs limit (kind q) (r_of (n q)) (start q).args.j m h
+of_n q = Walked.of_r (kind q) (n q) (start q).args.parts (start q).requires q.over-walk.result q.over-walk.ensures _
 
-pub returns-then-outcome : goal.returns-then-outcome
-returns-then-outcome c = let m = c in
-    let e = (goal.at.returns-then-outcome c).Else-w-lt1 in
-    let q = walked e in
-    let s = Stopping.made_over_lem (kind q) (n q) (start q).args.j (w e) _ (start q).requires (old q) _ (d_is q)
-    (few_due q (omega arith)) (good e) (omega arith) _ _ (limit e m.magnitude.ensures).0
-    (walk_of_r q m.make_kept_half-outcome.ensures) c.if-outcome.true in record {
-      value = c.refused-then-outcome.ensures ∙ s.0;
-      buf_after = s.1;
-    }
-
-pub returns : goal.returns
-returns c =
-    let m = c in
-    let e = (goal.at.returns c).Else-w-lt1 in
+pub returns-in-Ok : goal.returns-in-Ok
+returns-in-Ok c =
+    let e = (goal.at.returns-in-Ok c).Else-w-lt1 in
     let q = walked e in
     let s = Stopping.made_done (kind q) (n q) (start q).args.j (w e) _ (start q).requires (old q) _ (d_is q)
-    (few_due q (omega arith)) (good e) (omega arith) _ _ (limit e m.magnitude.ensures).0
-    (walk_of_r q m.make_kept_half-outcome.ensures) c.if-outcome.false in record { value = s.0; buf_after = s.1 }
+    (few_due q (omega arith)) (good e) (omega arith) _ (limit e c.unsigned_abs.ensures.value).0
+    (of_n q _ _ (Ok c.in-Ok.ran) c.in-Ok.ensures) in record { value = s.0; buf_after = s.1 }
+
+pub returns-in-Err : goal.returns-in-Err
+returns-in-Err c =
+    let e = (goal.at.returns-in-Err c).Else-w-lt1 in
+    let q = walked e in
+    let s = Stopping.made_over_lem (kind q) (n q) (start q).args.j (w e) _ (start q).requires (old q) _ (d_is q)
+    (few_due q (omega arith)) (good e) (omega arith) _ (limit e c.unsigned_abs.ensures.value).0
+    (of_n q _ _ (Err _) c.in-Err.ensures) in record {
+      value = c.refused-in-Err.ensures ∙ s.0;
+      buf_after = s.1;
+    }

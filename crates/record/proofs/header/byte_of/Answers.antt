@@ -1,26 +1,25 @@
--- `byte_of`: the table looked up, a row each.
-use borrow.Author.Tests.{ne_eqb}
+-- `byte_of`: the table looked up, a row each (Refused).
 use Rattle.record.specs.Header.{byte_of}
+use Rattle.record.proofs.Refused.{byte_else}
 use Rattle.record.proofs.header.byte_of.Goals as goal
 
-pub returns-in-12 : goal.returns-in-12
+pub returns-in-RecordKind : goal.returns-in-RecordKind
 unfolding byte_of
-returns-in-12 c = rw c.in-12.is
+returns-in-RecordKind c = rw c.in-RecordKind.is
 
-pub returns-in-13 : goal.returns-in-13
+pub returns-in-RecordWidth : goal.returns-in-RecordWidth
 unfolding byte_of
-returns-in-13 c = rw c.in-13.is
+returns-in-RecordWidth c = rw c.in-RecordWidth.is
 
-pub returns-in-14 : goal.returns-in-14
+pub returns-in-RecordIndex : goal.returns-in-RecordIndex
 unfolding byte_of
-returns-in-14 c = rw c.in-14.is
+returns-in-RecordIndex c = rw c.in-RecordIndex.is
 
-pub returns-in-15 : goal.returns-in-15
+pub returns-in-RecordCount : goal.returns-in-RecordCount
 unfolding byte_of
-returns-in-15 c = rw c.in-15.is
+returns-in-RecordCount c = rw c.in-RecordCount.is
 
 pub returns-in_default : goal.returns-in_default
-unfolding byte_of
 returns-in_default c =
-    let r = c.in_default.in_default-own.rest in
-    simp (ne_eqb _ _ r.0.0.0.1, ne_eqb _ _ r.0.0.1, ne_eqb _ _ r.0.1, ne_eqb _ _ r.1)
+    let o = c.in_default in
+    byte_else c.args.refusal o.not-RecordKind o.not-RecordWidth o.not-RecordIndex o.not-RecordCount

@@ -12,4 +12,4 @@ returns-in-Stopped c = rw c.in-Stopped.is c.refused.ensures
 
 pub returns-in-Ended : goal.returns-in-Ended
 unfolding found_by
-returns-in-Ended c = rw c.in-Ended.is c.refused-in-Ended.ensures
+returns-in-Ended c = rw c.in-Ended.is c.without.ensures

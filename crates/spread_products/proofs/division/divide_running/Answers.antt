@@ -1,9 +1,8 @@
--- `division::divide_running` meets its contract. The invariant: the division has got to i, and what is carried is the
--- quotient's entry before it.
+-- `division::divide_running` meets its contract: each entry from here on is the old one.
 use mathlib.Core.Path.{◌∙◌, ap}
 use native.Mathlib.Omega.{arith}
 use mir.Syntax.{w64}
-use mir.Val.{SFits, to_z}
+use mir.Val.{to_z}
 use mir.Facts.{to_z-of_z}
 use Rattle.definitions.specs.Integers.{◌⊝◌}
 use Rattle.definitions.specs.Steps.{entries}
@@ -13,28 +12,16 @@ use Rattle.wrapped_sums.specs.Residues.{wrap_fits}
 use Rattle.spread_products.proofs.Dividing.{low-start, carried_first, running_next, running_ends}
 use Rattle.spread_products.proofs.division.divide_running.Goals as goal
 
-pub loop-i-init : goal.loop-i-init
-loop-i-init c = (low-start 1 (omega arith) c.args.a.now, carried_first (entries c.args.a.now))
+pub loop-x-init : goal.loop-x-init
+loop-x-init c = (low-start 1 (omega arith) c.args.a.now, carried_first (entries c.args.a.now))
 
-pub loop-i-smaller : goal.loop-i-smaller
-loop-i-smaller c = omega (arith, c.put.auto.a)
-
-pub loop-i-preserved : goal.loop-i-preserved
+pub loop-x-preserved : goal.loop-x-preserved
 unfolding entries
-loop-i-preserved c =
-    let s = c in
-    let f : SFits w64 (entries s.loop-i.a s.loop-i.i) = record {
-      sfits =
-          c.minus-arg-1.given;
-    } in
+loop-x-preserved c =
     let v = handed (wrap_fits _) (c.minus-carried.ensures
-    ∙ ap (λ x. wrap (to_z w64 s.loop-i.carried-bits ⊝ x)) (to_z-of_z f)) in
-    let n = running_next s.args.a.now s.loop-i.invariant.0 s.loop-i.invariant.1 (omega
-    (arith, s.loop-i.invariant.0.len)) v in
-    (rw c.put.ensures n.1, n.0)
-
-pub shape_of-a : goal.shape_of-a
-shape_of-a c = c.loop-i.invariant.0.len
+    ∙ ap (λ x. wrap (to_z w64 c.loop-x.carried-bits ⊝ x)) (to_z-of_z {w = w64} (record { sfits = omega arith }))) in
+    let n = running_next c.args.a.now c.loop-x.invariant.0 c.loop-x.invariant.1 c.loop-x-test.true v in
+    (n.1, n.0)
 
 pub returns : goal.returns
-returns c = running_ends _ c.loop-i.invariant.0 (omega (arith, c.loop-i.invariant.0.len))
+returns c = running_ends _ c.loop-x.invariant.0 (omega arith)

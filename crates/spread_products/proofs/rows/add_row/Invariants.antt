@@ -1,10 +1,6 @@
 -- `rows::add_row` meets its contract. The invariant: the row has got to the place j of g.
-use Prim.Native.Nat.{◌-◌, ◌≤◌}
 use Rattle.spread_products.proofs.Adding.{RowTo}
 use Rattle.spread_products.proofs.rows.add_row.Given as goal
 
 abbrev pub invariant-loop-j : goal.invariant-loop-j
-invariant-loop-j l = RowTo l.away l.at l.g l.initial.a l.a l.j × (l.j ≤ l.end)
-
-abbrev pub decreases-loop-j : goal.decreases-loop-j
-decreases-loop-j l = l.end - l.j
+invariant-loop-j l = RowTo l.away l.at l.g l.initial.a l.a l.j

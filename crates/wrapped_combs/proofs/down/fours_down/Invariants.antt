@@ -1,4 +1,4 @@
--- `wrapped_steps::down::fours_down` meets its contract, which is the loop's invariant: the comb got down to t.
+-- `wrapped_combs::down::fours_down` meets its contract, which is the loop's invariant: the comb got down to t.
 use Rattle.wrapped_combs.specs.Wrapped.{DownTo}
 use Rattle.wrapped_combs.proofs.down.fours_down.Given as goal
 

@@ -2,7 +2,7 @@
 -- of whatever list the accumulate got up to k, it got q further.
 use mathlib.Core.Path.{◌≡◌}
 use mathlib.Core.List.{List}
-use Prim.Native.Nat.{◌+◌, ◌-◌, ◌≤◌}
+use Prim.Native.Nat.{◌+◌}
 use lib.ListN.{length}
 use lib.IntN.{ℤ}
 use Rattle.wrapped_steps.specs.Upward.{UpTo}
@@ -10,12 +10,7 @@ use Rattle.wrapped_steps.specs.Rows.{Carried}
 use Rattle.wrapped_steps.proofs.rows.take_row.Given as goal
 
 abbrev pub invariant-loop-q : goal.invariant-loop-q
-invariant-loop-q v =
-    (v.q ≤ v.d)
-    × (length v.s ≡ length v.initial.s)
-    × (length v.a ≡ length v.initial.a)
-    × Carried v.d v.k v.q v.s v.a
-    × ((l : List ℤ) → UpTo v.d l v.initial.a v.k → UpTo v.d l v.a (v.k + v.q))
-
-abbrev pub decreases-loop-q : goal.decreases-loop-q
-decreases-loop-q l = l.d - l.q
+invariant-loop-q g v =
+    (length v.s ≡ g.row.N)
+    × Carried g.row.N v.k v.q v.s v.a
+    × ((l : List ℤ) → UpTo g.row.N l v.initial.a v.k → UpTo g.row.N l v.a (v.k + v.q))

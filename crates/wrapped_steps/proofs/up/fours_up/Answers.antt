@@ -6,16 +6,7 @@ use Rattle.wrapped_steps.proofs.up.fours_up.Goals as goal
 pub loop-a-init : goal.loop-a-init
 loop-a-init c = start_up c.args.d c.args.a.now c.requires.1
 
-pub step_four-requires : goal.step_four-requires
-step_four-requires c = (omega arith, omega arith)
-
 pub loop-a-preserved : goal.loop-a-preserved
 loop-a-preserved c =
     rw c.step_four.ensures
     (four_up c.loop-a.invariant (omega arith) (omega arith) (omega arith))
-
-pub shape_of-a : goal.shape_of-a
-shape_of-a c = c.loop-a.invariant.split.len
-
-pub returns : goal.returns
-returns c = c.loop-a.invariant

@@ -1,0 +1,2 @@
+-- What the passes look for.
+pub mod Any

@@ -1,0 +1,2 @@
+-- What is open between two runs over a piece.
+pub mod Parts

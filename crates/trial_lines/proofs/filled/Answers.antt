@@ -1,7 +1,0 @@
--- `trial_lines::filled` meets its contract, by the length of a repeat and not by counting its bytes.
-use Rattle.std.proofs.Common.{ℕ, sym}
-use lib.ListN.{length-replicate}
-use Rattle.trial_lines.proofs.filled.Goals as goal
-
-pub returns : goal.returns
-returns c = sym (length-replicate {A = ℕ} 65536 170)

@@ -1,2 +1,0 @@
--- What the contracts cite.
-pub mod Lends
