@@ -134,13 +134,12 @@ pub struct Stop {
 }
 
 impl Answer {
-    // A refusal: its number and the degree that it tells; the rest is 0.
-    pub fn refused(refusal: Refusal, degree: u64) -> Answer
-        ensures { result
-            ≡ record { code = number_of refusal; degree = degree; additions = 0; height = 0; peak = 0; gain = pos 0 } }
+    // A refusal: its code and the degree that it tells; the rest is 0.
+    pub fn with_code(code: u64, degree: u64) -> Answer
+        ensures { result ≡ record { code = code; degree = degree; additions = 0; height = 0; peak = 0; gain = pos 0 } }
     {
         Answer {
-            code: u64::from(refusal),
+            code,
             degree,
             additions: 0,
             height: 0,
@@ -148,19 +147,34 @@ impl Answer {
             gain: 0,
         }
     }
+
+    // The same by its name.
+    pub fn refused(refusal: Refusal, degree: u64) -> Answer
+        ensures { result
+            ≡ record { code = number_of refusal; degree = degree; additions = 0; height = 0; peak = 0; gain = pos 0 } }
+    {
+        Answer::with_code(u64::from(refusal), degree)
+    }
 }
 
 impl Stop {
-    // A refusal: its number and the half degree that it tells; the rest is 0.
-    pub fn refused(refusal: Refusal, degree: u64) -> Stop
-        ensures { result ≡ record { code = number_of refusal; degree = degree; additions = 0; due = 0 } }
+    // A refusal: its code and the half degree that it tells; the rest is 0.
+    pub fn with_code(code: u64, degree: u64) -> Stop
+        ensures { result ≡ record { code = code; degree = degree; additions = 0; due = 0 } }
     {
         Stop {
-            code: u64::from(refusal),
+            code,
             degree,
             additions: 0,
             due: 0,
         }
+    }
+
+    // The same by its name.
+    pub fn refused(refusal: Refusal, degree: u64) -> Stop
+        ensures { result ≡ record { code = number_of refusal; degree = degree; additions = 0; due = 0 } }
+    {
+        Stop::with_code(u64::from(refusal), degree)
     }
 }
 

@@ -38,7 +38,7 @@ fn read_first_line(rt: &HostRuntime, input: &mut [u8]) -> Result<usize, ReadFail
 fn write_reply(rt: &HostRuntime, input: &[u8], text: &[u8])
     requires { text.now ≡ printed input.now }
 {
-    if rt.stdout().write_all(text).is_err() {
+    if Write::write_all(&mut rt.stdout(), text).is_err() {
         streams::say(
             rt,
             b"census: writing failed, of",

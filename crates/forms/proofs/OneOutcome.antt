@@ -14,6 +14,12 @@ use Rattle.forms.proofs.Written.refused.Reads as written-reads
 use Rattle.forms.specs.contracts.Record.refused as record-refused
 use Rattle.forms.proofs.Record.refused.Kinds as record-refused-kinds
 use Rattle.forms.proofs.Record.refused.Reads as record-refused-reads
+use Rattle.forms.specs.contracts.Written.with_code as written-coded
+use Rattle.forms.proofs.Written.with_code.Kinds as written-coded-kinds
+use Rattle.forms.proofs.Written.with_code.Reads as written-coded-reads
+use Rattle.forms.specs.contracts.Record.with_code as record-coded
+use Rattle.forms.proofs.Record.with_code.Kinds as record-coded-kinds
+use Rattle.forms.proofs.Record.with_code.Reads as record-coded-reads
 
 pub mark-of-one :
     (κs : Lfts 0) (a : ArgsD mark_of.signature κs) (z z' : ResD mark_of.signature κs)
@@ -32,3 +38,15 @@ pub record-refused-one :
     (e e' : AtExit (ended_of 0 record-refused-kinds.ps record-refused-kinds.r) κs)
     → record-refused-reads.Post κs a z e → record-refused-reads.Post κs a z' e' → z ≡ z'
 record-refused-one κs a z z' e e' p p' = p ∙ sym p'
+
+pub written-coded-one :
+    (κs : Lfts 0) (a : ArgsD written-coded.signature κs) (z z' : ResD written-coded.signature κs)
+    (e e' : AtExit (ended_of 0 written-coded-kinds.ps written-coded-kinds.r) κs)
+    → written-coded-reads.Post κs a z e → written-coded-reads.Post κs a z' e' → z ≡ z'
+written-coded-one κs a z z' e e' p p' = p ∙ sym p'
+
+pub record-coded-one :
+    (κs : Lfts 0) (a : ArgsD record-coded.signature κs) (z z' : ResD record-coded.signature κs)
+    (e e' : AtExit (ended_of 0 record-coded-kinds.ps record-coded-kinds.r) κs)
+    → record-coded-reads.Post κs a z e → record-coded-reads.Post κs a z' e' → z ≡ z'
+record-coded-one κs a z z' e e' p p' = p ∙ sym p'

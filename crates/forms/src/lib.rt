@@ -49,15 +49,22 @@ pub struct Written {
 
 impl Written {
     // A refusal: the degree is told with OVER and SHORT only, the byte with RCOUNT only.
-    pub fn refused(refusal: Refusal, degree: u64, byte: u64) -> Written
-        ensures { result ≡ record { code = number_of refusal; degree = degree; used = 0; byte = byte } }
+    pub fn with_code(code: u64, degree: u64, byte: u64) -> Written
+        ensures { result ≡ record { code = code; degree = degree; used = 0; byte = byte } }
     {
         Written {
-            code: refusal.into(),
+            code,
             degree,
             used: 0,
             byte,
         }
+    }
+
+    // The same by its name.
+    pub fn refused(refusal: Refusal, degree: u64, byte: u64) -> Written
+        ensures { result ≡ record { code = number_of refusal; degree = degree; used = 0; byte = byte } }
+    {
+        Written::with_code(u64::from(refusal), degree, byte)
     }
 }
 
@@ -76,16 +83,23 @@ pub struct Record {
 
 impl Record {
     // A refusal: the degree is told with SHORT only, the byte where a field of the header is wrong.
-    pub fn refused(refusal: Refusal, degree: u64, byte: u64) -> Record
-        ensures { result ≡ record { code = number_of refusal; degree = degree; used = 0; kind = 0; n = 0; byte = byte } }
+    pub fn with_code(code: u64, degree: u64, byte: u64) -> Record
+        ensures { result ≡ record { code = code; degree = degree; used = 0; kind = 0; n = 0; byte = byte } }
     {
         Record {
-            code: refusal.into(),
+            code,
             degree,
             used: 0,
             kind: 0,
             n: 0,
             byte,
         }
+    }
+
+    // The same by its name.
+    pub fn refused(refusal: Refusal, degree: u64, byte: u64) -> Record
+        ensures { result ≡ record { code = number_of refusal; degree = degree; used = 0; kind = 0; n = 0; byte = byte } }
+    {
+        Record::with_code(u64::from(refusal), degree, byte)
     }
 }

@@ -19,7 +19,7 @@ fn past_sixteens(shelf: &[u8], from: usize) -> usize
     ensures { (from ≤ result) × (result ≤ length shelf.now) × Unmarked shelf.now from result }
 {
     let mut at = from;
-    // Stays a while: a for over the sixteens is a sixth slower where mark follows mark; with step_by over any bytes.
+    // Stays a while: a for over the sixteens is a sixth slower where mark follows mark, with `step_by` by half.
     while 16 <= shelf.len() - at && !is_marked(&shelf[at..at + 16]) {
         at += 16;
     }

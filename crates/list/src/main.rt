@@ -57,7 +57,7 @@ fn write_made(
     requires next_value { next ≡ after line taken.now }
     ensures { IfErr result (λ e. e ≡ Failed.Writing next) }
 {
-    match rt.stdout().write_all(text) {
+    match Write::write_all(&mut rt.stdout(), text) {
         Ok(()) => Ok(()),
         Err(_) => Err(Failed::Writing(next)),
     }

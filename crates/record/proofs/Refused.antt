@@ -5,7 +5,6 @@ use Rattle.definitions.specs.Codes.{DONE}
 use Rattle.answers.specs.Refusals.{number_of, code_of}
 use Rattle.answers.specs.declared.Refusal.{Refusal}
 use Rattle.answers.specs.declared.Refusal.TheVariants as R
-use Rattle.record.specs.Header.{fields, byte_of}
 
 -- by their codes; 10 is none
 abbrev outcomes : List (Result ⊤ Refusal)
@@ -44,28 +43,3 @@ same_number r r' e = let f = same_code (Err r) (Err r') e in cc
 
 pub not_done : (r : Refusal) → number_of r ≡ DONE → ⊥
 not_done r e = let f = same_code (Err r) (Ok tt) e in cc
-
-pub byte_else : (r : Refusal) → (r ≡ R.RecordKind → ⊥) → (r ≡ R.RecordWidth → ⊥) → (r ≡ R.RecordIndex → ⊥)
-    → (r ≡ R.RecordCount → ⊥) → 0 ≡ byte_of fields (number_of r)
-unfolding byte_of
-byte_else R.Kind kind wide index count = refl
-byte_else R.Index kind wide index count = refl
-byte_else R.Limit kind wide index count = refl
-byte_else R.Short kind wide index count = refl
-byte_else R.Over kind wide index count = refl
-byte_else R.Tall kind wide index count = refl
-byte_else R.Step kind wide index count = refl
-byte_else R.Cut kind wide index count = refl
-byte_else R.Mark kind wide index count = refl
-byte_else R.Width kind wide index count = refl
-byte_else R.RecordKind kind wide index count = absurd (kind refl)
-byte_else R.RecordWidth kind wide index count = absurd (wide refl)
-byte_else R.RecordIndex kind wide index count = absurd (index refl)
-byte_else R.RecordCount kind wide index count = absurd (count refl)
-byte_else R.List kind wide index count = refl
-byte_else R.Absent kind wide index count = refl
-byte_else R.Uneven kind wide index count = refl
-byte_else R.Point kind wide index count = refl
-byte_else R.Coarse kind wide index count = refl
-byte_else R.Range kind wide index count = refl
-byte_else R.Rows kind wide index count = refl

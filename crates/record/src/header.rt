@@ -96,15 +96,22 @@ pub fn check_header(bytes: &[u8], mark: u8) -> Result<(), Refusal>
     check_fields(bytes)
 }
 
-// The byte at which the field starts that a refusal is about.
+// The byte at which the field of a code starts.
+pub fn byte_of_code(code: u64) -> u64
+    ensures { result ≡ byte_of fields code }
+{
+    match code {
+        answers::RKIND => 2,
+        answers::RWIDTH => 3,
+        answers::RINDEX => 4,
+        answers::RCOUNT => 6,
+        _ => 0,
+    }
+}
+
+// The same by the refusal's name.
 pub fn byte_of(refusal: Refusal) -> u64
     ensures { result ≡ byte_of fields (number_of refusal) }
 {
-    match refusal {
-        Refusal::RecordKind => 2,
-        Refusal::RecordWidth => 3,
-        Refusal::RecordIndex => 4,
-        Refusal::RecordCount => 6,
-        _ => 0,
-    }
+    byte_of_code(u64::from(refusal))
 }

@@ -64,7 +64,7 @@ fn read_all(rt: &HostRuntime, shelf: &mut [u8]) -> Result<usize, ReadFailed>
 fn write_kept(rt: &HostRuntime, shelf: &[u8], text: &[u8]) -> Result<(), Failed>
     requires { text.now ≡ kept shelf.now }
 {
-    match rt.stdout().write_all(text) {
+    match Write::write_all(&mut rt.stdout(), text) {
         Ok(()) => Ok(()),
         Err(_) => Err(Failed::Writing { of: text.len() }),
     }
@@ -93,7 +93,7 @@ fn write_line(
     requires stretch { Stretch shelf.now i start size }
     requires text_value { text.now ≡ line_of start size }
 {
-    rt.stderr().write_all(text)
+    Write::write_all(&mut rt.stderr(), text)
 }
 
 // Says one stretch, in one write.

@@ -69,5 +69,5 @@ pub fn say(rt: &HostRuntime, before: &[u8], count: u64, after: &[u8])
 {
     let mut line = [0u8; 128];
     let n = put_line(&mut line, before, count, after);
-    let _ = rt.stderr().write_all(&line[..n]);
+    let _ = Write::write_all(&mut rt.stderr(), &line[..n]);
 }

@@ -19,7 +19,8 @@ pub struct Listed {
 
 // The name that a line starts with, up to a space: a number in base 32 whose digits are its letters, a as 1. So no two
 // names of up to 12 small letters are the same.
-// Stays a number: the program takes capital letters for small ones, and has to go on doing so.
+// Stays a number: the program takes a letter by its last five bits, capital letters for small ones among them, and has
+// to go on doing so.
 pub fn name<'a>(line: &'a [u8]) -> (u64, &'a [u8]) {
     let end = line.iter().position(|b| *b == b' ').unwrap_or(line.len());
     let mut bits: u64 = 0;
