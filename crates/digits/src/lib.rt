@@ -1,4 +1,4 @@
-// Inner: `number_at` asks that the digits are few, which `request_lines` shows. Reading digits in a line of bytes.
+// Inner: `number_at` asks that the digits are few, which `number` shows. Reading digits in a line of bytes.
 
 #![tactic(auto)]
 
