@@ -20,12 +20,12 @@ use Rattle.answers.proofs.good_index.Reads as good-index-reads
 use Rattle.answers.specs.contracts.negates as negates
 use Rattle.answers.proofs.negates.Kinds as negates-kinds
 use Rattle.answers.proofs.negates.Reads as negates-reads
-use Rattle.answers.specs.contracts.Answer.with_code as answer-coded
-use Rattle.answers.proofs.Answer.with_code.Kinds as answer-coded-kinds
-use Rattle.answers.proofs.Answer.with_code.Reads as answer-coded-reads
-use Rattle.answers.specs.contracts.Stop.with_code as stop-coded
-use Rattle.answers.proofs.Stop.with_code.Kinds as stop-coded-kinds
-use Rattle.answers.proofs.Stop.with_code.Reads as stop-coded-reads
+use Rattle.answers.specs.contracts.Answer.of as answer-of
+use Rattle.answers.proofs.Answer.of.Kinds as answer-of-kinds
+use Rattle.answers.proofs.Answer.of.Reads as answer-of-reads
+use Rattle.answers.specs.contracts.Stop.of as stop-of
+use Rattle.answers.proofs.Stop.of.Kinds as stop-of-kinds
+use Rattle.answers.proofs.Stop.of.Reads as stop-of-reads
 
 pub answer-one :
     (κs : Lfts 0) (a : ArgsD answer.signature κs) (z z' : ResD answer.signature κs)
@@ -57,14 +57,14 @@ pub negates-one :
     → negates-reads.Post κs a z e → negates-reads.Post κs a z' e' → z ≡ z'
 negates-one κs a z z' e e' p p' = p ∙ sym p'
 
-pub answer-coded-one :
-    (κs : Lfts 0) (a : ArgsD answer-coded.signature κs) (z z' : ResD answer-coded.signature κs)
-    (e e' : AtExit (ended_of 0 answer-coded-kinds.ps answer-coded-kinds.r) κs)
-    → answer-coded-reads.Post κs a z e → answer-coded-reads.Post κs a z' e' → z ≡ z'
-answer-coded-one κs a z z' e e' p p' = p ∙ sym p'
+pub answer-of-one :
+    (κs : Lfts 0) (a : ArgsD answer-of.signature κs) (z z' : ResD answer-of.signature κs)
+    (e e' : AtExit (ended_of 0 answer-of-kinds.ps answer-of-kinds.r) κs)
+    → answer-of-reads.Post κs a z e → answer-of-reads.Post κs a z' e' → z ≡ z'
+answer-of-one κs a z z' e e' p p' = p ∙ sym p'
 
-pub stop-coded-one :
-    (κs : Lfts 0) (a : ArgsD stop-coded.signature κs) (z z' : ResD stop-coded.signature κs)
-    (e e' : AtExit (ended_of 0 stop-coded-kinds.ps stop-coded-kinds.r) κs)
-    → stop-coded-reads.Post κs a z e → stop-coded-reads.Post κs a z' e' → z ≡ z'
-stop-coded-one κs a z z' e e' p p' = p ∙ sym p'
+pub stop-of-one :
+    (κs : Lfts 0) (a : ArgsD stop-of.signature κs) (z z' : ResD stop-of.signature κs)
+    (e e' : AtExit (ended_of 0 stop-of-kinds.ps stop-of-kinds.r) κs)
+    → stop-of-reads.Post κs a z e → stop-of-reads.Post κs a z' e' → z ≡ z'
+stop-of-one κs a z z' e e' p p' = p ∙ sym p'

@@ -135,7 +135,7 @@ pub struct Stop {
 
 impl Answer {
     // A refusal: its code and the degree that it tells; the rest is 0.
-    pub fn with_code(code: u64, degree: u64) -> Answer
+    pub fn refused(code: u64, degree: u64) -> Answer
         ensures { result ≡ record { code = code; degree = degree; additions = 0; height = 0; peak = 0; gain = pos 0 } }
     {
         Answer {
@@ -149,17 +149,17 @@ impl Answer {
     }
 
     // The same by its name.
-    pub fn refused(refusal: Refusal, degree: u64) -> Answer
+    pub fn of(refusal: Refusal, degree: u64) -> Answer
         ensures { result
             ≡ record { code = number_of refusal; degree = degree; additions = 0; height = 0; peak = 0; gain = pos 0 } }
     {
-        Answer::with_code(u64::from(refusal), degree)
+        Answer::refused(u64::from(refusal), degree)
     }
 }
 
 impl Stop {
     // A refusal: its code and the half degree that it tells; the rest is 0.
-    pub fn with_code(code: u64, degree: u64) -> Stop
+    pub fn refused(code: u64, degree: u64) -> Stop
         ensures { result ≡ record { code = code; degree = degree; additions = 0; due = 0 } }
     {
         Stop {
@@ -171,10 +171,10 @@ impl Stop {
     }
 
     // The same by its name.
-    pub fn refused(refusal: Refusal, degree: u64) -> Stop
+    pub fn of(refusal: Refusal, degree: u64) -> Stop
         ensures { result ≡ record { code = number_of refusal; degree = degree; additions = 0; due = 0 } }
     {
-        Stop::with_code(u64::from(refusal), degree)
+        Stop::refused(u64::from(refusal), degree)
     }
 }
 

@@ -21,19 +21,19 @@ pub fn cascade(indices: &[u64], h: i64, buf: &mut [i64], scratch: &mut [i64]) ->
         ≡ Cascade.scratches indices.now h (length buf.old) scratch.old }
 {
     if indices.len() == 0 {
-        return Answer::refused(Refusal::List, 0);
+        return Answer::of(Refusal::List, 0);
     }
     if 8 < indices.len() {
-        return Answer::refused(Refusal::List, 0);
+        return Answer::of(Refusal::List, 0);
     }
     let Some(sizes) = asked::sizes_of(indices) else {
-        return Answer::refused(Refusal::Index, 0);
+        return Answer::of(Refusal::Index, 0);
     };
     if 65535 < sizes.total {
-        return Answer::refused(Refusal::List, 0);
+        return Answer::of(Refusal::List, 0);
     }
     if h < 1 {
-        return Answer::refused(Refusal::Limit, 0);
+        return Answer::of(Refusal::Limit, 0);
     }
     making::answer_in(indices, sizes, h.unsigned_abs(), buf, scratch)
 }

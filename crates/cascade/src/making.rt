@@ -36,11 +36,11 @@ fn answer_of(indices: &[u64], total: u64, h: u64, b: &mut [i64], scratch: &mut [
     shapes::clear(scratch);
     let Ok(made) = made else {
         shapes::clear(b);
-        return Answer::refused(Refusal::Over, total);
+        return Answer::of(Refusal::Over, total);
     };
     if h < made.height {
         shapes::clear(b);
-        return Answer::refused(Refusal::Tall, total);
+        return Answer::of(Refusal::Tall, total);
     }
     Answer {
         code: answers::DONE,
@@ -70,10 +70,10 @@ pub(crate) fn answer_in(
 {
     let total = sizes.total;
     if buf.len() as u64 <= total {
-        return Answer::refused(Refusal::Short, total);
+        return Answer::of(Refusal::Short, total);
     }
     if scratch.len() as u64 <= sizes.longest {
-        return Answer::refused(Refusal::Short, total);
+        return Answer::of(Refusal::Short, total);
     }
     let size = total as usize + 1;
     answer_of(indices, total, h, &mut buf[..size], scratch)

@@ -82,31 +82,18 @@ module _ (from : Form) (bs out : List ℕ) where
   unfolding convert_answer convert_leaves
   by_code code e = rw e (refl, refl)
 
-  pub refused : (code : ℕ) → convert_code from bs (length out) ≡ code → (code ≡ DONE → ⊥)
-      → Answered (convert_tells from bs code) out
-  refused code e z = rw (ne_eqb code DONE z) at (by_code code e)
+  pub refused_look : (code b : ℕ) → code ≡ look_code from bs → (code ≡ DONE → ⊥) → b ≡ byte_of fields code
+      → Answered (record { code = code; degree = 0; read = 0; written = 0; byte = b }) out
+  unfolding convert_tells
+  refused_look code b e z eb =
+      let ns : eqb code SHORT ≡ false = ne_eqb code SHORT (λ s. look_not-short from bs (sym e ∙ s)) in
+      rw eb (rw (ne_eqb code DONE z, ns) at (by_code code (code_looked from bs (length out) code e z)))
 
--- the header is right where SHORT is given
-pub short_header : (from : Form) (bs : List ℕ) (room : ℕ) → convert_code from bs room ≡ SHORT
-    → header_code (mark from) bs ≡ DONE
-short_header from bs room e = go (look_code from bs) refl
-  where
-    go : (k : ℕ) → look_code from bs ≡ k → header_code (mark from) bs ≡ DONE
-    go zero l = (looked from bs l).header
-    go (suc k) l =
-        absurd (look_not-short from bs (l ∙ sym (code_looked from bs room (suc k) (sym l) (λ z. omega arith)) ∙ e))
-
--- what is told, as the functions work it out
-pub short-told : (from : Form) (bs : List ℕ) (d : ℕ) → d ≡ degree_in bs
-    → record { code = SHORT; degree = d; read = 0; written = 0; byte = 0 } ≡ convert_tells from bs SHORT
-unfolding convert_tells byte_of
-short-told from bs d ed = rw ed
-
-pub other-told : (from : Form) (bs : List ℕ) (code b : ℕ) → (code ≡ DONE → ⊥) → (code ≡ SHORT → ⊥)
-    → b ≡ byte_of fields code
-    → record { code = code; degree = 0; read = 0; written = 0; byte = b } ≡ convert_tells from bs code
-unfolding convert_tells
-other-told from bs code b nd ns e = simp (ne_eqb code DONE nd, ne_eqb code SHORT ns, e)
+-- what is told where nothing is refused, and the degree with SHORT, as the function works them out
+pub degree-told : (d e : ℕ) → d ≡ e →
+    ◌≡◌ {A = Converted} (record { code = SHORT; degree = d; read = 0; written = 0; byte = 0 })
+    (record { code = SHORT; degree = e; read = 0; written = 0; byte = 0 })
+degree-told d e p = rw p
 
 pub all_told : (from : Form) (bs : List ℕ) (d r w : ℕ) → d ≡ degree_in bs → r ≡ size_in from bs
     → w ≡ size (other from) (coefficients_in from bs)

@@ -1,4 +1,5 @@
-// The converter, over the form of what it is given: looks at everything, then stores.
+// The converter, over the form of what it is given: looks at everything, then stores. It refuses what reading does but
+// for the room, then what the other form does not take, then too little room for it.
 ghost use Rattle.std.specs.Prelude.{◌≡◌, ℕ, ◌≤◌, ◌++◌, length, drop};
 ghost use Rattle.definitions.specs.Codes.{DONE};
 ghost use Rattle.answers.specs.Refusals.{number_of, code_of};
@@ -12,7 +13,7 @@ use answers::Refusal;
 use forms::{Form, mark_of};
 use half_passes::{copy, put_other};
 use reading::{look, negates_in, size_in};
-use record::{byte_of, count_in, width_in};
+use record::{byte_for, count_in, width_in};
 
 fn other_of(form: Form) -> Form
     ensures { result ≡ other form }
@@ -78,54 +79,28 @@ fn store(bytes: &[u8], from: Form, out: &mut [u8])
     }
 }
 
-// Refuses what reading does but for the room, then what the other form does not take, then too little room for it.
-fn check(bytes: &[u8], from: Form, room: usize) -> Result<(), Refusal>
-    ensures { code_of result ≡ convert_code from bytes.now room }
-{
-    look(bytes, from)?;
-    let uneven = uneven_from(bytes, from);
-    let short = room < size_in(bytes, other_of(from));
-    if uneven {
-        return Err(Refusal::Uneven);
-    }
-    if short {
-        return Err(Refusal::Short);
-    }
-    Ok(())
-}
-
-// What is told with a refusal.
-fn refused(bytes: &[u8], from: Form, refusal: Refusal) -> Converted
-    requires { (room : ℕ) × (convert_code from bytes.now room ≡ number_of refusal) }
-    ensures { result ≡ convert_tells from bytes.now (number_of refusal) }
-{
-    match refusal {
-        Refusal::Short => Converted::refused(refusal, count_in(bytes) - 1, 0),
-        _ => Converted::refused(refusal, 0, byte_of(refusal)),
-    }
-}
-
-// What is told of a record that is converted.
-fn told(bytes: &[u8], from: Form) -> Converted
-    requires { look_code from bytes.now ≡ DONE }
-    ensures { result ≡ convert_tells from bytes.now DONE }
-{
-    Converted {
-        code: answers::DONE,
-        degree: count_in(bytes) - 1,
-        read: size_in(bytes, from) as u64,
-        written: size_in(bytes, other_of(from)) as u64,
-        byte: 0,
-    }
-}
-
 pub(crate) fn convert(bytes: &[u8], from: Form, out: &mut [u8]) -> Converted
     ensures answer { result ≡ convert_answer from bytes.now (length out.old) }
     ensures leaves { out.new ≡ convert_leaves from bytes.now out.old }
 {
-    if let Err(refusal) = check(bytes, from, out.len()) {
-        return refused(bytes, from, refusal);
+    if let Err(refusal) = look(bytes, from) {
+        return Converted::refused(refusal, 0, byte_for(refusal));
+    }
+    let uneven = uneven_from(bytes, from);
+    let written = size_in(bytes, other_of(from));
+    let degree = count_in(bytes) - 1;
+    if uneven {
+        return Converted::refused(Refusal::Uneven, 0, 0);
+    }
+    if out.len() < written {
+        return Converted::refused(Refusal::Short, degree, 0);
     }
     store(bytes, from, out);
-    told(bytes, from)
+    Converted {
+        code: answers::DONE,
+        degree,
+        read: size_in(bytes, from) as u64,
+        written: written as u64,
+        byte: 0,
+    }
 }

@@ -58,7 +58,7 @@ fn place_sum(f: &[i64], b: &[i64], i: usize, from: usize, to: usize, k: usize) -
     ensures { (result ≡ place (entries f.now) (entries b.now) i k) × (nat_abs result ≤ 5764607523034234880) }
 {
     let mut s: i64 = 0;
-    for a in 0..=k {
+    for a in 0..k + 1 {
         s = plus(s, digit_sum(f, b, i, from, to, a, k - a));
     }
     s

@@ -14,12 +14,12 @@ use Rattle.forms.proofs.Written.refused.Reads as written-reads
 use Rattle.forms.specs.contracts.Record.refused as record-refused
 use Rattle.forms.proofs.Record.refused.Kinds as record-refused-kinds
 use Rattle.forms.proofs.Record.refused.Reads as record-refused-reads
-use Rattle.forms.specs.contracts.Written.with_code as written-coded
-use Rattle.forms.proofs.Written.with_code.Kinds as written-coded-kinds
-use Rattle.forms.proofs.Written.with_code.Reads as written-coded-reads
-use Rattle.forms.specs.contracts.Record.with_code as record-coded
-use Rattle.forms.proofs.Record.with_code.Kinds as record-coded-kinds
-use Rattle.forms.proofs.Record.with_code.Reads as record-coded-reads
+use Rattle.forms.specs.contracts.Written.of as written-of
+use Rattle.forms.proofs.Written.of.Kinds as written-of-kinds
+use Rattle.forms.proofs.Written.of.Reads as written-of-reads
+use Rattle.forms.specs.contracts.Record.of as record-of
+use Rattle.forms.proofs.Record.of.Kinds as record-of-kinds
+use Rattle.forms.proofs.Record.of.Reads as record-of-reads
 
 pub mark-of-one :
     (κs : Lfts 0) (a : ArgsD mark_of.signature κs) (z z' : ResD mark_of.signature κs)
@@ -39,14 +39,14 @@ pub record-refused-one :
     → record-refused-reads.Post κs a z e → record-refused-reads.Post κs a z' e' → z ≡ z'
 record-refused-one κs a z z' e e' p p' = p ∙ sym p'
 
-pub written-coded-one :
-    (κs : Lfts 0) (a : ArgsD written-coded.signature κs) (z z' : ResD written-coded.signature κs)
-    (e e' : AtExit (ended_of 0 written-coded-kinds.ps written-coded-kinds.r) κs)
-    → written-coded-reads.Post κs a z e → written-coded-reads.Post κs a z' e' → z ≡ z'
-written-coded-one κs a z z' e e' p p' = p ∙ sym p'
+pub written-of-one :
+    (κs : Lfts 0) (a : ArgsD written-of.signature κs) (z z' : ResD written-of.signature κs)
+    (e e' : AtExit (ended_of 0 written-of-kinds.ps written-of-kinds.r) κs)
+    → written-of-reads.Post κs a z e → written-of-reads.Post κs a z' e' → z ≡ z'
+written-of-one κs a z z' e e' p p' = p ∙ sym p'
 
-pub record-coded-one :
-    (κs : Lfts 0) (a : ArgsD record-coded.signature κs) (z z' : ResD record-coded.signature κs)
-    (e e' : AtExit (ended_of 0 record-coded-kinds.ps record-coded-kinds.r) κs)
-    → record-coded-reads.Post κs a z e → record-coded-reads.Post κs a z' e' → z ≡ z'
-record-coded-one κs a z z' e e' p p' = p ∙ sym p'
+pub record-of-one :
+    (κs : Lfts 0) (a : ArgsD record-of.signature κs) (z z' : ResD record-of.signature κs)
+    (e e' : AtExit (ended_of 0 record-of-kinds.ps record-of-kinds.r) κs)
+    → record-of-reads.Post κs a z e → record-of-reads.Post κs a z' e' → z ≡ z'
+record-of-one κs a z z' e e' p p' = p ∙ sym p'

@@ -49,7 +49,7 @@ pub struct Written {
 
 impl Written {
     // A refusal: the degree is told with OVER and SHORT only, the byte with RCOUNT only.
-    pub fn with_code(code: u64, degree: u64, byte: u64) -> Written
+    pub fn refused(code: u64, degree: u64, byte: u64) -> Written
         ensures { result ≡ record { code = code; degree = degree; used = 0; byte = byte } }
     {
         Written {
@@ -61,10 +61,10 @@ impl Written {
     }
 
     // The same by its name.
-    pub fn refused(refusal: Refusal, degree: u64, byte: u64) -> Written
+    pub fn of(refusal: Refusal, degree: u64, byte: u64) -> Written
         ensures { result ≡ record { code = number_of refusal; degree = degree; used = 0; byte = byte } }
     {
-        Written::with_code(u64::from(refusal), degree, byte)
+        Written::refused(u64::from(refusal), degree, byte)
     }
 }
 
@@ -83,7 +83,7 @@ pub struct Record {
 
 impl Record {
     // A refusal: the degree is told with SHORT only, the byte where a field of the header is wrong.
-    pub fn with_code(code: u64, degree: u64, byte: u64) -> Record
+    pub fn refused(code: u64, degree: u64, byte: u64) -> Record
         ensures { result ≡ record { code = code; degree = degree; used = 0; kind = 0; n = 0; byte = byte } }
     {
         Record {
@@ -97,9 +97,9 @@ impl Record {
     }
 
     // The same by its name.
-    pub fn refused(refusal: Refusal, degree: u64, byte: u64) -> Record
+    pub fn of(refusal: Refusal, degree: u64, byte: u64) -> Record
         ensures { result ≡ record { code = number_of refusal; degree = degree; used = 0; kind = 0; n = 0; byte = byte } }
     {
-        Record::with_code(u64::from(refusal), degree, byte)
+        Record::refused(u64::from(refusal), degree, byte)
     }
 }

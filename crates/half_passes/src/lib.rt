@@ -119,7 +119,10 @@ pub fn copy(bytes: &[u8], size: usize, out: &mut [u8])
     requires { (size ≤ length bytes.now) × (size ≤ length out.old) }
     ensures { out.new ≡ sets out.old 0 (take size bytes.now) }
 {
-    out[..size].copy_from_slice(&bytes[..size]);
+    // Stays by index: `copy_from_slice` would make the archive for C ask for memmove.
+    for i in 0..size {
+        out[i] = bytes[i];
+    }
 }
 
 // The other half of `count` coefficients, in W bytes each, behind the first half.

@@ -15,14 +15,14 @@ pub fn partial(kind: u64, n: u64, j: u64, w: i64, buf: &mut [i64]) -> Stop
     ensures buf_after { buf.new ≡ Partial.leaves kind n j w buf.old }
 {
     if !answers::known_kind(kind) {
-        return Stop::refused(Refusal::Kind, 0);
+        return Stop::of(Refusal::Kind, 0);
     }
     if !answers::good_index(n) {
-        return Stop::refused(Refusal::Index, 0);
+        return Stop::of(Refusal::Index, 0);
     }
     let parts = index::take_apart(n);
     if parts.r == 1 {
-        return Stop::refused(Refusal::Index, 0);
+        return Stop::of(Refusal::Index, 0);
     }
     stop::stop_at(kind, n, parts, j, w, buf)
 }

@@ -16,13 +16,13 @@ pub(crate) fn stop_at(kind: u64, n: u64, parts: Parts, j: u64, w: i64, buf: &mut
     let d = index::half_degree(kind, parts.r, parts.free);
     let walk = Walk::over(parts);
     if walk.due < j {
-        return Stop::refused(Refusal::Step, 0);
+        return Stop::of(Refusal::Step, 0);
     }
     if w < 1 {
-        return Stop::refused(Refusal::Limit, 0);
+        return Stop::of(Refusal::Limit, 0);
     }
     if buf.len() <= d {
-        return Stop::refused(Refusal::Short, d as u64);
+        return Stop::of(Refusal::Short, d as u64);
     }
     let h = d + 1;
     match make_kept_half(&mut buf[..h], walk, kind, j, w.unsigned_abs()) {
@@ -32,6 +32,6 @@ pub(crate) fn stop_at(kind: u64, n: u64, parts: Parts, j: u64, w: i64, buf: &mut
             additions: ran.additions,
             due: ran.due,
         },
-        Err(Over) => Stop::refused(Refusal::Over, d as u64),
+        Err(Over) => Stop::of(Refusal::Over, d as u64),
     }
 }

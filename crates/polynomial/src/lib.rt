@@ -15,16 +15,16 @@ pub fn polynomial(kind: u64, n: u64, h: i64, w: i64, buf: &mut [i64]) -> Answer
     ensures buf_after { buf.new ≡ Polynomial.leaves kind n h w buf.old }
 {
     if !answers::known_kind(kind) {
-        return Answer::refused(Refusal::Kind, 0);
+        return Answer::of(Refusal::Kind, 0);
     }
     if !answers::good_index(n) {
-        return Answer::refused(Refusal::Index, 0);
+        return Answer::of(Refusal::Index, 0);
     }
     if h < 1 {
-        return Answer::refused(Refusal::Limit, 0);
+        return Answer::of(Refusal::Limit, 0);
     }
     if w < 1 {
-        return Answer::refused(Refusal::Limit, 0);
+        return Answer::of(Refusal::Limit, 0);
     }
     let parts = index::take_apart(n);
     making::answer_in(kind, n, parts, h.unsigned_abs(), w.unsigned_abs(), buf)

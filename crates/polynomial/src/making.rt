@@ -69,11 +69,11 @@ pub(crate) fn answer_in(kind: u64, n: u64, parts: Parts, h: u64, w: u64, buf: &m
 {
     let degree = index::degree_from(kind, n, parts.phi);
     if buf.len() as u64 <= degree {
-        return Answer::refused(Refusal::Short, degree);
+        return Answer::of(Refusal::Short, degree);
     }
     let size = degree as usize + 1;
     match make(&mut buf[..size], kind, n, parts, h, w) {
-        Err(refusal) => Answer::refused(refusal, degree),
+        Err(refusal) => Answer::of(refusal, degree),
         Ok(made) => Answer {
             code: answers::DONE,
             degree,

@@ -16,7 +16,7 @@ ghost use Rattle.forms.specs.Format.{look_code, read_tells, read_answer, read_le
 use answers::{Refusal, negates};
 use forms::{Form, Record, mark_of, stored_of};
 use record::{
-    byte_of, check_header, count_in, fill, get, index_in, kind_in, right_width, width_in,
+    byte_for, check_header, count_in, fill, get, index_in, kind_in, right_width, width_in,
 };
 
 // How many coefficients a form stores where the header, whatever its mark, is right.
@@ -104,7 +104,10 @@ fn check_rest(bytes: &[u8], form: Form, room: usize) -> Result<(), Refusal>
 fn check(bytes: &[u8], form: Form, room: usize) -> Result<(), Refusal>
     ensures { code_of result ≡ read_code form bytes.now room }
 {
-    check_header(bytes, mark_of(form))?;
+    // Stays written out, so that an edit of what is refused changes no name.
+    if let Err(refusal) = check_header(bytes, mark_of(form)) {
+        return Err(refusal);
+    }
     check_rest(bytes, form, room)
 }
 
@@ -121,8 +124,8 @@ fn refused(bytes: &[u8], form: Form, refusal: Refusal) -> Record
     ensures { result ≡ read_tells form bytes.now (number_of refusal) }
 {
     match refusal {
-        Refusal::Short => Record::refused(refusal, count_in(bytes) - 1, 0),
-        _ => Record::refused(refusal, 0, byte_of(refusal)),
+        Refusal::Short => Record::of(refusal, count_in(bytes) - 1, 0),
+        _ => Record::of(refusal, 0, byte_for(refusal)),
     }
 }
 

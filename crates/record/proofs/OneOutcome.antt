@@ -11,6 +11,9 @@ use Rattle.record.proofs.header.check_header.Reads as header-code-reads
 use Rattle.record.specs.contracts.header.byte_of as byte_of
 use Rattle.record.proofs.header.byte_of.Kinds as byte-of-kinds
 use Rattle.record.proofs.header.byte_of.Reads as byte-of-reads
+use Rattle.record.specs.contracts.header.byte_for as byte_for
+use Rattle.record.proofs.header.byte_for.Kinds as byte-for-kinds
+use Rattle.record.proofs.header.byte_for.Reads as byte-for-reads
 use Rattle.record.proofs.Refused.{same_code}
 
 pub header-code-one :
@@ -24,3 +27,9 @@ pub byte-of-one :
     (e e' : AtExit (ended_of 0 byte-of-kinds.ps byte-of-kinds.r) κs)
     → byte-of-reads.Post κs a z e → byte-of-reads.Post κs a z' e' → z ≡ z'
 byte-of-one κs a z z' e e' p p' = p ∙ sym p'
+
+pub byte-for-one :
+    (κs : Lfts 0) (a : ArgsD byte_for.signature κs) (z z' : ResD byte_for.signature κs)
+    (e e' : AtExit (ended_of 0 byte-for-kinds.ps byte-for-kinds.r) κs)
+    → byte-for-reads.Post κs a z e → byte-for-reads.Post κs a z' e' → z ≡ z'
+byte-for-one κs a z z' e e' p p' = p ∙ sym p'

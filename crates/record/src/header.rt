@@ -97,7 +97,7 @@ pub fn check_header(bytes: &[u8], mark: u8) -> Result<(), Refusal>
 }
 
 // The byte at which the field of a code starts.
-pub fn byte_of_code(code: u64) -> u64
+pub fn byte_of(code: u64) -> u64
     ensures { result ≡ byte_of fields code }
 {
     match code {
@@ -110,8 +110,8 @@ pub fn byte_of_code(code: u64) -> u64
 }
 
 // The same by the refusal's name.
-pub fn byte_of(refusal: Refusal) -> u64
+pub fn byte_for(refusal: Refusal) -> u64
     ensures { result ≡ byte_of fields (number_of refusal) }
 {
-    byte_of_code(u64::from(refusal))
+    byte_of(u64::from(refusal))
 }

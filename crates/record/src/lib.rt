@@ -11,6 +11,6 @@ mod look;
 pub use body::{Body, fill};
 pub use bytes::{get, put, put_body};
 pub use header::{
-    byte_of, byte_of_code, check_header, count_in, index_in, kind_in, put_header, width_in,
+    byte_for, byte_of, check_header, count_in, index_in, kind_in, put_header, width_in,
 };
 pub use look::right_width;

@@ -6,6 +6,7 @@ ghost use Rattle.keeping.specs.Keepable.{keepable};
 ghost use Rattle.rescuing.specs.Rescue.{size_at, stretch, kept, listed, rescue_code};
 ghost use Rattle.rescuing.specs.Passes.{NextIs, CountIs};
 
+use half_passes::copy;
 use keeping::{Cramped, search};
 use std::ops::Range;
 
@@ -105,7 +106,7 @@ fn put_record(bytes: &[u8], out: &mut [u8], at: usize) -> usize
     ensures out_after { out.new ≡ sets out.old at bytes.now }
 {
     let end = at + bytes.len();
-    out[at..end].copy_from_slice(bytes);
+    copy(bytes, bytes.len(), &mut out[at..end]);
     end
 }
 

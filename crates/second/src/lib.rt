@@ -17,13 +17,13 @@ pub fn second(kind: u64, n: u64, h: i64, buf: &mut [i64], scratch: &mut [i64]) -
     ensures scratch_after { scratch.new ≡ Second.scratches kind n h (length buf.old) scratch.old }
 {
     if !answers::known_kind(kind) {
-        return Answer::refused(Refusal::Kind, 0);
+        return Answer::of(Refusal::Kind, 0);
     }
     if !answers::good_index(n) {
-        return Answer::refused(Refusal::Index, 0);
+        return Answer::of(Refusal::Index, 0);
     }
     if h < 1 {
-        return Answer::refused(Refusal::Limit, 0);
+        return Answer::of(Refusal::Limit, 0);
     }
     let parts = index::take_apart(n);
     making::answer_in(kind, n, parts, h.unsigned_abs(), buf, scratch)

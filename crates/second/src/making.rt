@@ -61,16 +61,16 @@ pub(crate) fn answer_in(
 {
     let degree = index::degree_from(kind, n, parts.phi);
     if buf.len() as u64 <= degree {
-        return Answer::refused(Refusal::Short, degree);
+        return Answer::of(Refusal::Short, degree);
     }
     if (scratch.len() as u64) < 2 * n + 16 {
-        return Answer::refused(Refusal::Short, degree);
+        return Answer::of(Refusal::Short, degree);
     }
     let size = degree as usize + 1;
     let made = make(&mut buf[..size], scratch, kind, n, parts, h);
     shapes::clear(scratch);
     let Ok(laid) = made else {
-        return Answer::refused(Refusal::Tall, degree);
+        return Answer::of(Refusal::Tall, degree);
     };
     let gain = gain::gain_of(kind, n, parts);
     Answer {

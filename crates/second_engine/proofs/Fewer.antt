@@ -214,6 +214,12 @@ module _ {kind : ℕ} {l : List ℕ} {r free : ℕ} {a b : List ℤ} (A : Asked 
           ask = asked;
         })
 
+    -- by the largest prime, as it is read
+    pub one_fewer_of : (q : ℕ) → q ≡ get_or l (length l - 1) 0 → OneFewer kind rest r (r / q) (free / (q - 1)) q a b
+    one_fewer_of q e =
+        let last : length l - 1 ≡ k = omega (arith, cut.1) in
+        rw (e ∙ ap (λ i. get_or l i 0) last ∙ sym p_is) one_fewer
+
 -- ---- both polynomials of m
 module _ {kind : ℕ} {rest : List ℕ} {r m below p : ℕ} {a b : List ℤ} (O : OneFewer kind rest r m below p a b)
   where

@@ -37,8 +37,8 @@ pub fn alternate(a: &mut [i64])
     requires { InRange (length a.old) a.old }
     ensures { a.new ≡ firsts (length a.old) (alternate (entries a.old)) }
 {
-    for i in (1..a.len()).step_by(2) {
-        a[i] = -a[i];
+    for k in 0..a.len() / 2 {
+        a[2 * k + 1] = -a[2 * k + 1];
     }
 }
 

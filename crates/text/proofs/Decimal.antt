@@ -1,7 +1,9 @@
--- The digits of a number: one below ten, and as many as `{}` writes, which are these digits.
-use mathlib.Core.Path.{◌≡◌, sym, ap}
+-- The digits of a number: those of its tenth and the last one; and how many they are: as many as `{}` writes, which are
+-- these digits.
+use mathlib.Core.Path.{◌≡◌, sym, ◌∙◌, ap}
 use mathlib.Core.List.{[], ◌∷◌, ◌++◌}
-use Prim.Native.Nat.{ℕ, suc, ◌+◌, ◌/◌, ◌%◌, ◌^◌, ◌<◌, ◌≤◌}
+use Prim.Native.Nat.{ℕ, zero, suc, ◌+◌, ◌/◌, ◌%◌, ◌^◌, ◌<◌, ◌≤◌}
+use native.Mathlib.Nat.{not-suc-le-zero}
 use native.Mathlib.Omega.{arith}
 use borrow.Author.Tests.{lt-ltb, le-ltb}
 use lib.Dec.{lit<}
@@ -19,9 +21,28 @@ more_digits : (t n : ℕ) → 10 ≤ n → decimal_in (suc t) n ≡ decimal_in t
 unfolding decimal_in
 more_digits t n h = rw (le-ltb n 10 h)
 
+-- any number of turns above n will do
+enough : (t u n : ℕ) → n < t → n < u → decimal_in t n ≡ decimal_in u n
+enough zero u n h k = absurd (not-suc-le-zero h)
+enough (suc t) zero n h k = absurd (not-suc-le-zero k)
+enough (suc t) (suc u) n h k =
+    by_order n 10 (λ b. one_digit t n b ∙ sym (one_digit u n b))
+    (λ b. more_digits t n b ∙ ap (λ r. r ++ ((48 + n % 10) ∷ [])) (enough t u (n / 10) (omega arith) (omega arith))
+    ∙ sym (more_digits u n b))
+
 pub decimal_small : (n : ℕ) → n < 10 → decimal n ≡ (48 + n) ∷ []
 unfolding decimal
 decimal_small n h = one_digit n n h
+
+pub decimal_more : (n : ℕ) → 10 ≤ n → decimal n ≡ decimal (n / 10) ++ ((48 + n % 10) ∷ [])
+unfolding decimal
+decimal_more n h =
+    more_digits n n h
+    ∙ ap (λ r. r ++ ((48 + n % 10) ∷ [])) (enough n (suc (n / 10)) (n / 10) (omega arith) (omega arith))
+
+-- one digit more than its tenth has
+pub length_more : (n : ℕ) → 10 ≤ n → length (decimal n) ≡ length (decimal (n / 10)) + 1
+length_more n h = ap length (decimal_more n h) ∙ length-append (decimal (n / 10)) ((48 + n % 10) ∷ [])
 
 pub some_digit : (n : ℕ) → 1 ≤ length (decimal n)
 unfolding decimal

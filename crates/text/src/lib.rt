@@ -13,7 +13,6 @@ ghost use Rattle.text.specs.Text.{MINUS, decimal, spaced, sign};
 ghost use Rattle.text.specs.Puts.{Puts};
 
 use heights::magnitude;
-use itoa::Buffer;
 
 pub fn put(out: &mut [u8], at: usize, b: u8) -> usize
     requires { at < length out.old }
@@ -33,16 +32,17 @@ pub fn put_text(out: &mut [u8], at: usize, bytes: &[u8]) -> usize
     end
 }
 
-// A number's digits. Apart, for its buffer would slow down the numbers of one digit.
-#[cold]
-#[inline(never)]
+// A number's digits: those of its tenth, and the last one. Stays our own: by the kit's `itoa` its statement would have to
+// be believed too.
 fn put_digits(out: &mut [u8], at: usize, n: u64) -> usize
-    requires { at + 20 ≤ length out.old }
-    ensures puts { Puts (decimal n) at out.old out.new result }
-    ensures upper_bound { result ≤ at + 20 }
+    requires { at + length (decimal n) ≤ length out.old }
+    ensures { Puts (decimal n) at out.old out.new result }
 {
-    let mut digits = Buffer::new();
-    put_text(out, at, digits.format(n).as_bytes())
+    if n < 10 {
+        return put(out, at, b'0' + n as u8);
+    }
+    let p = put_digits(out, at, n / 10);
+    put(out, p, b'0' + (n % 10) as u8)
 }
 
 // The same; nearly all numbers have one digit.

@@ -6,10 +6,13 @@
 
 #![tactic(auto)]
 
-ghost use Rattle.std.specs.Prelude.{◌≤◌, length};
+use std::fmt;
+use std::fmt::Write;
+use streams::room;
+use trial_output::Console;
 
-use std::io;
-use streams::{read_some, room};
+// Standard input.
+const STDIN: i32 = 0;
 
 // What a request can be lent: entries, those of a second buffer, bytes, bytes to write to, and a list.
 #[derive(Drop)]
@@ -23,7 +26,7 @@ struct Rooms<'a> {
 
 // A whole line. Its words are a name and numbers; then, each where there are some, indices, entries, entries of a
 // second buffer, and bytes.
-fn answer(rt: &HostRuntime, line: &[u8], rooms: &mut Rooms<'_>) -> io::Result<()> {
+fn answer(to: &mut Console, line: &[u8], rooms: &mut Rooms<'_>) -> fmt::Result {
     let (name, rest) = trial_lines::name(line);
     let (asked, rest) = trial_lines::numbers(rest);
     let (indices, rest) = trial_lines::indices(rest);
@@ -37,48 +40,34 @@ fn answer(rt: &HostRuntime, line: &[u8], rooms: &mut Rooms<'_>) -> io::Result<()
     let list = &mut *rooms.list;
     let indices = &indices.values[..indices.count];
     let known = rest.is_empty()
-        && (trial_pair_doors::ask(rt, name, asked, indices, entries, scratch, bytes)?
-            || trial_half_doors::ask(rt, name, asked, entries, bytes, space)?
-            || trial_rescue_doors::ask(rt, name, asked, entries, bytes, space, list)?
-            || trial_response_doors::ask(rt, name, asked, entries)?
-            || trial_census_doors::ask(rt, name, asked, entries, list)?
-            || trial_doors::ask(rt, name, asked, entries)?);
+        && (trial_pair_doors::ask(to, name, asked, indices, entries, scratch, bytes)?
+            || trial_half_doors::ask(to, name, asked, entries, bytes, space)?
+            || trial_rescue_doors::ask(to, name, asked, entries, bytes, space, list)?
+            || trial_response_doors::ask(to, name, asked, entries)?
+            || trial_census_doors::ask(to, name, asked, entries, list)?
+            || trial_doors::ask(to, name, asked, entries)?);
     if !known {
-        println!(rt; "?")?;
+        writeln!(to, "?")?;
     }
     Ok(())
 }
 
-// Reads to the end of the input, until a read fails or until the buffer is full, and tells how much there is.
-fn read_all(rt: &HostRuntime, input: &mut [u8]) -> usize
-    ensures { result ≤ length input.new }
-{
-    let mut at = 0;
-    for _ in 0..u64::MAX {
-        let n = read_some(&mut rt.stdin(), &mut input[at..]).unwrap_or(0);
-        if n == 0 {
-            break;
-        }
-        at += n;
-    }
-    at
-}
-
 // Line after line. A write that fails is passed over: what was printed is held to a stored output.
-fn answer_all(rt: &HostRuntime, input: &[u8], rooms: &mut Rooms<'_>) {
+fn answer_all(input: &[u8], rooms: &mut Rooms<'_>) {
+    let mut to = Console::new();
     for line in input.split_inclusive(|b| *b == b'\n') {
-        let _ = answer(rt, line.strip_suffix(b"\n").unwrap_or(line), rooms);
+        let _ = answer(&mut to, line.strip_suffix(b"\n").unwrap_or(line), rooms);
     }
 }
 
-fn main(rt: HostRuntime) {
+fn main() {
     let mut input = room::<u8, 4194304>(0);
     let mut entries = [0i64; 65536];
     let mut scratch = [0i64; 131088];
     let mut bytes = [0u8; 65536];
     let mut space = [0u8; 65536];
     let mut list = [0u64; 65536];
-    let n = read_all(&rt, &mut input);
+    let n = io::read_full(STDIN, &mut input);
     let mut rooms = Rooms {
         entries: &mut entries,
         scratch: &mut scratch,
@@ -86,5 +75,5 @@ fn main(rt: HostRuntime) {
         space: &mut space,
         list: &mut list,
     };
-    answer_all(&rt, &input[..n], &mut rooms);
+    answer_all(&input[..n], &mut rooms);
 }

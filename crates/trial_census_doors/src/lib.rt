@@ -4,21 +4,22 @@
 
 #![tactic(auto)]
 
-use std::io;
+use std::fmt;
+use std::fmt::Write;
 use trial_lines::room;
-use trial_output::Entries;
+use trial_output::{Console, Entries};
 
 // The name of the request, as `trial_lines::name` reads it.
 const CENSUS: u64 = 106385075;
 
 // A request by its name; tells whether it is this one. A census goes into as many of the rows' numbers as are lent.
 pub fn ask(
-    rt: &HostRuntime,
+    to: &mut Console,
     name: u64,
     asked: [u64; 4],
     work: &mut [i64],
     rows: &mut [u64],
-) -> io::Result<bool> {
+) -> Result<bool, fmt::Error> {
     if name != CENSUS {
         return Ok(false);
     }
@@ -28,6 +29,6 @@ pub fn ask(
     let a = bonvedrick::bv_census(asked[0], asked[1], rows, work);
     let rows = Entries(rows);
     let work = Entries(work);
-    println!(rt; "{} {} {}{rows}{work}", a.code, a.rows, a.additions)?;
+    writeln!(to, "{} {} {}{rows}{work}", a.code, a.rows, a.additions)?;
     Ok(true)
 }

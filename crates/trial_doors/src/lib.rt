@@ -4,9 +4,10 @@
 
 #![tactic(auto)]
 
-use std::io;
+use std::fmt;
+use std::fmt::Write;
 use steps::Stepped;
-use trial_output::Entries;
+use trial_output::{Console, Entries};
 
 // The names of the requests, as `trial_lines::name` reads them.
 const POLYNOMIAL: u64 = 579882274169900;
@@ -17,42 +18,52 @@ const COMB: u64 = 114082;
 
 const ACCUMULATE: u64 = 38608993388165;
 
-fn polynomial(rt: &HostRuntime, asked: [u64; 4], entries: &mut [i64]) -> io::Result<()> {
+fn polynomial(to: &mut Console, asked: [u64; 4], entries: &mut [i64]) -> fmt::Result {
     let [kind, n, h, w] = asked;
     let a = bonvedrick::bv_polynomial(kind, n, h.cast_signed(), w.cast_signed(), entries);
     let told = Entries(entries);
-    println!(rt;
+    writeln!(
+        to,
         "{} {} {} {} {} {}{told}",
         a.code, a.degree, a.additions, a.height, a.peak, a.gain
     )
 }
 
-fn partial(rt: &HostRuntime, asked: [u64; 4], entries: &mut [i64]) -> io::Result<()> {
+fn partial(to: &mut Console, asked: [u64; 4], entries: &mut [i64]) -> fmt::Result {
     let [kind, n, j, w] = asked;
     let a = bonvedrick::bv_partial(kind, n, j, w.cast_signed(), entries);
     let told = Entries(entries);
-    println!(rt; "{} {} {} {}{told}", a.code, a.degree, a.additions, a.due)
+    writeln!(
+        to,
+        "{} {} {} {}{told}",
+        a.code, a.degree, a.additions, a.due
+    )
 }
 
 // What a step answered, and what it left.
-fn stepped(rt: &HostRuntime, a: Stepped, entries: &[i64]) -> io::Result<()> {
+fn stepped(to: &mut Console, a: Stepped, entries: &[i64]) -> fmt::Result {
     let told = Entries(entries);
-    println!(rt; "{} {}{told}", a.code, a.count)
+    writeln!(to, "{} {}{told}", a.code, a.count)
 }
 
 // A request by its name; tells whether it is one of these.
-pub fn ask(rt: &HostRuntime, name: u64, asked: [u64; 4], entries: &mut [i64]) -> io::Result<bool> {
+pub fn ask(
+    to: &mut Console,
+    name: u64,
+    asked: [u64; 4],
+    entries: &mut [i64],
+) -> Result<bool, fmt::Error> {
     let [size, w, _, _] = asked;
     match name {
-        POLYNOMIAL => polynomial(rt, asked, entries)?,
-        PARTIAL => partial(rt, asked, entries)?,
+        POLYNOMIAL => polynomial(to, asked, entries)?,
+        PARTIAL => partial(to, asked, entries)?,
         COMB => {
             let a = bonvedrick::bv_comb(size, w.cast_signed(), entries);
-            stepped(rt, a, entries)?;
+            stepped(to, a, entries)?;
         }
         ACCUMULATE => {
             let a = bonvedrick::bv_accumulate(size, w.cast_signed(), entries);
-            stepped(rt, a, entries)?;
+            stepped(to, a, entries)?;
         }
         _ => return Ok(false),
     }

@@ -5,9 +5,10 @@
 #![tactic(auto)]
 
 use conversions::Converted;
-use std::io;
+use std::fmt;
+use std::fmt::Write;
 use trial_lines::room;
-use trial_output::{Bytes, Entries};
+use trial_output::{Bytes, Console, Entries};
 
 // The names of the requests, as `trial_lines::name` reads them.
 const WRITE_HALF: u64 = 25917583000966;
@@ -18,30 +19,27 @@ const TO_HALF: u64 = 687080838;
 
 const TO_WHOLE: u64 = 22002548101;
 
-fn write_half(
-    rt: &HostRuntime,
-    asked: [u64; 4],
-    entries: &[i64],
-    bytes: &mut [u8],
-) -> io::Result<()> {
+fn write_half(to: &mut Console, asked: [u64; 4], entries: &[i64], bytes: &mut [u8]) -> fmt::Result {
     let a = bonvedrick::bv_write_half(asked[0], asked[1], entries, bytes);
     let told = Bytes(bytes);
-    println!(rt; "{} {} {} {}{told}", a.code, a.degree, a.used, a.byte)
+    writeln!(to, "{} {} {} {}{told}", a.code, a.degree, a.used, a.byte)
 }
 
-fn read_half(rt: &HostRuntime, entries: &mut [i64], bytes: &[u8]) -> io::Result<()> {
+fn read_half(to: &mut Console, entries: &mut [i64], bytes: &[u8]) -> fmt::Result {
     let a = bonvedrick::bv_read_half(bytes, entries);
     let told = Entries(entries);
-    println!(rt;
+    writeln!(
+        to,
         "{} {} {} {} {} {}{told}",
         a.code, a.degree, a.used, a.kind, a.n, a.byte
     )
 }
 
 // What a conversion answered, and what it wrote.
-fn converted(rt: &HostRuntime, a: Converted, out: &[u8]) -> io::Result<()> {
+fn converted(to: &mut Console, a: Converted, out: &[u8]) -> fmt::Result {
     let told = Bytes(out);
-    println!(rt;
+    writeln!(
+        to,
         "{} {} {} {} {}{told}",
         a.code, a.degree, a.read, a.written, a.byte
     )
@@ -50,26 +48,27 @@ fn converted(rt: &HostRuntime, a: Converted, out: &[u8]) -> io::Result<()> {
 // A request by its name; tells whether it is one of these. A conversion goes into as much of the space as is
 // lent, of which each byte holds 170.
 pub fn ask(
-    rt: &HostRuntime,
+    to: &mut Console,
     name: u64,
     asked: [u64; 4],
     entries: &mut [i64],
     bytes: &mut [u8],
     space: &mut [u8],
-) -> io::Result<bool> {
+) -> Result<bool, fmt::Error> {
     let lent = room(asked[0], space.len());
     let out = &mut space[..lent];
-    out.fill(170);
     match name {
-        WRITE_HALF => write_half(rt, asked, entries, bytes)?,
-        READ_HALF => read_half(rt, entries, bytes)?,
+        WRITE_HALF => write_half(to, asked, entries, bytes)?,
+        READ_HALF => read_half(to, entries, bytes)?,
         TO_HALF => {
+            out.fill(170);
             let a = bonvedrick::bv_to_half(bytes, out);
-            converted(rt, a, out)?;
+            converted(to, a, out)?;
         }
         TO_WHOLE => {
+            out.fill(170);
             let a = bonvedrick::bv_to_whole(bytes, out);
-            converted(rt, a, out)?;
+            converted(to, a, out)?;
         }
         _ => return Ok(false),
     }

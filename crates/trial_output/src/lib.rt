@@ -1,5 +1,6 @@
 // An inner crate: how the program `trial` tells what stands in a buffer of entries or of bytes (second/README.md has the
-// form). Nothing is promised but that each function is safe and ends: what is printed is held to a stored output.
+// form), and where it prints. Nothing is promised but that each function is safe and ends: what is printed is held to a
+// stored output.
 
 #![tactic(auto)]
 
@@ -12,6 +13,58 @@ const PRIME: u64 = 144115188075851879;
 
 // How many entries are spelled out.
 const FEW: usize = 64;
+
+// Standard output.
+const STDOUT: i32 = 1;
+
+// So many bytes of a line go out together.
+const MOST: usize = 1024;
+
+// Standard output by the kit's `io`, which rests on write alone: std's streams ask errno too. A line is gathered, so that
+// a short one takes one call. What can't be written is passed over.
+#[derive(Drop)]
+pub struct Console {
+    bytes: [u8; MOST],
+    count: usize,
+}
+
+impl Console {
+    pub fn new() -> Console {
+        Console {
+            bytes: [0; MOST],
+            count: 0,
+        }
+    }
+
+    // Writes what is gathered.
+    fn flush(&mut self) {
+        let gathered = self.bytes.get(..self.count).unwrap_or(&[]);
+        io::write_all(STDOUT, gathered);
+        self.count = 0;
+    }
+
+    fn push(&mut self, b: u8) {
+        if self.count == MOST {
+            self.flush();
+        }
+        if let Some(place) = self.bytes.get_mut(self.count) {
+            *place = b;
+            self.count += 1;
+        }
+        if b == b'\n' {
+            self.flush();
+        }
+    }
+}
+
+impl fmt::Write for Console {
+    fn write_str(&mut self, s: &str) -> fmt::Result {
+        for b in s.as_bytes() {
+            self.push(*b);
+        }
+        Ok(())
+    }
+}
 
 // Numbers after a colon: spelled out, or their sum.
 #[derive(Drop)]

@@ -4,9 +4,10 @@
 
 #![tactic(auto)]
 
-use std::io;
+use std::fmt;
+use std::fmt::Write;
 use trial_lines::room;
-use trial_output::{Bytes, Entries};
+use trial_output::{Bytes, Console, Entries};
 
 // The name of the request, as `trial_lines::name` reads it.
 const RESCUE: u64 = 609848997;
@@ -14,14 +15,14 @@ const RESCUE: u64 = 609848997;
 // A request by its name; tells whether it is this one. A rescue goes into as much of the space and of the list as is
 // lent.
 pub fn ask(
-    rt: &HostRuntime,
+    to: &mut Console,
     name: u64,
     asked: [u64; 4],
     entries: &mut [i64],
     bytes: &[u8],
     space: &mut [u8],
     list: &mut [u64],
-) -> io::Result<bool> {
+) -> Result<bool, fmt::Error> {
     if name != RESCUE {
         return Ok(false);
     }
@@ -35,6 +36,10 @@ pub fn ask(
     let out = Bytes(out);
     let list = Entries(list);
     let entries = Entries(entries);
-    println!(rt; "{} {} {}{out}{list}{entries}", a.code, a.kept, a.stretches)?;
+    writeln!(
+        to,
+        "{} {} {}{out}{list}{entries}",
+        a.code, a.kept, a.stretches
+    )?;
     Ok(true)
 }

@@ -5,7 +5,9 @@
 #![tactic(auto)]
 
 use response::Point;
-use std::io;
+use std::fmt;
+use std::fmt::Write;
+use trial_output::Console;
 
 // The name of the request, as `trial_lines::name` reads it.
 const RESPONSE: u64 = 624498817637;
@@ -27,7 +29,12 @@ fn pattern(x: f64) -> u64 {
 }
 
 // A request by its name; tells whether it is this one.
-pub fn ask(rt: &HostRuntime, name: u64, asked: [u64; 4], entries: &[i64]) -> io::Result<bool> {
+pub fn ask(
+    to: &mut Console,
+    name: u64,
+    asked: [u64; 4],
+    entries: &[i64],
+) -> Result<bool, fmt::Error> {
     if name != RESPONSE {
         return Ok(false);
     }
@@ -36,6 +43,6 @@ pub fn ask(rt: &HostRuntime, name: u64, asked: [u64; 4], entries: &[i64]) -> io:
         imag: float(asked[1]),
     };
     let a = bonvedrick::bv_response(entries, at);
-    println!(rt; "{} {} {}", a.code, pattern(a.real), pattern(a.imag))?;
+    writeln!(to, "{} {} {}", a.code, pattern(a.real), pattern(a.imag))?;
     Ok(true)
 }

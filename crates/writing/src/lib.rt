@@ -70,19 +70,19 @@ fn write_with(kind: u64, n: u64, form: Form, coeffs: &[i64], bytes: &mut [u8]) -
     let degree = degree_of(kind, n);
     let count = coeffs.len();
     if count as u64 != degree + 1 {
-        return Written::refused(Refusal::RecordCount, 0, 6);
+        return Written::of(Refusal::RecordCount, 0, 6);
     }
     let top = heights::peak(coeffs);
     let w = least_width(top.height);
     if w == 0 {
-        return Written::refused(Refusal::Over, degree, 0);
+        return Written::of(Refusal::Over, degree, 0);
     }
     if uneven_for(kind, n, form, coeffs) {
-        return Written::refused(Refusal::Uneven, 0, 0);
+        return Written::of(Refusal::Uneven, 0, 0);
     }
     let size = 10 + stored_of(form, count) * w;
     if bytes.len() < size {
-        return Written::refused(Refusal::Short, degree, 0);
+        return Written::of(Refusal::Short, degree, 0);
     }
     store(kind, n, w, form, coeffs, bytes);
     Written {
@@ -99,10 +99,10 @@ pub fn write(kind: u64, n: u64, form: Form, coeffs: &[i64], bytes: &mut [u8]) ->
     ensures leaves { bytes.new ≡ write_leaves form kind n coeffs.now bytes.old }
 {
     if !answers::known_kind(kind) {
-        return Written::refused(Refusal::Kind, 0, 0);
+        return Written::of(Refusal::Kind, 0, 0);
     }
     if !answers::good_index(n) {
-        return Written::refused(Refusal::Index, 0, 0);
+        return Written::of(Refusal::Index, 0, 0);
     }
     write_with(kind, n, form, coeffs, bytes)
 }

@@ -27,7 +27,7 @@ short {ns} is m = le-ltb 65535 (total_degree ns) (omega (arith, is.total))
 pub returns-then-indices-eq0 : goal.returns-then-indices-eq0
 returns-then-indices-eq0 c =
     let p = c.args in
-    let told = at_list _ _ p.buf.now p.scratch.now c.refused.ensures
+    let told = at_list _ _ p.buf.now p.scratch.now c.of.ensures
     (ask_list _ _ _ _
     (ap (λ x. x || ltb 8 (length p.indices.now))
     (eq-eqb (length p.indices.now) 0 c.if-indices-eq0.true))) in
@@ -36,7 +36,7 @@ returns-then-indices-eq0 c =
 pub returns-then-indices-gt8 : goal.returns-then-indices-gt8
 returns-then-indices-gt8 c =
     let p = c.args in
-    let told = at_list _ _ p.buf.now p.scratch.now c.refused-then-indices-gt8.ensures
+    let told = at_list _ _ p.buf.now p.scratch.now c.of-then-indices-gt8.ensures
     (ask_list _ _ _ _
     (ap (λ x. eqb (length p.indices.now) 0 || x)
     (lt-ltb 8 (length p.indices.now) c.if-indices-gt8.true)
@@ -45,7 +45,7 @@ returns-then-indices-gt8 c =
 
 pub returns-in_default : goal.returns-in_default
 returns-in_default c =
-    let told = at_index _ _ c.args.buf.now c.args.scratch.now c.refused-in_default.ensures
+    let told = at_index _ _ c.args.buf.now c.args.scratch.now c.of-in_default.ensures
     (ask_index _ _ _ _ (few (length c.args.indices.now) c.if-indices-eq0.false c.if-indices-gt8.false)
     (sym c.in_default.ensures.good)) in
     record { value = told.0; buf_after = told.1.0; scratch_after = told.1.1 }
@@ -54,7 +54,7 @@ pub returns-then-sizes-gt65535 : goal.returns-then-sizes-gt65535
 returns-then-sizes-gt65535 c =
     let ns = c.args.indices.now in
     let is = c.in-Some.ensures in
-    let told = at_list _ _ c.args.buf.now c.args.scratch.now c.refused-then-sizes-gt65535.ensures
+    let told = at_list _ _ c.args.buf.now c.args.scratch.now c.of-then-sizes-gt65535.ensures
     (ask_long _ _ _ _ (few (length ns) c.if-indices-eq0.false c.if-indices-gt8.false) (sym is.good)
     (lt-ltb 65535 (total_degree ns) (omega (arith, is.sizes.total, c.if-sizes-gt65535.true)))) in
     record { value = told.0; buf_after = told.1.0; scratch_after = told.1.1 }
@@ -63,7 +63,7 @@ pub returns-then-h-lt1 : goal.returns-then-h-lt1
 returns-then-h-lt1 c =
     let ns = c.args.indices.now in
     let is = c.in-Some.ensures in
-    let told = at_limit _ _ c.args.buf.now c.args.scratch.now c.refused-then-h-lt1.ensures
+    let told = at_limit _ _ c.args.buf.now c.args.scratch.now c.of-then-h-lt1.ensures
     (ask_limit _ _ _ _ (few (length ns) c.if-indices-eq0.false c.if-indices-gt8.false) (sym is.good)
     (short is.sizes c.if-sizes-gt65535.false) (below_one_lem c.args.h c.ranges.h c.if-h-lt1.true)) in
     record { value = told.0; buf_after = told.1.0; scratch_after = told.1.1 }

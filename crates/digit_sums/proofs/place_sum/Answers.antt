@@ -59,12 +59,10 @@ plus-s-requires c = rw (one_seen (goal.at.plus-s-requires c).After-digit_sum) (n
 pub loop-a-preserved : goal.loop-a-preserved
 loop-a-preserved c = sum-more (goal.at.loop-a-preserved c).After-digit_sum c.plus-s.ensures
 
-pub returns-2 : goal.returns-2
-returns-2 c =
-    let l = c.loop-a in
-    let (is, small) = sum-more (goal.at.returns-2 c).After-digit_sum c.plus-s.ensures in
-    let last : l.a ≡ c.args.k = omega arith in (
-      is ∙ ap (place_to (entries c.args.f.now) (entries c.args.b.now) c.args.i c.args.k)
-          (ap (λ n. n + 1) last ∙ add-one c.args.k),
+pub returns : goal.returns
+returns c =
+    let (is, small) = c.loop-a.invariant in
+    let last : c.loop-a.a ≡ c.args.k + 1 = omega (arith, c.loop-a-test.false) in (
+      is ∙ ap (place_to (entries c.args.f.now) (entries c.args.b.now) c.args.i c.args.k) (last ∙ add-one c.args.k),
       omega (arith, small, last, c.requires.2),
     )

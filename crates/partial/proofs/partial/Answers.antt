@@ -30,7 +30,7 @@ returns-then-not-known_kind c = let p = c in
     let k = sym c.known_kind.ensures ∙ c.if-not-known_kind.true in
     let s = at_kind p.args.kind p.args.n p.args.j p.args.w p.args.buf.now
     (stop-kind _ _ _ _ _ k) in record {
-      value = c.refused.ensures ∙ s.0;
+      value = c.of.ensures ∙ s.0;
       buf_after = s.1;
     }
 
@@ -39,7 +39,7 @@ returns-then-not-good_index c = let p = c in
     let g = sym c.good_index.ensures ∙ c.if-not-good_index.true in
     let s = at_index p.args.kind p.args.n p.args.j p.args.w p.args.buf.now
     (stop-index _ _ _ _ _ (known (goal.at.returns-then-not-good_index c).Else-not-known_kind) g) in record {
-      value = c.refused-then-not-good_index.ensures ∙ s.0;
+      value = c.of-then-not-good_index.ensures ∙ s.0;
       buf_after = s.1;
     }
 
@@ -48,7 +48,7 @@ returns-then-parts-eq1 c = let t = (goal.at.returns-then-parts-eq1 c).After-take
     let p = start t in
     let s = at_index p.args.kind p.args.n p.args.j p.args.w p.args.buf.now
     (stop-one _ _ _ _ _ (kind_known t) (good t) (sym (parts_r _ _ (apart t)) ∙ c.if-parts-eq1.true)) in record {
-      value = c.refused-then-parts-eq1.ensures ∙ s.0;
+      value = c.of-then-parts-eq1.ensures ∙ s.0;
       buf_after = s.1;
     }
 

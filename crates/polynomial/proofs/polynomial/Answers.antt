@@ -27,14 +27,14 @@ pub returns-then-not-known_kind : goal.returns-then-not-known_kind
 returns-then-not-known_kind c =
     let s = at_kind c.args.kind c.args.n c.args.h c.args.w c.args.buf.now
     (ask_kind _ _ _ _ _ (sym c.known_kind.ensures ∙ c.if-not-known_kind.true)) in
-    record { value = c.refused.ensures ∙ s.0; buf_after = s.1 }
+    record { value = c.of.ensures ∙ s.0; buf_after = s.1 }
 
 pub returns-then-not-good_index : goal.returns-then-not-good_index
 returns-then-not-good_index c =
     let s = at_index c.args.kind c.args.n c.args.h c.args.w c.args.buf.now
     (ask_index _ _ _ _ _ (known (goal.at.returns-then-not-good_index c).Else-not-known_kind)
     (sym c.good_index.ensures ∙ c.if-not-good_index.true)) in
-    record { value = c.refused-then-not-good_index.ensures ∙ s.0; buf_after = s.1 }
+    record { value = c.of-then-not-good_index.ensures ∙ s.0; buf_after = s.1 }
 
 pub returns-then-h-lt1 : goal.returns-then-h-lt1
 returns-then-h-lt1 c =
@@ -42,7 +42,7 @@ returns-then-h-lt1 c =
     let s = at_limit c.args.kind c.args.n c.args.h c.args.w c.args.buf.now
     (ask_limit _ _ _ _ _ (known at.Else-not-known_kind) (good at.Else-not-good_index)
     (rw (below_one_lem c.args.h c.ranges.h c.if-h-lt1.true) refl)) in
-    record { value = c.refused-then-h-lt1.ensures ∙ s.0; buf_after = s.1 }
+    record { value = c.of-then-h-lt1.ensures ∙ s.0; buf_after = s.1 }
 
 pub returns-then-w-lt1 : goal.returns-then-w-lt1
 returns-then-w-lt1 c =
@@ -50,7 +50,7 @@ returns-then-w-lt1 c =
     let s = at_limit c.args.kind c.args.n c.args.h c.args.w c.args.buf.now
     (ask_limit _ _ _ _ _ (known at.Else-not-known_kind) (good at.Else-not-good_index)
     (rw (below_one_lem c.args.w c.ranges.w c.if-w-lt1.true) (or-true (below_one c.args.h)))) in
-    record { value = c.refused-then-w-lt1.ensures ∙ s.0; buf_after = s.1 }
+    record { value = c.of-then-w-lt1.ensures ∙ s.0; buf_after = s.1 }
 
 pub answer_in-requires : goal.answer_in-requires
 answer_in-requires c =

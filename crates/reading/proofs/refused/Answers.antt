@@ -23,10 +23,10 @@ overflow_sub-count_in c =
 
 pub returns-in-Short : goal.returns-in-Short
 returns-in-Short c =
-    c.refused.ensures ∙ rw c.in-Short.is (short-told _ _ _
+    c.of.ensures ∙ rw c.in-Short.is (short-told _ _ _
     (omega (arith, c.count_in.ensures, (right _ _ (header (goal.at.returns-in-Short c).In-Short)).count)))
 
 pub returns-in_default : goal.returns-in_default
 returns-in_default c =
-    c.refused-in_default.ensures ∙ other-told _ _ _ _ (not_done c.args.refusal)
-    (λ e. c.in_default.not-Short (same_number c.args.refusal Short e)) c.byte_of.ensures
+    c.of-in_default.ensures ∙ other-told _ _ _ _ (not_done c.args.refusal)
+    (λ e. c.in_default.not-Short (same_number c.args.refusal Short e)) c.byte_for.ensures

@@ -1,9 +1,9 @@
 -- `alternate` meets its contract: an entry at an odd place is negated, and the next is left.
-use Prim.Native.Nat.{ℕ, ◌+◌, ◌%◌, ◌<◌, ◌≤◌, ◌^◌}
-use mathlib.Core.Path.{◌≡◌, refl, ap}
+use Prim.Native.Nat.{ℕ, ◌+◌, ◌*◌, ◌%◌, ◌<◌, ◌≤◌, ◌^◌}
+use mathlib.Core.Path.{◌≡◌, ap}
 use mathlib.Core.List.{List}
 use native.Mathlib.Omega.{arith}
-use lib.ListN.{get_or, set}
+use lib.ListN.{get_or, set, length}
 use lib.IntN.{ℤ, pos, nat_abs, ◌-ℤ◌}
 use lib.Signed.{mag}
 use Rattle.definitions.specs.Integers.{0ℤ}
@@ -17,11 +17,9 @@ use Rattle.shapes.proofs.Negation.{stored_minus}
 use Rattle.shapes.proofs.Shaping.{starts, alternate_read, alternate-turn}
 use Rattle.shapes.proofs.alternate.Goals as goal
 
-pub loop-i-init : goal.loop-i-init
-loop-i-init c = (
-  starts c.args.a.now 1 (λ k h. let e : k ≡ 0 = omega arith in alternate_even k (entries c.args.a.now) (omega arith)),
-  refl,
-)
+pub loop-k-init : goal.loop-k-init
+loop-k-init c =
+    starts c.args.a.now 1 (λ k h. let e : k ≡ 0 = omega arith in alternate_even k (entries c.args.a.now) (omega arith))
 
 module _ {n i : ℕ} {l : List ℤ} {e : Series} (s : Split l n i (alternate e) e) (odd : i % 2 ≡ 1) (b : i < n)
     (fits : mag (get_or l i 0ℤ) < 2 ^ 63) (small : nat_abs (e i) ≤ largest) where
@@ -29,16 +27,13 @@ module _ {n i : ℕ} {l : List ℤ} {e : Series} (s : Split l n i (alternate e) 
   unfolding entries
   turned = alternate-turn e s odd b (ap (set l i) (stored_minus _ fits (rw (alternate_read e s odd b) small)))
 
-pub loop-i-preserved : goal.loop-i-preserved
-loop-i-preserved c =
-    let (s, odd) = c.loop-i.invariant in
-    (turned s odd c.loop-i-test.true (omega arith) (c.requires _ c.loop-i-test.true), omega arith)
+pub loop-k-preserved : goal.loop-k-preserved
+loop-k-preserved c =
+    let i = 2 * c.loop-k.k + 1 in
+    let odd : i % 2 ≡ 1 = omega arith in
+    let inside : i < length c.args.a.now = omega (arith, c.loop-k-test.true) in
+    let next : i + 2 ≡ 2 * (c.loop-k.k + 1) + 1 = omega arith in
+    rw next at (turned c.loop-k.invariant odd inside (omega arith) (c.requires _ inside))
 
 pub returns : goal.returns
-returns c = all_firsts (all_below c.loop-i.invariant.0 (omega arith))
-
--- after the last odd place
-pub returns-2 : goal.returns-2
-returns-2 c =
-    let (s, odd) = c.loop-i.invariant in
-    all_firsts (all_below (turned s odd c.loop-i-test.true (omega arith) (c.requires _ c.loop-i-test.true)) (omega arith))
+returns c = all_firsts (all_below c.loop-k.invariant (omega (arith, c.loop-k-test.false)))

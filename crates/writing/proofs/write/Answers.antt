@@ -17,14 +17,14 @@ pub returns-then-not-known_kind : goal.returns-then-not-known_kind
 unfolding write_tells byte_of
 returns-then-not-known_kind c = let told =
     let tested = c in
-    told c.refused.ensures
+    told c.of.ensures
     (kind-wrong _ _ _ _ _ (sym tested.known_kind.ensures ∙ tested.if-not-known_kind.true)) in record { answer = told.0; leaves = told.1 }
 
 pub returns-then-not-good_index : goal.returns-then-not-good_index
 unfolding write_tells byte_of
 returns-then-not-good_index c = let told =
     let tested = c in
-    told c.refused-then-not-good_index.ensures
+    told c.of-then-not-good_index.ensures
     (index-wrong _ _ _ _ _ (known (goal.at.returns-then-not-good_index c).Else-not-known_kind)
     (sym tested.good_index.ensures ∙ tested.if-not-good_index.true)) in record { answer = told.0; leaves = told.1 }
 

@@ -61,7 +61,7 @@ unfolding write_tells byte_of
 returns-then-count-degree c = let told =
     let e = (goal.at.returns-then-count-degree c).After-degree_of-degree in
     let start = e in
-    told c.refused.ensures (count-wrong start.args.form _ _ _ _ start.requires.0 start.requires.1
+    told c.of.ensures (count-wrong start.args.form _ _ _ _ start.requires.0 start.requires.1
     (λ m. c.if-count-degree.true (m ∙ ap (λ d. d + 1) (sym (degree_is e))))) in record { answer = told.0; leaves = told.1 }
 
 pub returns-then-w-eq0 : goal.returns-then-w-eq0
@@ -70,7 +70,7 @@ returns-then-w-eq0 c = let told =
     let looked = (goal.at.returns-then-w-eq0 c).After-least_width-w in
     let e = (goal.at.returns-then-w-eq0 c).Else-count-degree in
     let start = e in
-    told (c.refused-then-w-eq0.ensures ∙ degree-told _ _ _ (degree_is (goal.at.returns-then-w-eq0 c).After-degree_of-degree))
+    told (c.of-then-w-eq0.ensures ∙ degree-told _ _ _ (degree_is (goal.at.returns-then-w-eq0 c).After-degree_of-degree))
     (too_low start.args.form _ _ _ _ start.requires.0 start.requires.1 (counted e)
     (width-none _ (sym (made looked) ∙ c.if-w-eq0.true))) in record { answer = told.0; leaves = told.1 }
 
@@ -84,7 +84,7 @@ returns-then-uneven_for c = let told =
     let over = (goal.at.returns-then-uneven_for c).Else-w-eq0 in
     let e = (goal.at.returns-then-uneven_for c).Else-count-degree in
     let start = e in
-    told c.refused-then-uneven_for.ensures
+    told c.of-then-uneven_for.ensures
     (halves_unlike start.args.form _ _ _ _ start.requires.0 start.requires.1 (counted e) (fit over).within
     (sym looked.uneven_for.ensures ∙ c.if-uneven_for.true)) in record { answer = told.0; leaves = told.1 }
 
@@ -109,7 +109,7 @@ returns-then-bytes-size c = let told =
     let over = (goal.at.returns-then-bytes-size c).Else-w-eq0 in
     let e = (goal.at.returns-then-bytes-size c).Else-count-degree in
     let start = e in
-    told (c.refused-then-bytes-size.ensures ∙ degree-told _ _ _ (degree_is (goal.at.returns-then-bytes-size c).After-degree_of-degree))
+    told (c.of-then-bytes-size.ensures ∙ degree-told _ _ _ (degree_is (goal.at.returns-then-bytes-size c).After-degree_of-degree))
     (no_room start.args.form _ _ _ _ start.requires.0 start.requires.1 (counted e) (fit over).within (even stored)
     (omega (arith, whole stored))) in record { answer = told.0; leaves = told.1 }
 

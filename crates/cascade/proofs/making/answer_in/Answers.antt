@@ -13,7 +13,7 @@ pub returns-then-buf-total : goal.returns-then-buf-total
 returns-then-buf-total c =
     let (sizes, ready) = c.requires in
     let told =
-    at_short _ _ c.args.buf.now c.args.scratch.now (c.refused.ensures ∙ ap (told-only SHORT) sizes.total)
+    at_short _ _ c.args.buf.now c.args.scratch.now (c.of.ensures ∙ ap (told-only SHORT) sizes.total)
     (ask_short ready _ _ (omega (arith, sizes.total, c.if-buf-total.true))) in
     record { value = told.0; buf_after = told.1.0; scratch_after = told.1.1 }
 
@@ -22,7 +22,7 @@ returns-then-scratch-sizes c =
     let (sizes, ready) = c.requires in
     let told =
     at_short _ _ c.args.buf.now c.args.scratch.now
-    (c.refused-then-scratch-sizes.ensures ∙ ap (told-only SHORT) sizes.total)
+    (c.of-then-scratch-sizes.ensures ∙ ap (told-only SHORT) sizes.total)
     (ask_scratch ready _ _ (omega (arith, sizes.longest, c.if-scratch-sizes.true))) in
     record { value = told.0; buf_after = told.1.0; scratch_after = told.1.1 }
 

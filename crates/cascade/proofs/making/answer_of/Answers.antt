@@ -13,7 +13,7 @@ pub returns-in_default : goal.returns-in_default
 returns-in_default c =
     let told =
     made_over_lem c.requires.2.good c.make-made.ensures.product_is c.args.h c.requires.0 _ c.make-made.new.scratch
-    c.args.scratch.now c.clear.ensures c.make-made.ensures.scratch_len_unchanged (ap is_err c.in_default.is) c.refused.ensures
+    c.args.scratch.now c.clear.ensures c.make-made.ensures.scratch_len_unchanged (ap is_err c.in_default.is) c.of.ensures
     c.clear-in_default.ensures in
     record { value = told.0; b_after = told.1.0; scratch_after = told.1.1 }
 
@@ -22,7 +22,7 @@ returns-then-h-made c =
     let told =
     made_tall c.requires.2.good c.make-made.ensures.product_is c.args.h c.requires.0 _ c.make-made.new.scratch
     c.args.scratch.now c.clear.ensures c.make-made.ensures.scratch_len_unchanged c.in-Ok.is c.if-h-made.true
-    c.refused-then-h-made.ensures c.clear-then-h-made.ensures in
+    c.of-then-h-made.ensures c.clear-then-h-made.ensures in
     record { value = told.0; b_after = told.1.0; scratch_after = told.1.1 }
 
 pub returns : goal.returns

@@ -61,7 +61,7 @@ pub returns-then-walk-j : goal.returns-then-walk-j
 returns-then-walk-j c = let q = (goal.at.returns-then-walk-j c).After-over-walk in
     let s = Stopping.too_many (kind q) (n q) (start q).args.j (start q).args.w _ (start q).requires (old q) _ (d_is q)
     (omega (arith, due_is q)) in record {
-      value = c.refused.ensures ∙ s.0;
+      value = c.of.ensures ∙ s.0;
       buf_after = s.1;
     }
 
@@ -69,7 +69,7 @@ pub returns-then-w-lt1 : goal.returns-then-w-lt1
 returns-then-w-lt1 c = let q = (goal.at.returns-then-w-lt1 c).After-over-walk in
     let s = Stopping.too_low (kind q) (n q) (start q).args.j (start q).args.w _ (start q).requires (old q) _ (d_is q)
     (few_due q (omega arith)) (below_one_lem (start q).args.w (start q).ranges.w c.if-w-lt1.true) in record {
-      value = c.refused-then-w-lt1.ensures ∙ s.0;
+      value = c.of-then-w-lt1.ensures ∙ s.0;
       buf_after = s.1;
     }
 
@@ -92,7 +92,7 @@ returns-then-buf-d c = let e = (goal.at.returns-then-buf-d c).Else-w-lt1 in
     let q = walked e in
     let s = Stopping.too_short (kind q) (n q) (start q).args.j (w e) _ (start q).requires (old q) _ (d_is q)
     (few_due q (omega arith)) (good e) (omega arith) in record {
-      value = c.refused-then-buf-d.ensures ∙ s.0;
+      value = c.of-then-buf-d.ensures ∙ s.0;
       buf_after = s.1;
     }
 
@@ -123,6 +123,6 @@ returns-in-Err c =
     let s = Stopping.made_over_lem (kind q) (n q) (start q).args.j (w e) _ (start q).requires (old q) _ (d_is q)
     (few_due q (omega arith)) (good e) (omega arith) _ (limit e c.unsigned_abs.ensures.value).0
     (of_n q _ _ (Err _) c.in-Err.ensures) in record {
-      value = c.refused-in-Err.ensures ∙ s.0;
+      value = c.of-in-Err.ensures ∙ s.0;
       buf_after = s.1;
     }

@@ -24,7 +24,7 @@ returns-then-buf-degree c =
     let d = degree_is (goal.at.returns-then-buf-degree c).After-degree_from-degree in
     let s = at_short c.args.kind c.args.n _ _ c.args.buf.now
     (ask_short _ _ c.args.h c.args.w _ c.requires.1 c.requires.2 c.requires.3 c.requires.4.0 (omega arith)) in
-    record { value = c.refused.ensures ∙ ap (told-only SHORT) d ∙ s.0; buf_after = s.1 }
+    record { value = c.of.ensures ∙ ap (told-only SHORT) d ∙ s.0; buf_after = s.1 }
 
 pub make-requires : goal.make-requires
 make-requires c = (
@@ -44,7 +44,7 @@ returns-in-Err c =
     let d = degree_is (goal.at.returns-in-Err c).After-degree_from-degree in
     let s = refuses c.args.kind c.args.n c.args.h c.args.w c.args.buf.now c.requires.1 c.requires.2 c.requires.3
     c.requires.4.0 _ d (omega arith) _ c.in-Err.refusal c.in-Err.ensures in
-    record { value = c.refused-in-Err.ensures ∙ s.0; buf_after = s.1 }
+    record { value = c.of-in-Err.ensures ∙ s.0; buf_after = s.1 }
 
 pub returns-in-Ok : goal.returns-in-Ok
 returns-in-Ok c =

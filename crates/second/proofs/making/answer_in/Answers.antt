@@ -25,7 +25,7 @@ returns-then-buf-degree c =
     let d = degree_is (goal.at.returns-then-buf-degree c).After-degree_from-degree in
     let s = at_short c.args.kind c.args.n _ c.args.buf.now c.args.scratch.now
     (ask_short _ _ c.args.h _ _ c.requires.1 c.requires.2 c.requires.3 (omega (arith, d))) in
-    record { value = c.refused.ensures ∙ ap (told-only SHORT) d ∙ s.0; buf_after = s.1.0; scratch_after = s.1.1 }
+    record { value = c.of.ensures ∙ ap (told-only SHORT) d ∙ s.0; buf_after = s.1.0; scratch_after = s.1.1 }
 
 pub overflow_mul-n : goal.overflow_mul-n
 overflow_mul-n c = omega (arith, (index_good _ c.requires.2).1)
@@ -39,7 +39,7 @@ returns-then-scratch-n c =
     let s = at_short c.args.kind c.args.n _ c.args.buf.now c.args.scratch.now
     (ask_scratch _ _ c.args.h _ _ c.requires.1 c.requires.2 c.requires.3 (omega (arith, d)) (omega arith)) in
     record {
-      value = c.refused-then-scratch-n.ensures ∙ ap (told-only SHORT) d ∙ s.0;
+      value = c.of-then-scratch-n.ensures ∙ ap (told-only SHORT) d ∙ s.0;
       buf_after = s.1.0;
       scratch_after = s.1.1;
     }
@@ -63,7 +63,7 @@ returns-in_default c =
     let s = refuses c.args.kind c.args.n c.args.h c.args.buf.now c.args.scratch.now c.requires.1 c.requires.2
     c.requires.3 _ d (omega arith) (omega arith) _ c.clear.new.a
     (c.clear.ensures ∙ ap zeros c.make-made.auto.scratch) c.in_default.ensures.0 c.in_default.ensures.1 in
-    record { value = c.refused-in_default.ensures ∙ s.0; buf_after = s.1.0; scratch_after = s.1.1 }
+    record { value = c.of-in_default.ensures ∙ s.0; buf_after = s.1.0; scratch_after = s.1.1 }
 
 pub returns : goal.returns
 returns c =

@@ -1,7 +1,7 @@
--- `byte_of_code`: the table looked up, a row each.
+-- `byte_of`: the table looked up, a row each.
 use borrow.Author.Tests.{ne_eqb}
 use Rattle.record.specs.Header.{byte_of}
-use Rattle.record.proofs.header.byte_of_code.Goals as goal
+use Rattle.record.proofs.header.byte_of.Goals as goal
 
 pub returns-in-12 : goal.returns-in-12
 unfolding byte_of
