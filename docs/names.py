@@ -5,7 +5,8 @@
 
 `crate/File: name` is in that file of specs/ or proofs/, and in docs/RULES.md so is a name without a file, in the file
 named last before it in its cell; `crate::name` is in that crate's code; a path is one of the repository or of crates/;
-anything else is a word of some source file. docs/PORT.md and docs/DESIGN-PASS.md, which have old names, are left out.
+anything else is a word of some source file. docs/PORT.md, docs/DESIGN-PASS.md and docs/LOOK-BACK.md, which have old
+names, are left out.
 """
 import re
 import subprocess
@@ -21,6 +22,7 @@ TEXT = {f: (ROOT / f).read_text(errors="replace") for f in SOURCES}
 WORDS = {w for t in TEXT.values() for w in re.findall(r"[^\s(){}\[\],;:.\"'`=λ→]+", t)}
 WORDS |= {w for t in TEXT.values() for w in re.findall(r"\w+", t)}
 WORDS |= {Path(f).stem for f in TRACKED} | {Path(f).name for f in TRACKED}
+OLD = ("docs/PORT.md", "docs/DESIGN-PASS.md", "docs/LOOK-BACK.md")
 # words of the toolchain, of C and of mathematics that the pages use
 FOREIGN = {"rt", "rt version", "rt doc", "rt ci", "gcc", "rustc", "python3", "make", "Lts.antt", "NAME"}
 FOREIGN |= {"xc950", "list.log", "..OutcomeIs", "goals"}
@@ -75,7 +77,7 @@ def cells():
 
 def main():
     looked, missing = 0, []
-    for page in [f for f in TRACKED if f.endswith(".md") and f not in ("docs/PORT.md", "docs/DESIGN-PASS.md")]:
+    for page in [f for f in TRACKED if f.endswith(".md") and f not in OLD]:
         text = re.sub(r"```.*?```", "", (ROOT / page).read_text(), flags=re.S)
         for name in re.findall(r"`([^`\n]+)`", text):
             looked += 1

@@ -1,11 +1,10 @@
 // The converter, over the form of what it is given: looks at everything, then stores. It refuses what reading does but
 // for the room, then what the other form does not take, then too little room for it.
-ghost use Rattle.std.specs.Prelude.{◌≡◌, ℕ, ◌≤◌, ◌++◌, length, drop};
+ghost use Rattle.std.specs.Prelude.{◌≡◌, ◌≤◌, ◌++◌, length, drop};
 ghost use Rattle.definitions.specs.Codes.{DONE};
-ghost use Rattle.answers.specs.Refusals.{number_of, code_of};
 ghost use Rattle.record.specs.Header.{kind_in, index_in};
 ghost use Rattle.forms.specs.Format.{record_of, uneven_for, coefficients_in, size_in, look_code};
-ghost use Rattle.conversions.specs.Converting.{other, convert_code, convert_tells, convert_answer, convert_leaves};
+ghost use Rattle.conversions.specs.Converting.{other, convert_answer, convert_leaves};
 ghost use Rattle.conversions.specs.Front.{front};
 
 use super::Converted;

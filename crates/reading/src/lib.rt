@@ -104,7 +104,7 @@ fn check_rest(bytes: &[u8], form: Form, room: usize) -> Result<(), Refusal>
 fn check(bytes: &[u8], form: Form, room: usize) -> Result<(), Refusal>
     ensures { code_of result ≡ read_code form bytes.now room }
 {
-    // Stays written out, so that an edit of what is refused changes no name.
+    // Stays written out: by `?` a refusal handed on wrongly would fail for its form, not for what is promised.
     if let Err(refusal) = check_header(bytes, mark_of(form)) {
         return Err(refusal);
     }

@@ -32,8 +32,8 @@ pub fn put_text(out: &mut [u8], at: usize, bytes: &[u8]) -> usize
     end
 }
 
-// A number's digits: those of its tenth, and the last one. Stays our own: by the kit's `itoa` its statement would have to
-// be believed too.
+// A number's digits: those of its tenth, and the last one. Stays our own: by the kit's `itoa` its statement would have
+// to be believed too.
 fn put_digits(out: &mut [u8], at: usize, n: u64) -> usize
     requires { at + length (decimal n) ≤ length out.old }
     ensures { Puts (decimal n) at out.old out.new result }

@@ -20,8 +20,8 @@ const STDOUT: i32 = 1;
 // So many bytes of a line go out together.
 const MOST: usize = 1024;
 
-// Standard output by the kit's `io`, which rests on write alone: std's streams ask errno too. A line is gathered, so that
-// a short one takes one call. What can't be written is passed over.
+// Standard output by the kit's `io`, which rests on write alone: std's streams ask errno too. A line is gathered, so
+// that a short one takes one call. What can't be written is passed over.
 #[derive(Drop)]
 pub struct Console {
     bytes: [u8; MOST],
