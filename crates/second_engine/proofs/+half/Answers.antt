@@ -18,9 +18,6 @@ returns-in_default t c =
       | in-Inverse w ↦ rw w.in-Inverse.is (w.a-is ∙ inverse_one)
     ])
 
-pub largest-p-requires : goal.largest-p-requires
-largest-p-requires t c = omega (arith, c.in-Some.ensures.cases.1)
-
 pub nonzero_div-m : goal.nonzero_div-m
 nonzero_div-m t c =
     let O = one_fewer_of c.requires _ _ c.in-Some.ensures.cases _ c.largest-p.ensures in

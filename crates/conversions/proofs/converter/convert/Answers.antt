@@ -60,9 +60,6 @@ returns-in-Err c =
     (refused_look c.args.from c.args.bytes.now c.args.out.now _ _ c.in-Err.ensures (not_done _) c.byte_for.ensures)
     in record { answer = p.0; leaves = p.1 }
 
-pub uneven_from-uneven-requires : goal.uneven_from-uneven-requires
-uneven_from-uneven-requires c = passed (goal.at.uneven_from-uneven-requires c).In_default
-
 pub size_in-written-requires : goal.size_in-written-requires
 size_in-written-requires c = (_, (looked _ _ (passed (goal.at.size_in-written-requires c).In_default)).header)
 
@@ -92,11 +89,6 @@ returns-then-out-written c = let told =
     told (c.refused-then-out-written.ensures ∙ degree-told _ _ (degree_is (goal.at.returns-then-out-written c).In_default _ c.count_in-degree.ensures))
     (by_code (form l) (bytes l) c.args.out.now SHORT
     (code-short _ _ _ (passed (goal.at.returns-then-out-written c).In_default) (even e) (omega (arith, written_is (goal.at.returns-then-out-written c).In_default _ (size_is sized))))) in record { answer = told.0; leaves = told.1 }
-
-pub store-requires : goal.store-requires
-store-requires c =
-    let sized = (goal.at.store-requires c).After-size_in-written in
-    (passed (goal.at.store-requires c).In_default, omega (arith, size_is sized))
 
 pub size_in-requires : goal.size_in-requires
 size_in-requires c =
